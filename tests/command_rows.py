@@ -96,6 +96,58 @@ OLD_STRINGS: List[Tuple[bytes, Tuple[str, str, str]]] = [
     (b"U\0Na.", ("yes: 5 bytes, 0 imports", "no at 3: WrongClass", "no at 3: WrongClass")),
 ]
 
+# A tuple doubled twice as a key, and what loading it costs.
+DOUBLED = b"})2\x862\x86Ns."
+BILL = "bill: levels 3, weight 7, work 7, clash 7, memory 560"
+OF_NONE = "bill: levels 0, weight 0, work 0, clash 0, memory 32"
+FEW_SETS, CALLED = b"](\x8f\x8fe.", b"cm\nf\n)R}b."
+MADE, ANY = 'build = "made"', 'build = "any"'
+
+# What a list limits or rules, the options, a pickle, and its check.
+COSTS: List[Tuple[str, str, bytes, int, str]] = [
+    ("levels = 3", "", b"})\x85\x85Ns.", 0, "yes: 7 bytes, 0 imports"),
+    ("levels = 2", "", b"})\x85\x85Ns.", 1, "no at 5: DeepKey"),
+    ("levels = 1", "", b")\x85\x85\x85.", 0, "yes: 5 bytes, 0 imports"),
+    ("levels = 1", "", b"}(K\x02)\x85u.", 0, "yes: 8 bytes, 0 imports"),
+    ("weight = 7", "", DOUBLED, 0, "yes: 9 bytes, 0 imports"),
+    ("weight = 6", "", DOUBLED, 1, "no at 7: HeavyKeys"),
+    ("work = 7", "", DOUBLED, 0, "yes: 9 bytes, 0 imports"),
+    ("work = 6", "", DOUBLED, 1, "no at 7: HeavyKeys"),
+    ("work = 3", "", b"\x8f(K\x0122\x90.", 0, "yes: 8 bytes, 0 imports"),
+    ("work = 2", "", b"\x8f(K\x0122\x90.", 1, "no at 6: HeavyKeys"),
+    ("clash = 0", "", b"}K\x01Ns.", 1, "no at 4: ManyKeys"),
+    ("clash = 0", "", b"}\x8c\x01aNs.", 0, "yes: 7 bytes, 0 imports"),
+    ("memory = 744", "", FEW_SETS, 0, "yes: 6 bytes, 0 imports"),
+    ("memory = 743", "", FEW_SETS, 1, "no at 5: MuchMemory"),
+    # what is refused without limits comes first, and the levels before the weight
+    ("levels = 0", "", b"])\x94\x85h\0\x86Ns.", 1, "no at 8: WrongClass"),
+    ("levels = 2\nweight = 6", "", DOUBLED, 1, "no at 7: DeepKey"),
+    # the greatest values, which nothing exceeds
+    ("levels = 4_294_967_295", "", DOUBLED, 0, "yes: 9 bytes, 0 imports"),
+    ("memory = 9_223_372_036_854_775_807", "", DOUBLED, 0, "yes: 9 bytes, 0 imports"),
+    # BUILD of what an import gave: through the memo, DUP and STACK_GLOBAL; and of a call's result
+    (MADE, "", b"cm\nf\n}b.", 1, "no at 6: BuildsImport"),
+    (MADE, "", b"cm\nf\n\x940h\0}b.", 1, "no at 10: BuildsImport"),
+    (MADE, "", b"cm\nf\n2}b0.", 1, "no at 7: BuildsImport"),
+    (MADE, "", b"\x8c\x01m\x8c\x01f\x93}b.", 1, "no at 8: BuildsImport"),
+    (MADE, "", CALLED, 0, "yes: 10 bytes, 1 imports"),
+    (ANY, "", b"cm\nf\n}b.", 0, "yes: 8 bytes, 1 imports"),
+    ("", "", b"cm\nf\n}b.", 0, "yes: 8 bytes, 1 imports"),
+    # the bill, whatever is limited
+    ("", "--bill", DOUBLED, 0, f"yes: 9 bytes, 0 imports\n{BILL}"),
+    ("work = 7", "--bill", DOUBLED, 0, f"yes: 9 bytes, 0 imports\n{BILL}"),
+    ("work = 6", "--bill", DOUBLED, 1, "no at 7: HeavyKeys"),
+    ("", "--bill", b"cos\nsystem\n.", 1, 'no at 0: ImportOffList("os","system")'),
+    ("", "--bill", b"", 1, "no at 0: Truncated"),
+    # of a row, each pickle alone keeps within the limits, and the bill is the last one's
+    ("work = 7", "--all", 2 * DOUBLED, 0, "yes: 18 bytes, 2 pickles, 0 imports"),
+    ("work = 6", "--all", b"N." + DOUBLED, 1, "no in pickle 1 at 9: HeavyKeys"),
+    ("work = 6", "--all --one-unpickler", b"N." + DOUBLED, 1, "no in pickle 1 at 9: HeavyKeys"),
+    ("work = 6", "--all", b"N..", 1, "no in pickle 1 at 2: MissingItem"),
+    ("", "--all --bill", b"N." + DOUBLED, 0, f"yes: 11 bytes, 2 pickles, 0 imports\n{BILL}"),
+    ("", "--bill --all", DOUBLED + b"N.", 0, f"yes: 11 bytes, 2 pickles, 0 imports\n{OF_NONE}"),
+]
+
 NO_LISTS = [
     (b"version =", "Syntax"),
     (b"# \xff\n", "Syntax"),
@@ -123,6 +175,11 @@ NO_LISTS = [
     (b"version = 2\nimports = {}\nmore = 1", "Shape(TopKey)"),
     (b"version = 1\nimports = {}\nlimits = {}", "Shape(TopKey)"),
     (b"version = 2\nimports = { m = 1 }\nlimits = 1", "Shape(Module)"),
+    (b"version = 1\nimports = {}\nrules = {}", "Shape(TopKey)"),
+    (b"version = 2\nimports = {}\nrules = 1", "Shape(Rules)"),
+    (b"version = 2\nimports = {}\nrules = { call = 1 }", "Shape(RuleKey)"),
+    (b"version = 2\nimports = {}\nrules = { build = true }", "Shape(Rule)"),
+    (b"version = 2\nimports = {}\nlimits = 1\nrules = 1", "Shape(Limits)"),
 ]
 
 # The limits of a list, and its first error: keys are read in the order of their bytes.
@@ -145,6 +202,8 @@ NO_LIMITS = [
     (b"large = true, depth = 101", "Shape(Limit)"),
     (b"numbers = 4294967296", "Shape(Limit)"),
     (b"numbers = -1", "Shape(Limit)"),
+    (b"levels = 4294967296", "Shape(Limit)"),
+    (b"work = -1", "Shape(Limit)"),
 ]
 
 # The code of a payload of 200,000 bytes, by its opcode.
@@ -178,6 +237,10 @@ def checks() -> Iterator[Row]:
         for word, said in zip(("unknown", "ascii", "bytes"), answers):
             status = int(not said.startswith("yes"))
             yield check_of(ONE_PAIR, f"--old-strings {word}", pickle, status, said)
+    for said, options, pickle, status, answer in COSTS:
+        table = "rules" if said in (MADE, ANY) else "limits"
+        limited = f'version = 2\n[imports]\nm = ["f"]\n[{table}]\n{said}\n'.encode()
+        yield check_of(limited, options, pickle, status, answer)
     faulty = [(b"version = 2\nimports = {}\nlimits = { %s }" % it, why) for it, why in NO_LIMITS]
     for allow, reason in NO_LISTS + faulty:
         yield check_of(allow, "", DICT, 2, f"list: {reason}")

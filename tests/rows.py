@@ -137,9 +137,11 @@ JSON = [
     ("5d 28" + "4e" * 20_000 + "65 2e", 0, "[" + ",".join(["null"] * 20_000) + "]\n"),
 ]
 
-# Checks whose answers are written in pieces, or that a failed read ends between two pickles.
+# Checks whose answers are written in pieces, that a failed read ends between two pickles, or that
+# bound what loading costs.
 LONG = 20_000
 NOTHING = "version = 1\n[imports]\n"
+LIMITED = "version = 2\n[imports]\n[limits]\nwork = {}\n"
 OFF_LIST = f'no at 0: ImportOffList("m","{LONG * "f"}")\n'
 CHECKS = [
     Row("a long name off the list", "check", b"cm\n" + LONG * b"f" + b"\n.", NOTHING, 1, OFF_LIST),
@@ -161,6 +163,23 @@ CHECKS = [
         0,
         "yes: 6 bytes, 2 pickles, 0 imports\n",
         options=("--all", "--one-unpickler"),
+    ),
+    Row(
+        "what a key costs",
+        "check",
+        b"})2\x862\x86Ns.",
+        LIMITED.format(7),
+        0,
+        "yes: 9 bytes, 0 imports\nbill: levels 3, weight 7, work 7, clash 7, memory 560\n",
+        options=("--bill",),
+    ),
+    Row(
+        "a key that costs too much",
+        "check",
+        b"})2\x862\x86Ns.",
+        LIMITED.format(6),
+        1,
+        "no at 7: HeavyKeys\n",
     ),
 ]
 

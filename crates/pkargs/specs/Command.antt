@@ -52,6 +52,10 @@ one_rule = record (new_rule (codes "one-unpickler")) {
   action = Some SetTrue;
 }
 
+-- the flag `--bill`
+abbrev pub bill_rule : Rule
+bill_rule = record (new_rule (codes "bill")) { long = Some (codes "bill"); action = Some SetTrue }
+
 -- the required FILE
 abbrev pub file_rule : Rule
 file_rule = record (new_rule (codes "FILE")) { required = true }
@@ -68,10 +72,11 @@ app_with name rules = record { top = record (new_shape name) { rules = rules }; 
 abbrev pub file_app : Text → App
 file_app name = app_with name (file_rule ∷ [])
 
--- `check --allow LIST [--old-strings OBJECT] [--all [--one-unpickler]] FILE`
+-- `check --allow LIST [--old-strings OBJECT] [--all [--one-unpickler]] [--bill] FILE`
 abbrev pub check_app : ValueParser → App
 check_app parser =
-    app_with (codes "check") (allow_rule ∷ old_rule parser ∷ all_rule ∷ one_rule ∷ file_rule ∷ [])
+    app_with (codes "check")
+    (allow_rule ∷ old_rule parser ∷ all_rule ∷ one_rule ∷ bill_rule ∷ file_rule ∷ [])
 
 -- `optimize FILE OUT`
 abbrev pub optimize_app : App
@@ -144,16 +149,17 @@ Carries rows (Imports file) = IsGiven rows (codes "FILE") (string_bytes file)
 Carries rows (Json file) = IsGiven rows (codes "FILE") (string_bytes file)
 Carries rows (Optimize file out) =
     IsGiven rows (codes "FILE") (string_bytes file) × IsGiven rows (codes "OUT") (string_bytes out)
-Carries rows (Check allow old pickles file) =
+Carries rows (Check allow old pickles bill file) =
     IsGiven rows (codes "LIST") (string_bytes allow) × IsGiven rows (codes "OBJECT") (old_word old)
     × IsGiven rows (codes "all") (all_text pickles)
     × IsGiven rows (codes "one-unpickler") (one_text pickles)
+    × IsGiven rows (codes "bill") (flag_text bill)
     × IsGiven rows (codes "FILE") (string_bytes file)
 
 -- the subcommand of each job
 abbrev pub name_of : Job → Text
 name_of (Dis file) = codes "dis"
-name_of (Check allow old pickles file) = codes "check"
+name_of (Check allow old pickles bill file) = codes "check"
 name_of (Imports file) = codes "imports"
 name_of (Optimize file out) = codes "optimize"
 name_of (Json file) = codes "json"

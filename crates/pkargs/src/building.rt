@@ -2,8 +2,8 @@
 ghost use Rattle.std.specs.Prelude.{◌≡◌, IfOk, IsOkAnd, false};
 ghost use Rattle.clap.specs.Words.{AddsArg, AddsSubcommand, app_of, rule_of};
 ghost use Rattle.pkargs.specs.Command.{IsCheck, IsLocal, IsOldRule, IsProgram, all_rule};
-ghost use Rattle.pkargs.specs.Command.{allow_rule, bare_app, file_app, file_rule, one_rule};
-ghost use Rattle.pkargs.specs.Command.{optimize_app, out_rule};
+ghost use Rattle.pkargs.specs.Command.{allow_rule, bare_app, bill_rule, file_app, file_rule};
+ghost use Rattle.pkargs.specs.Command.{one_rule, optimize_app, out_rule};
 
 use crate::help::{IMPORTS, JSON, LINES, OPTIMIZED, STATUSES, VERSION};
 use clap::{Arg, ArgAction, Command};
@@ -65,7 +65,7 @@ fn file_command<'a>(
         .arg(file_argument(alloc))
 }
 
-/// `check --allow LIST [--old-strings OBJECT] [--all [--one-unpickler]] FILE`.
+/// `check --allow LIST [--old-strings OBJECT] [--all [--one-unpickler]] [--bill] FILE`.
 fn check_command<'a>(alloc: Global) -> Result<Command<'a>, AllocError>
     ensures { IfOk result IsCheck }
 {
@@ -75,6 +75,7 @@ fn check_command<'a>(alloc: Global) -> Result<Command<'a>, AllocError>
     let command = with_argument(command, old_option(alloc));
     let command = with_argument(command, all_flag(alloc));
     let command = with_argument(command, one_flag(alloc));
+    let command = with_argument(command, bill_flag(alloc));
     with_argument(command, file_argument(alloc))
 }
 
@@ -130,6 +131,17 @@ fn one_flag<'a>(alloc: Global) -> Arg<'a>
     Arg::new(alloc, "one-unpickler")
         .long("one-unpickler")
         .help("Checks them as one pickle.Unpickler loads them, which keeps its memo")
+        .action(ArgAction::SetTrue)
+}
+
+/// `--bill`.
+fn bill_flag<'a>(alloc: Global) -> Arg<'a>
+    ensures rule { rule_of result ≡ bill_rule }
+    ensures local { result.global ≡ false }
+{
+    Arg::new(alloc, "bill")
+        .long("bill")
+        .help("Says what loading costs: what keys weigh, and the memory")
         .action(ArgAction::SetTrue)
 }
 

@@ -19,8 +19,8 @@ pub enum Job {
         /// The path of the pickle.
         file: String,
     },
-    /// `check --allow LIST [--old-strings OBJECT] [--all [--one-unpickler]] FILE`: whether the
-    /// pickle in FILE imports only what LIST permits.
+    /// `check --allow LIST [--old-strings OBJECT] [--all [--one-unpickler]] [--bill] FILE`: whether
+    /// the pickle in FILE imports only what LIST permits.
     Check {
         /// The path of the list file.
         allow: String,
@@ -28,6 +28,8 @@ pub enum Job {
         old: OldStrings,
         /// Which pickles of FILE are checked.
         pickles: Pickles,
+        /// With `--bill`: what loading the last of them costs is told too.
+        bill: bool,
         /// The path of the pickle.
         file: String,
     },

@@ -117,6 +117,9 @@ fn check_job(alloc: Global, values: &ArgMatches) -> Result<Option<Job>, AllocErr
     let Some(pickles) = pickles_of(values) else {
         return Ok(None);
     };
+    let Some(bill) = flag_of(values, "bill") else {
+        return Ok(None);
+    };
     let Some(file) = value_of(alloc, values, "FILE")? else {
         return Ok(None);
     };
@@ -124,6 +127,7 @@ fn check_job(alloc: Global, values: &ArgMatches) -> Result<Option<Job>, AllocErr
         allow,
         old,
         pickles,
+        bill,
         file,
     }))
 }

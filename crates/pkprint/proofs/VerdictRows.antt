@@ -1,8 +1,11 @@
 -- Lines as the program prints them.
-use Rattle.std.proofs.Common.{◌≡◌, refl, codes, None, Err}
+use Rattle.std.proofs.Common.{◌≡◌, refl, codes, None, Err, true, false}
 use Rattle.std.specs.Fmt.{digits}
 use Rattle.pkread.specs.declared.Reason.TheVariants as reason
 use Rattle.pkread.specs.Printed.{reason_text}
+use Rattle.pkcheck.specs.declared.Extent.TheVariants.{OnePickle, ToTheEnd}
+use Rattle.pkload.specs.declared.Excess.TheVariants.{DeepKey}
+use Rattle.pkprint.specs.Costs.{bill_line, costing_lines}
 use Rattle.pkprint.specs.Verdict.{yes_line, verdict_line}
 
 one_import : yes_line 28 1 ≡ codes "yes: 28 bytes, 1 imports\n"
@@ -22,3 +25,18 @@ unknown_opcode = refl
 missing_memo : reason_text (reason.MissingMemo 6) ≡ codes "MissingMemo(6)"
 unfolding digits
 missing_memo = refl
+
+bill : bill_line (record { levels = 3; weight = 7; work = 7; clash = 7; builds = false }) 560
+    ≡ codes "bill: levels 3, weight 7, work 7, clash 7, memory 560\n"
+unfolding digits
+bill = refl
+
+deep_key : costing_lines OnePickle true (Err (record { pickle = 0; at = 5; excess = DeepKey }))
+    ≡ codes "no at 5: DeepKey\n"
+unfolding digits
+deep_key = refl
+
+deep_key_in_row : costing_lines ToTheEnd true (Err (record { pickle = 1; at = 7; excess = DeepKey }))
+    ≡ codes "no in pickle 1 at 7: DeepKey\n"
+unfolding digits
+deep_key_in_row = refl

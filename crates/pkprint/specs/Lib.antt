@@ -1,4 +1,5 @@
 pub mod Verdict
+pub mod Costs
 pub mod Listing
 pub mod Imports
 pub mod Appended

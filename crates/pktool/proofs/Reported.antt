@@ -1,6 +1,6 @@
 -- What was written by a command, and what its status says of it.
 use Rattle.std.proofs.Common.{◌≡◌, ℕ, List, Option, Some, None, Result, Ok, Err, refl, ◌∙◌}
-use Rattle.std.proofs.Common.{inl, inr, subst}
+use Rattle.std.proofs.Common.{inl, inr, subst, Bool}
 use Rattle.std.specs.Prelude.{◌⊎◌, length, IfOk}
 use Rattle.std.specs.Io.KnownBytes.{Appends, Keeps}
 use Rattle.pkops.specs.Limits.{standard}
@@ -16,7 +16,7 @@ use Rattle.pkprint.specs.Verdict.{no_line}
 use Rattle.pkprint.specs.declared.Outcome.{Outcome}
 use Rattle.pkprint.specs.declared.Outcome.TheVariants.{Done, Refused, Unread}
 use Rattle.pktool.specs.Answers.{HasContent, IsAnswer, IsAnswerTo, IsCheck, IsListIn}
-use Rattle.pktool.specs.Answers.{IsOptimization, IsShown, IsVerdictOn}
+use Rattle.pktool.specs.Answers.{IsCheckOf, IsOptimization, IsShown, asks_costs}
 use Rattle.pktool.specs.Ends.{Reports, Stays, Writes}
 use Rattle.pktool.specs.Optimized.{EndsIn, sizes_line}
 
@@ -37,20 +37,20 @@ optimized content bytes holds old new before after Unread has h = absurd h
 
 -- a check under the list in a file wrote the line that is right for its outcome
 pub checked : (allow file left : Option (List ℕ)) (failures : ℕ) (list : Allow)
-    (setting : OldStrings) (pickles : Pickles) (before after : Option (List ℕ))
+    (setting : OldStrings) (pickles : Pickles) (bill : Bool) (before after : Option (List ℕ))
     (outcome : Outcome) → IsListIn allow list → left ≡ file → failures ≡ 0
-    → Writes before after (IsVerdictOn list setting pickles
+    → Writes before after (IsCheckOf (asks_costs list bill) list setting pickles bill
     (record { left = left; failures = failures })) outcome
-    → Writes before after (IsCheck allow setting pickles file) outcome
-checked allow file left failures list setting pickles before after outcome is p q w = (
+    → Writes before after (IsCheck allow setting pickles bill file) outcome
+checked allow file left failures list setting pickles bill before after outcome is p q w = (
   w.0,
   (
     list,
     is,
-    subst (λ n. IsVerdictOn list setting pickles (record { left = file; failures = n }) w.0
-        outcome) q
-        (subst (λ l. IsVerdictOn list setting pickles (record { left = l; failures = failures }) w.0
-        outcome) p w.1),
+    subst (λ n. IsCheckOf (asks_costs list bill) list setting pickles bill
+        (record { left = file; failures = n }) w.0 outcome) q
+        (subst (λ l. IsCheckOf (asks_costs list bill) list setting pickles bill
+        (record { left = l; failures = failures }) w.0 outcome) p w.1),
   ),
   w.2,
 )

@@ -1,6 +1,7 @@
 -- What each command answers about the files that it reads: the text for standard output, and the
 -- outcome. A host reveals the bytes of a file, as `Some`, or it doesn't.
-use Rattle.std.specs.Prelude.{◌≡◌, ℕ, ◌⊎◌, List, length, string_bytes, IfSome}
+use Rattle.std.specs.Prelude.{◌≡◌, ℕ, ◌⊎◌, ◌||◌, Bool, true, false, not, List, length}
+use Rattle.std.specs.Prelude.{string_bytes, IfSome}
 use Rattle.std.specs.Prelude.{Option, Some, None, Result, Ok}
 use Rattle.serde_json.specs.Data.{Data}
 use Rattle.pkops.specs.Limits.{holding_all, standard}
@@ -8,13 +9,16 @@ use Rattle.pkread.specs.Printed.{refusal_text}
 use Rattle.pkread.specs.Rows.{Sight}
 use Rattle.pkread.specs.declared.Refusal.{Refusal}
 use Rattle.pkread.specs.declared.Reason.TheVariants as reason
-use Rattle.pkcheck.specs.Allow.{document_of, limits_of, lists}
+use Rattle.pkcheck.specs.Allow.{are_unsaid, cost_limits_of, document_of, limits_of, lists}
 use Rattle.pkcheck.specs.Answered.{IsRightAnswer}
 use Rattle.pkcheck.specs.Heard.{Heard, IsRightAndHeard}
 use Rattle.pkcheck.specs.ListFile.{list_of}
 use Rattle.pkcheck.specs.RowOfPickles.{IsRightOfRow}
 use Rattle.pkcheck.specs.declared.Allow.{Allow}
+use Rattle.pkcheck.specs.declared.Extent.{Extent}
+use Rattle.pkcheck.specs.declared.Extent.TheVariants.{OnePickle, ToTheEnd}
 use Rattle.pkcheck.specs.declared.Loading.{Loading}
+use Rattle.pkcheck.specs.declared.Memo.TheVariants.{Fresh}
 use Rattle.pkcheck.specs.declared.OldStrings.{OldStrings}
 use Rattle.pkcheck.specs.declared.OldStrings.TheVariants.{Unknown}
 use Rattle.pkcheck.specs.declared.Yes.{Yes}
@@ -31,6 +35,8 @@ use Rattle.pkargs.specs.declared.Pickles.{Pickles}
 use Rattle.pkargs.specs.declared.Pickles.TheVariants.{First, Row}
 use Rattle.pkargs.specs.declared.Usage.{Usage}
 use Rattle.pkargs.specs.declared.Usage.TheVariants as usage
+use Rattle.pkload.specs.Tolls.{tolls_said}
+use Rattle.pkprint.specs.Costs.{Answer, IsRightCosting, costing_lines, outcome_of_costing}
 use Rattle.pkprint.specs.Imports.{imports_text}
 use Rattle.pkprint.specs.Listing.{listing}
 use Rattle.pkprint.specs.Verdict.{no_line, outcome_of, outcome_of_row, row_line, verdict_line}
@@ -86,12 +92,41 @@ IsVerdictOn list setting First = IsVerdict list setting
 IsVerdictOn list setting (Row memo) =
     IsRowVerdict list (record { memo = memo; old_strings = setting })
 
--- `check --allow LIST [--old-strings OBJECT] [--all [--one-unpickler]] FILE`
-abbrev pub IsCheck : Option (List ℕ) → OldStrings → Pickles → Option (List ℕ) → List ℕ → Outcome
-    → Type 0
-IsCheck allow setting pickles file text outcome =
+-- where the check ends, and how the pickles are loaded
+abbrev pub extent_of : Pickles → Extent
+extent_of First = OnePickle
+extent_of (Row memo) = ToTheEnd
+
+abbrev pub loading_of : OldStrings → Pickles → Loading
+loading_of setting First = record { memo = Fresh; old_strings = setting }
+loading_of setting (Row memo) = record { memo = memo; old_strings = setting }
+
+-- the lines about these pickles and what loading them costs, with the bill of a yes if it is asked
+-- for, under the limits on costs of the list
+abbrev pub IsCostVerdict : Allow → OldStrings → Pickles → Bool → Sight → List ℕ → Outcome → Type 0
+IsCostVerdict list setting pickles bill old text outcome =
+    (new : Sight) × (answer : Answer)
+    × IsRightCosting (loading_of setting pickles) (Some (lists list)) (limits_of list)
+    (tolls_said (cost_limits_of list)) old new (extent_of pickles) answer
+    × (text ≡ costing_lines (extent_of pickles) bill answer)
+    × (outcome ≡ outcome_of_costing answer)
+
+-- the list limits what loading costs, or the bill is asked for
+abbrev pub asks_costs : Allow → Bool → Bool
+asks_costs list bill = bill || not (are_unsaid (cost_limits_of list))
+
+-- the answer about these pickles: with what loading costs, or without
+abbrev pub IsCheckOf : (costs : Bool) → Allow → OldStrings → Pickles → (bill : Bool) → Sight
+    → List ℕ → Outcome → Type 0
+IsCheckOf false list setting pickles bill = IsVerdictOn list setting pickles
+IsCheckOf true list setting pickles bill = IsCostVerdict list setting pickles bill
+
+-- `check --allow LIST [--old-strings OBJECT] [--all [--one-unpickler]] [--bill] FILE`
+abbrev pub IsCheck : Option (List ℕ) → OldStrings → Pickles → (bill : Bool) → Option (List ℕ)
+    → List ℕ → Outcome → Type 0
+IsCheck allow setting pickles bill file text outcome =
     (list : Allow) × IsListIn allow list
-    × IsVerdictOn list setting pickles (opened file) text outcome
+    × IsCheckOf (asks_costs list bill) list setting pickles bill (opened file) text outcome
 
 -- `json FILE`
 abbrev pub IsExport : Option (List ℕ) → List ℕ → Outcome → Type 0
@@ -126,8 +161,8 @@ abbrev pub IsAnswerTo :
     (List ℕ → Option (List ℕ)) → Job → List ℕ → Outcome → Type 0
 IsAnswerTo content (job.Dis file) = IsListing (content (string_bytes file))
 IsAnswerTo content (job.Imports file) = AreImports (content (string_bytes file))
-IsAnswerTo content (job.Check allow setting pickles file) =
-    IsCheck (content (string_bytes allow)) setting pickles (content (string_bytes file))
+IsAnswerTo content (job.Check allow setting pickles bill file) =
+    IsCheck (content (string_bytes allow)) setting pickles bill (content (string_bytes file))
 IsAnswerTo content (job.Json file) = IsExport (content (string_bytes file))
 IsAnswerTo content (job.Optimize file out) = IsOptimization (content (string_bytes file))
 

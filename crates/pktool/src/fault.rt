@@ -72,5 +72,8 @@ fn name_of(part: Where) -> &'static str {
         Where::Limits => "Limits",
         Where::LimitKey => "LimitKey",
         Where::Limit => "Limit",
+        Where::Rules => "Rules",
+        Where::RuleKey => "RuleKey",
+        Where::Rule => "Rule",
     }
 }

@@ -6,6 +6,7 @@
 
 mod block;
 mod blocks;
+mod checking;
 mod export_line;
 mod exporting;
 mod fault;

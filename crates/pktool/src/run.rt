@@ -3,24 +3,22 @@ ghost use Rattle.std.specs.Prelude.{◌≡◌, ◌<◌, ◌≤◌, IfOk, map};
 ghost use Rattle.std.specs.Io.Buffered.{writer_contents, writer_inner};
 ghost use Rattle.std.specs.Io.KnownBytes.{Appends, Keeps};
 ghost use Rattle.pkread.specs.Printed.{refusal_text};
-ghost use Rattle.pkread.specs.Rows.{sight};
 ghost use Rattle.pkprint.specs.Verdict.{no_line};
 ghost use Rattle.pktool.specs.Answers.{AreImports, IsAnswer, IsAnswerTo, IsCheck, IsExport};
-ghost use Rattle.pktool.specs.Answers.{IsListing, IsOptimization, IsShown, IsVerdictOn};
+ghost use Rattle.pktool.specs.Answers.{IsListing, IsOptimization, IsShown};
 ghost use Rattle.pktool.specs.Ends.{HasAnswer, Reports, Stays, Writes};
 
+use crate::checking::{Words, check_source};
 use crate::exporting::json_to;
 use crate::fault::{Fault, unwritten, write_fault};
 use crate::files::{open_source, read_list, read_rest};
 use crate::host::{Host, NewFile};
 use crate::optimizing::{Unoptimized, optimize_to};
-use pkargs::{Job, Pickles, Usage, command_of};
-use pkcheck::{Allow, Loading, OldStrings, Policy};
+use pkargs::{Job, Usage, command_of};
 use pkops::Limits;
-use pkprint::{Outcome, check_all_loaded_to, check_to, dis_to, imports_to, write_no};
-use pkread::{Reason, Refusal, Source};
+use pkprint::{Outcome, dis_to, imports_to, write_no};
+use pkread::{Reason, Refusal};
 use std::alloc::Global;
-use std::io;
 use std::io::{BufWriter, Write};
 
 /// The answer is a yes, or help that was requested.
@@ -79,15 +77,15 @@ fn done<'a, H: Host, O: Write>(
             allow,
             old,
             pickles,
+            bill,
             file,
         } => {
-            let check = Check {
-                allow: allow.as_str(),
+            let words = Words {
                 old: *old,
                 pickles: *pickles,
-                file: file.as_str(),
+                bill: *bill,
             };
-            check_file(host, alloc, &check, out)
+            check_file(host, alloc, allow.as_str(), file.as_str(), &words, out)
         }
         Job::Json { file } => json_file(host, alloc, file.as_str(), out),
         Job::Optimize { file, out: to } => {
@@ -96,60 +94,27 @@ fn done<'a, H: Host, O: Write>(
     }
 }
 
-/// The words of a check.
-#[derive(Clone, Copy)]
-struct Check<'a> {
-    allow: &'a str,
-    old: OldStrings,
-    pickles: Pickles,
-    file: &'a str,
-}
-
-/// `check --allow LIST [--old-strings OBJECT] [--all [--one-unpickler]] FILE`, under the limits of
-/// the list.
+/// `check --allow LIST [--old-strings OBJECT] [--all [--one-unpickler]] [--bill] FILE`, under the
+/// limits of the list.
 fn check_file<'a, H: Host, O: Write>(
     host: &H,
     alloc: Global,
-    check: &Check<'a>,
+    allow: &'a str,
+    file: &'a str,
+    words: &Words,
     out: &mut O,
 ) -> Result<Outcome, Fault<'a>>
     ensures { IfOk result (Writes (O.contents out.old) (O.contents out.new)
-        (IsCheck (H.content host.now check.now.allow.now) check.now.old check.now.pickles
-        (H.content host.now check.now.file.now))) }
+        (IsCheck (H.content host.now allow.now) words.now.old words.now.pickles words.now.bill
+        (H.content host.now file.now))) }
 {
-    let list = read_list(host, alloc, check.allow)?;
-    let Ok(mut source) = open_source(host, alloc, check.file) else {
-        return Err(Fault::Unread(check.file));
+    let list = read_list(host, alloc, allow)?;
+    let Ok(mut source) = open_source(host, alloc, file) else {
+        return Err(Fault::Unread(file));
     };
-    match check_source(alloc, &mut source, &list, check, out) {
+    match check_source(alloc, &mut source, &list, words, out) {
         Ok(outcome) => Ok(outcome),
         Err(error) => Err(unwritten(&error)),
-    }
-}
-
-/// The answer about the pickles in a source that the words of a check ask for.
-fn check_source<R: Source, O: Write>(
-    alloc: Global,
-    source: &mut R,
-    list: &Allow,
-    check: &Check<'_>,
-    out: &mut O,
-) -> Result<Outcome, io::Error>
-    ensures { IfOk result (Writes (O.contents out.old) (O.contents out.new)
-        (IsVerdictOn list.now check.now.old check.now.pickles
-        (sight R.left R.failures source.old))) }
-{
-    let policy = Policy::Listed(list);
-    let limits = list.limits();
-    match check.pickles {
-        Pickles::First => check_to(alloc, source, &policy, &limits, out, check.old),
-        Pickles::Row(memo) => {
-            let loading = Loading {
-                memo,
-                old_strings: check.old,
-            };
-            check_all_loaded_to(alloc, source, &policy, &limits, out, loading)
-        }
     }
 }
 

@@ -14,17 +14,16 @@ pub fn write_verdict<W: Write>(answer: &Result<Yes, No>, out: &mut W) -> io::Res
         (verdict_line answer.now)) }
 {
     match answer {
-        Ok(yes) => write_yes(yes, out),
+        Ok(yes) => write_yes(yes.taken, yes.imports.len(), out),
         Err(no) => write_no(no, out),
     }
 }
 
-fn write_yes<W: Write>(yes: &Yes, out: &mut W) -> io::Result<()>
+/// Writes the line of a yes.
+pub fn write_yes<W: Write>(taken: u64, imports: usize, out: &mut W) -> io::Result<()>
     ensures { OnOk result (Appends (W.contents out.old) (W.contents out.new)
-        (yes_line yes.now.taken (length yes.now.imports))) }
+        (yes_line taken imports)) }
 {
-    let taken = yes.taken;
-    let imports = yes.imports.len();
     writeln!(out, "yes: {taken} bytes, {imports} imports")
 }
 
@@ -39,7 +38,8 @@ pub fn write_row<W: Write>(answer: &Result<YesAll, NoAll>, out: &mut W) -> io::R
     }
 }
 
-fn write_yes_all<W: Write>(yes: &YesAll, out: &mut W) -> io::Result<()>
+/// Writes the line of a yes about a row of pickles.
+pub fn write_yes_all<W: Write>(yes: &YesAll, out: &mut W) -> io::Result<()>
     ensures { OnOk result (Appends (W.contents out.old) (W.contents out.new)
         (yes_all_line yes.now.taken yes.now.pickles (length yes.now.imports))) }
 {

@@ -3,7 +3,8 @@ use Rattle.std.proofs.lemmas.Result.{IfOk-weaker}
 use Rattle.clap.specs.Simple.{app_of_fields}
 use Rattle.clap.specs.Words.{App, new_app, with_rule}
 use Rattle.clap.specs.declared.builder.value_parser.ValueParser.{ValueParser}
-use Rattle.pkargs.specs.Command.{IsLocal, all_rule, allow_rule, file_rule, old_rule, one_rule}
+use Rattle.pkargs.specs.Command.{IsLocal, all_rule, allow_rule, bill_rule, file_rule, old_rule}
+use Rattle.pkargs.specs.Command.{one_rule}
 use Rattle.pkargs.proofs.MoreArguments.{argued, argued_if, globals}
 use Rattle.pkargs.proofs.building.check_command.Goals as goal
 
@@ -23,6 +24,9 @@ third parser = with_rule (second parser) all_rule
 abbrev fourth : ValueParser → App
 fourth parser = with_rule (third parser) one_rule
 
+abbrev fifth : ValueParser → App
+fifth parser = with_rule (fourth parser) bill_rule
+
 pub returns : goal.returns
 returns c =
     let named = ap app_of_fields c.about.ensures ∙ c.new.ensures.app in
@@ -40,7 +44,10 @@ returns c =
     let one = argued_if c.with_argument-command-3.result c.with_argument-command-2.result
     c.one_flag.result (third parser) one_rule all c.one_flag.ensures.rule
     c.one_flag.ensures.local c.with_argument-command-3.ensures in
-    let file = argued_if c.with_argument.result c.with_argument-command-3.result
-    c.file_argument.result (fourth parser) file_rule one c.file_argument.ensures.rule
+    let bill = argued_if c.with_argument-command-4.result c.with_argument-command-3.result
+    c.bill_flag.result (fourth parser) bill_rule one c.bill_flag.ensures.rule
+    c.bill_flag.ensures.local c.with_argument-command-4.ensures in
+    let file = argued_if c.with_argument.result c.with_argument-command-4.result
+    c.file_argument.result (fifth parser) file_rule bill c.file_argument.ensures.rule
     c.file_argument.ensures.local c.with_argument.ensures in
     IfOk-weaker c.with_argument.result _ _ (λ r h. (parser, c.old_option.ensures.rule.1, h)) file
