@@ -26,6 +26,7 @@ pub mod Exclusive
 pub mod ExclusiveRows
 pub mod RefusedBehind
 pub mod EachSetting
+pub mod Unlisted
 pub mod NewRuns
 mod AnswerExamples
 mod RowExamples

@@ -1,7 +1,6 @@
 -- What exceeds a limit exceeds it in each run that gets there, whatever is answered.
-use Rattle.std.proofs.Common.{◌≡◌, ◌≤◌, ℕ, Bool, true, false, List, length, inl, inr, Ok, refl}
+use Rattle.std.proofs.Common.{◌≡◌, ℕ, Bool, true, false, List, length, inl, inr, Ok, refl}
 use Rattle.std.proofs.Common.{subst, arith}
-use Rattle.std.specs.Prelude.{⊤}
 use Rattle.pkops.specs.Spelling.{Instruction}
 use Rattle.pkcheck.specs.Effects.{effect_as}
 use Rattle.pkcheck.specs.NewRuns.{If, InEachDecodedRun}

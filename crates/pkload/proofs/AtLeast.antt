@@ -1,6 +1,6 @@
 -- Whatever a run answers, it costs at least what the bill says.
 use Rattle.std.proofs.Common.{◌≡◌, ◌≤◌, ◌<◌, ℕ, zero, suc, Bool, true, false, cond, List, []}
-use Rattle.std.proofs.Common.{◌∷◌, ◌++◌, length, map, set, Some, refl, sym, ap, subst, ◌∙◌, arith}
+use Rattle.std.proofs.Common.{◌∷◌, ◌++◌, length, map, set, Some, refl, sym, subst, arith}
 use Rattle.std.specs.Prelude.{⊤, slice_get, unwrap_or}
 use Rattle.pkops.specs.Spelling.{Instruction}
 use Rattle.pkops.specs.declared.Op.{Op}
@@ -8,7 +8,7 @@ use Rattle.pkcheck.specs.Covers.{Pointwise}
 use Rattle.pkcheck.specs.Effects.{is_old_string}
 use Rattle.pkcheck.specs.NewRuns.{DecodesNew, If, IsNew}
 use Rattle.pkcheck.specs.Runs.{Event, Go, ObjectClass, Outcome, Raise, State, with_event}
-use Rattle.pkload.proofs.Accounts.{at_most_itself, implies_itself, kept_at, new_at}
+use Rattle.pkload.proofs.Accounts.{at_most_itself, kept_at, new_at}
 use Rattle.pkload.proofs.Lighter.{AreLighter, IsLighter, made_below, operation_below}
 use Rattle.pkload.proofs.Readings.{AreSome, IsAgain, IsLightAnswer, Reading, answer_heft}
 use Rattle.pkload.specs.Heft.{Heft, argument_size, heft_of, imports_object}

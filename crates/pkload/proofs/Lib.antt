@@ -2,6 +2,7 @@
 pub mod Alike
 pub mod Accounts
 pub mod Readings
+pub mod Pushed
 pub mod Weights
 pub mod Exactly
 pub mod Lighter
@@ -18,6 +19,9 @@ pub mod Costs
 pub mod Ends
 pub mod Refusals
 pub mod Settled
+pub mod SameBytes
+pub mod SameRows
+pub mod OneEnd
 -- the machine
 pub mod Slots
 pub mod Taking

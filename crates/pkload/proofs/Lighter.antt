@@ -1,7 +1,6 @@
 -- What is made of lighter objects is lighter, and counts at most as much.
-use Rattle.std.proofs.Common.{◌≡◌, ◌+◌, ◌≤◌, ℕ, Bool, true, false, cond, ◌||◌, List, [], ◌∷◌, refl}
+use Rattle.std.proofs.Common.{◌+◌, ◌≤◌, ℕ, Bool, true, false, cond, ◌||◌, List, [], ◌∷◌, refl}
 use Rattle.std.proofs.Common.{min, arith}
-use Rattle.std.specs.Prelude.{⊤}
 use Rattle.pkops.specs.declared.Op.{Op}
 use Rattle.pkops.specs.declared.Op.TheVariants as op
 use Rattle.pkcheck.specs.Covers.{Pointwise}

@@ -8,8 +8,6 @@ use Rattle.std.specs.Prelude.{⊤, unwrap_or}
 use Rattle.std.specs.Char.{is_ascii}
 use Rattle.std.specs.List.{list_all}
 use Rattle.pkops.specs.OldBytes.{old_bytes}
-use Rattle.pkops.specs.declared.Op.{Op}
-use Rattle.pkops.specs.declared.Op.TheVariants as op
 use Rattle.pkops.specs.Operands.{memo_number}
 use Rattle.pkops.specs.Spelling.{Instruction}
 use Rattle.pkcheck.specs.declared.effect.Names.{Names}
@@ -22,13 +20,13 @@ use Rattle.pkcheck.specs.declared.effect.Names.TheVariants.{NoName}
 use Rattle.pkcheck.specs.declared.effect.Takes.TheVariants.{Objects}
 use Rattle.pkcheck.specs.declared.old_strings.OldStrings.{OldStrings}
 use Rattle.pkcheck.specs.declared.old_strings.OldStrings.TheVariants.{Unknown, Ascii, Bytes}
-use Rattle.pkcheck.specs.Covers.{Alike, AlikeCell, AlikeEntry, Pointwise}
+use Rattle.pkcheck.specs.Covers.{Alike, AlikeEntry}
 use Rattle.pkcheck.specs.Effects.{Effect, Operates, Moves, Stops, Raises, answers, ascii_string}
 use Rattle.pkcheck.specs.Effects.{effect_as, effect_of, is_old_string, pushes}
 use Rattle.pkcheck.specs.NewRuns.{If}
 use Rattle.pkcheck.specs.Runs.{Did, Event, Foreign, Go, Import, Named, NoImport, NotTexts, Object}
 use Rattle.pkcheck.specs.Runs.{ObjectClass, Outcome, Pair, Raise, Raised, State, Stepped, Stopped}
-use Rattle.pkcheck.specs.Runs.{Stuck, WentOn, answered, asks, class_at, come_of, effect_asks}
+use Rattle.pkcheck.specs.Runs.{Stuck, WentOn, asks, class_at, come_of, effect_asks}
 use Rattle.pkcheck.specs.Runs.{gone_on, move_step, named, operate_step, operated, perform, step_as}
 use Rattle.pkcheck.specs.Runs.{stop_step, with_answer, with_event}
 use Rattle.pkcheck.specs.Shape.{Breach, NoItem, Entry, Item, Shape}
@@ -36,7 +34,9 @@ use Rattle.pkcheck.specs.Shape.{Taken, front, moved, operands, put, top}
 use Rattle.pkload.proofs.Accounts.{along_end, next_is_new, nothing_counted, since_end}
 use Rattle.pkload.proofs.Alike.{Alike-map, AlikeTaken, AlikeTop, Pointwise-append, SameResult}
 use Rattle.pkload.proofs.Alike.{front_alike, moved_alike, operands_alike, top_alike}
-use Rattle.pkload.proofs.Weights.{again_count, again_some, answers_light, made_some, some_more}
+use Rattle.pkload.proofs.Pushed.{pushed}
+use Rattle.pkload.proofs.Weights.{again_count, again_some, answers_light, made_some}
+use Rattle.pkload.proofs.Weights.{old_string_answers, some_more}
 use Rattle.pkload.proofs.Readings.{AreSome, IsLightAnswer, IsLightGiven, IsLightIn, Reading}
 use Rattle.pkload.specs.Bill.{Bill, billed, billed_by, heft_given, move_billed, operation_billed}
 use Rattle.pkload.specs.Bill.{stop_billed}
@@ -77,24 +77,6 @@ module _ (r : Reading) (n : ℕ) where
     highest = b.highest;
     ended = b.ended;
   }
-
-  -- pushes one more object, of this cost
-  pushed : (hefts : List Heft) (another h : Heft) (objects : List Object) (es : List (Entry Heft))
-      (fs : List (Entry ℕ)) (ms : List (ℕ × Heft)) (ns : List (ℕ × ℕ))
-      → length hefts ≡ length objects → r.Weighs (hefts ++ another ∷ []) h (length hefts)
-      → Pointwise (AlikeEntry (r.Weighs hefts)) es fs
-      → Pointwise (AlikeCell (r.Weighs hefts)) ms ns
-      → Alike (r.Weighs (hefts ++ another ∷ [])) (record { entries = Item h ∷ es; memo = ms })
-      (record { entries = Item (length objects) ∷ fs; memo = ns })
-  pushed hefts another h objects es fs ms ns e w p q =
-      let old = Alike-map (r.Weighs hefts) (r.Weighs (hefts ++ another ∷ []))
-      (λ x n g. r.kept hefts another x n g)
-      (record { entries = es; memo = ms }) (record { entries = fs; memo = ns })
-      (record { entries = p; memo = q }) in
-      record {
-        entries = (subst (r.Weighs (hefts ++ another ∷ []) h) e w, old.entries);
-        memo = old.memo;
-      }
 
   -- an answer is one that may come
   abbrev MayIfAnswer : Gives → Instruction → State → ℕ → ObjectClass → Type 0
@@ -154,7 +136,7 @@ module _ (r : Reading) (n : ℕ) where
         memo = b.shape.memo;
       }) (record { entries = Item (length s.objects) ∷ u.below; memo = s.shape.memo }))
           (sym hefts_then)
-          (pushed hefts another (heft_of i t.operands) s.objects t.below u.below b.shape.memo
+          (pushed r hefts another (heft_of i t.operands) s.objects t.below u.below b.shape.memo
           s.shape.memo h.count (r.made hefts i t.operands u.operands a.operands) a.below
           h.shape.memo);
       tally = tally_then (Some (length s.objects));
@@ -359,12 +341,6 @@ module _ (r : Reading) (n : ℕ) where
   performed_billed Raises i b s o light h w = raises_billed i b s h
 
   -- ---- the decoding of old strings
-
-  old_string_answers : (o : Op) → is_old_string o ≡ true → effect_of o ≡ answers (Objects 0)
-  old_string_answers op.String h = refl
-  old_string_answers op.BinString h = refl
-  old_string_answers op.ShortBinString h = refl
-  old_string_answers _ h = cc
 
   module _ (i : Instruction) (b : Bill) (s : State) (o : Outcome) (h : Billed b s) where
     -- the step of an effect is billed by the opcode

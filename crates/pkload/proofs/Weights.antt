@@ -4,7 +4,8 @@ use Rattle.std.proofs.Common.{length, set, refl, arith, length-set, cond}
 use Rattle.pkops.specs.Spelling.{Instruction}
 use Rattle.pkops.specs.declared.Op.{Op}
 use Rattle.pkops.specs.declared.Op.TheVariants as op
-use Rattle.pkcheck.specs.Effects.{effect_of}
+use Rattle.pkcheck.specs.Effects.{answers, effect_of, is_old_string}
+use Rattle.pkcheck.specs.declared.effect.Takes.TheVariants.{Objects}
 use Rattle.pkload.proofs.Readings.{AreSome, IsLightIn}
 use Rattle.pkload.specs.Heft.{Heft, heft_made, imports_object}
 use Rattle.pkload.specs.Weighed.{answered_again, heft_at}
@@ -59,3 +60,10 @@ answers_light op.NewObjEx = λ e size hs. refl
 answers_light op.PersId = λ e size hs. refl
 answers_light op.BinPersid = λ e size hs. refl
 answers_light _ = tt
+
+-- an old string answers, if its decoding isn't set
+pub old_string_answers : (o : Op) → is_old_string o ≡ true → effect_of o ≡ answers (Objects 0)
+old_string_answers op.String h = refl
+old_string_answers op.BinString h = refl
+old_string_answers op.ShortBinString h = refl
+old_string_answers _ h = cc

@@ -14,5 +14,6 @@ pub mod Costly
 pub mod Printed
 -- what the bill says about runs
 pub mod Laws
+pub mod OneEnd
 -- what need not be trusted
 pub mod Private

@@ -1,6 +1,10 @@
 //! Laws of the definitions. Each is the contract of a function that does nothing.
 
 ghost use Rattle.pkload.specs.Laws.{BillBoundsRuns, ExcessStays, TollsOnlyRefuse};
+ghost use Rattle.pkload.specs.OneEnd.{OneEndFits};
+
+use pkcheck::laws::{one_begins, refused_behind, yes_excludes_no, yes_of_row_excludes_no};
+use pkread::laws::one_sequence;
 
 /// In every run whose answers are new objects, the keys cost what the bill says, and at most that
 /// if the run raises.
@@ -13,8 +17,20 @@ pub fn tolls_only_refuse()
     ensures { TollsOnlyRefuse }
 {}
 
-/// What exceeds a limit exceeds it however the pickle goes on, so the pickle is neither accepted
-/// nor refused later.
+/// What exceeds a limit exceeds it however the pickle goes on.
 pub fn excess_stays()
     ensures { ExcessStays }
 {}
+
+/// Two answers to the same bytes under the same settings are both yes, both a refusal of the same
+/// instruction, or both the same limit at the same instruction, except for a refused allocation or
+/// a failed read.
+pub fn one_end()
+    ensures { OneEndFits }
+{
+    one_begins();
+    one_sequence();
+    refused_behind();
+    yes_excludes_no();
+    yes_of_row_excludes_no();
+}

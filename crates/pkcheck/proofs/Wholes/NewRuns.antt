@@ -1,31 +1,30 @@
 -- Some run whose answers are new objects gets past instructions without a fault.
 use Rattle.std.proofs.Common.{◌≡◌, ℕ, Bool, true, false, List, [], ◌∷◌, ◌++◌, Some, None}
-use Rattle.std.proofs.Common.{Result, Ok, Err, refl, sym, ap, subst, ◌∙◌, arith, append-nil}
+use Rattle.std.proofs.Common.{Ok, refl, sym, ap, subst, ◌∙◌, arith, append-nil}
 use Rattle.std.proofs.Common.{Option, append_assoc, length}
 use Rattle.std.specs.Prelude.{All, ⊤}
 use Rattle.std.proofs.lemmas.List.{map-append}
-use Rattle.std.proofs.lemmas.List.Elements.{All-cons, All-head, All-nil, All-tail}
+use Rattle.std.proofs.lemmas.List.Elements.{All-cons, All-nil}
 use Rattle.pkops.specs.Limits.{Bounds}
 use Rattle.pkops.specs.Payloads.{payload_limit}
 use Rattle.pkops.specs.Spelling.{Instruction}
 use Rattle.pkops.specs.declared.Op.TheVariants as op
 use Rattle.pkread.specs.Admission.{IsAllowedBy}
 use Rattle.pkread.specs.Rows.{Sight}
-use Rattle.pkcheck.specs.Effects.{Effect, Stops, effect_as, number_stored}
-use Rattle.pkcheck.specs.Faults.{Arrivals, HasFaultHere, everyone}
-use Rattle.pkcheck.specs.Knowledge.{Asked, Knowledge, Lacks, LeftOver, NotAscii, NotText, OffList}
-use Rattle.pkcheck.specs.Knowledge.{Policy, Progress, Refusal, TooLarge, UnknownImport, WrongClass}
-use Rattle.pkcheck.specs.Knowledge.{advance, learn, nothing_known, reason_of}
+use Rattle.pkcheck.specs.Effects.{effect_as, number_stored}
+use Rattle.pkcheck.specs.Faults.{everyone}
+use Rattle.pkcheck.specs.Knowledge.{Asked, Knowledge}
+use Rattle.pkcheck.specs.Knowledge.{Policy, Progress}
+use Rattle.pkcheck.specs.Knowledge.{advance, learn, nothing_known}
 use Rattle.pkcheck.specs.Listing.{imports_among}
 use Rattle.pkcheck.specs.NewRuns.{AnswersNew, FaultlessIsRun, GetsPast, If, IfStopped, IfWentOn}
 use Rattle.pkcheck.specs.NewRuns.{InSomeNewRun, IsNew, Obeys, RowObeys}
 use Rattle.pkcheck.specs.RowOfPickles.{AreAccepted, begins}
-use Rattle.pkcheck.specs.RowRuns.{Afresh, Beginning, Behind, Pickle, next_from, run_row}
+use Rattle.pkcheck.specs.RowRuns.{Afresh, Behind, Pickle, next_from, run_row}
 use Rattle.pkcheck.specs.RowRuns.{sequences_of}
-use Rattle.pkcheck.specs.RunFaults.{HasRunFault, IsFaultless, RunsFrom}
+use Rattle.pkcheck.specs.RunFaults.{HasRunFault, IsFaultless}
 use Rattle.pkcheck.specs.Runs.{CanCome, Outcome, Raised, State, Stepped, Stopped, Stuck, Text}
 use Rattle.pkcheck.specs.Runs.{WentOn, effect_asks, start, step_as}
-use Rattle.pkcheck.specs.Shape.{Extension, NoItem, NoMark, NoMemo, Odd}
 use Rattle.pkcheck.specs.WholeRuns.{Ended, EndedBy, Reached, first_outcome, go_on, outcomes_after}
 use Rattle.pkcheck.specs.WholeRuns.{run_as}
 use Rattle.pkcheck.specs.declared.loading.Loading.{Loading}
@@ -34,99 +33,21 @@ use Rattle.pkcheck.specs.declared.loading.Memo.TheVariants.{Fresh, Kept}
 use Rattle.pkcheck.specs.declared.old_strings.OldStrings.{OldStrings}
 use Rattle.pkcheck.proofs.Coverage.AcceptedSteps.{step_follows}
 use Rattle.pkcheck.proofs.Coverage.CoversBy.{CoversBy, FollowsBy, FollowsIfOk}
-use Rattle.pkcheck.proofs.Coverage.FaultsReached.{has_fault, stands_for_all}
 use Rattle.pkcheck.proofs.Coverage.OneTextStates.{Answered, IsGoing, grows, learn_exactly}
 use Rattle.pkcheck.proofs.Coverage.OneTextStates.{new_text, new_text_holds}
-use Rattle.pkcheck.proofs.Coverage.Verdicts.{StopsLast, Yes, verdict}
+use Rattle.pkcheck.proofs.Coverage.Verdicts.{Yes, verdict}
 use Rattle.pkcheck.proofs.Coverage.Words.{empty}
-use Rattle.pkcheck.proofs.StepParts.Extensions.{no_extension}
-use Rattle.pkcheck.proofs.StepParts.Settings.{only_stop, wants_no_registry}
-use Rattle.pkcheck.proofs.StepParts.Stops.{last_more, nowhere_before, sequence_last, stops_nowhere}
+use Rattle.pkcheck.proofs.StepParts.Settings.{only_stop}
+use Rattle.pkcheck.proofs.StepParts.Stops.{last_more, sequence_last, stops_nowhere}
 use Rattle.pkcheck.proofs.Wholes.ExclusiveRows.{same_runs}
 use Rattle.pkcheck.proofs.Wholes.NextPickle.{begins_next, cleared, covers_cleared, memo_of}
 use Rattle.pkcheck.proofs.Wholes.NextPickle.{stop_ends, stop_stops}
-use Rattle.pkcheck.proofs.Wholes.Origins.{Begins, begins_afresh, begins_row, stands_from}
+use Rattle.pkcheck.proofs.Wholes.Origins.{Begins, begins_afresh, begins_row}
 use Rattle.pkcheck.proofs.Wholes.RunSteps.{going, gone, kept, perform_unused}
-use Rattle.pkcheck.proofs.Wholes.Walk.{StopsNowhere, along, verdict_first, verdict_more, yes_parts}
+use Rattle.pkcheck.proofs.Wholes.Unlisted.{accepted}
+use Rattle.pkcheck.proofs.Wholes.Walk.{StopsNowhere, verdict_first, yes_parts}
 
 module _ (setting : OldStrings) (limits : Bounds) where
-  -- ---- what has no fault is accepted, if every import is permitted
-
-  -- a fault that doesn't depend on a list is a fault whatever the list
-  as_run_fault : (policy : Policy) (before : List Instruction) (here : Arrivals) (i : Instruction)
-      (r : Refusal) → HasFaultHere None limits here i (reason_of r)
-      → HasRunFault policy limits before here i (reason_of r)
-  as_run_fault policy before here i (Lacks NoMark) h = h
-  as_run_fault policy before here i (Lacks NoItem) h = h
-  as_run_fault policy before here i (Lacks (NoMemo n)) h = h
-  as_run_fault policy before here i (Lacks Odd) h = h
-  as_run_fault policy before here i (Lacks Extension) h = h
-  as_run_fault policy before here i WrongClass h = h
-  as_run_fault policy before here i NotText h = h
-  as_run_fault policy before here i UnknownImport h = absurd h.3
-  as_run_fault policy before here i (OffList m n) h = absurd h.2.1
-  as_run_fault policy before here i LeftOver h = h
-  as_run_fault policy before here i NotAscii h = h
-  as_run_fault policy before here i TooLarge h = h
-
-  -- the verdict is a yes
-  record IsAccepted (p : List Instruction) (first : Knowledge) : Type 0 where
-    known : Knowledge
-    asked : List (Option Asked)
-    accepts : verdict setting None limits p first ≡ Yes known asked
-
-  module _ (policy : Policy) (b : Beginning) (first : Knowledge)
-      (begun : Begins setting None b first) (p : List Instruction)
-      (allowed : All (IsAllowedBy (payload_limit limits)) p) (last : StopsLast p)
-      (faultless : IsFaultless setting b policy limits p) where
-    allowed_at : (before : List Instruction) (i : Instruction) (is : List Instruction)
-        → All (IsAllowedBy (payload_limit limits)) (before ++ i ∷ is)
-        → IsAllowedBy (payload_limit limits) i
-    allowed_at [] i is h = All-head (IsAllowedBy (payload_limit limits)) i is h
-    allowed_at (x ∷ before) i is h = allowed_at before i is
-        (All-tail (IsAllowedBy (payload_limit limits)) x (before ++ i ∷ is) h)
-
-    not_refused : (before : List Instruction) (i : Instruction) (is : List Instruction)
-        (known : Knowledge) (asked : List (Option Asked)) → before ++ i ∷ is ≡ p
-        → verdict setting None limits before first ≡ Yes known asked → (r : Refusal)
-        → advance setting None limits i known ≡ Err r → ⊥
-    not_refused before i is known asked e a r g =
-        let w = along setting None limits before first known asked
-        (nowhere_before before i is (subst StopsLast (sym e) last)) a in
-        let stands = stands_for_all known (RunsFrom setting b before)
-        (stands_from setting None limits b before first known begun w) in
-        faultless before i is (sym e) (reason_of r)
-        (as_run_fault policy before (everyone (RunsFrom setting b before)) i r
-        (has_fault None limits i known (everyone (RunsFrom setting b before)) stands empty tt r g
-        (no_extension setting None limits i known r
-        (wants_no_registry setting i
-        (allowed_at before i is
-        (subst (All (IsAllowedBy (payload_limit limits))) (sym e) allowed)).admitted) g)))
-
-    accepted_on : (is before : List Instruction) (known : Knowledge) (asked : List (Option Asked))
-        → before ++ is ≡ p → verdict setting None limits before first ≡ Yes known asked
-        → IsAccepted p first
-    accepted_on [] before known asked e a = record {
-      known = known;
-      asked = asked;
-      accepts = subst (λ l. verdict setting None limits l first ≡ Yes known asked)
-          (sym (append-nil before) ∙ e) a;
-    }
-    accepted_on (i ∷ is) before known asked e a =
-        by_step (advance setting None limits i known) refl
-        (λ q g. accepted_on is (before ++ i ∷ []) q.after (asked ++ q.import ∷ [])
-        (append_assoc before (i ∷ []) is ∙ e)
-        (verdict_more setting None limits before i first known q asked a g))
-      where
-        by_step : (x : Result Progress Refusal) → advance setting None limits i known ≡ x
-            → ((q : Progress) → advance setting None limits i known ≡ Ok q → IsAccepted p first)
-            → IsAccepted p first
-        by_step (Ok q) g on = on q g
-        by_step (Err r) g on = absurd (not_refused before i is known asked e a r g)
-
-    accepted : IsAccepted p first
-    accepted = accepted_on p [] first [] refl refl
-
   -- ---- a run in which each answer is a new object, and the empty text
 
   abbrev IsCovered : Knowledge → State → Type 0
@@ -379,7 +300,7 @@ module _ (setting : OldStrings) (limits : Bounds) where
       row = λ s c. no_pickles k s c;
     }
     begun_behind (p ∷ ps) done like k old here (between, (h, is_p), a) e b =
-        let y = accepted policy (begins Kept like) k b h.instructions h.sequence.each
+        let y = accepted setting limits policy (begins Kept like) k b h.instructions h.sequence.each
         (sequence_last (payload_limit limits) h.instructions h.sequence)
         (same_faultless like done h.instructions e h.faultless) in
         let this : Pickle =
@@ -438,7 +359,7 @@ module _ (setting : OldStrings) (limits : Bounds) where
           before → IsFaultless setting (begins memo before) policy limits p
           → InSomeNewRun setting (begins memo before) p GetsPast
       by_memo Fresh before old here a f =
-          let y = accepted policy Afresh nothing_known (begins_afresh setting None) p allowed
+          let y = accepted setting limits policy Afresh nothing_known (begins_afresh setting None) p allowed
           (last_more is last on) f in
           let b = past is last nothing_known y.known y.asked on y.accepts start
           (record { entries = tt; memo = tt }) in
@@ -446,7 +367,7 @@ module _ (setting : OldStrings) (limits : Bounds) where
       by_memo Kept before old here a f =
           let m = begun_behind before [] [] nothing_known old here a refl
           (begins_afresh setting None) in
-          let y = accepted policy (begins Kept m.all) m.known m.begun p allowed
+          let y = accepted setting limits policy (begins Kept m.all) m.known m.begun p allowed
           (last_more is last on) (same_faultless m.all before p m.same f) in
           let r = m.row start (record { entries = tt; memo = tt }) in
           joined before m.known y.known r

@@ -1,0 +1,381 @@
+-- What two checks of the same bytes may say of one pickle.
+use Rattle.std.proofs.Common.{◌≡◌, ◌≢◌, ◌+◌, ◌≤◌, ℕ, ◌⊎◌, inl, inr, List, [], ◌∷◌, ◌++◌, length}
+use Rattle.std.proofs.Common.{append-nil, append_assoc, length-append, Option, Some, None, Result}
+use Rattle.std.proofs.Common.{Ok, Err, refl, sym, ap, subst, ◌∙◌, arith}
+use Rattle.std.proofs.lemmas.Grind.{flat_map-append}
+use Rattle.std.proofs.lemmas.List.Elements.{All-head, All-tail}
+use Rattle.std.specs.Io.KnownBytes.{Consumes}
+use Rattle.std.specs.Prelude.{All, flat_map}
+use Rattle.pkops.specs.Limits.{Bounds}
+use Rattle.pkops.specs.Payloads.{payload_limit}
+use Rattle.pkops.specs.Spelling.{Instruction, spelling}
+use Rattle.pkops.specs.declared.Op.TheVariants as op
+use Rattle.pkread.specs.Admission.{IsAllowedBy}
+use Rattle.pkread.specs.Rows.{Sight, Takes, all_bytes}
+use Rattle.pkread.specs.Sequence.{spellings}
+use Rattle.pkread.specs.Sequences.{OneFront, SequenceGoesOn}
+use Rattle.pkread.specs.declared.Reason.{Reason}
+use Rattle.pkread.specs.declared.Reason.TheVariants as reason
+use Rattle.pkcheck.specs.Accepted.{AcceptedFrom}
+use Rattle.pkcheck.specs.Exclusive.{OneBegins, RefusedBehind}
+use Rattle.pkcheck.specs.Knowledge.{Asked, Policy}
+use Rattle.pkcheck.specs.Refused.{RefusedFrom}
+use Rattle.pkcheck.specs.RowOfPickles.{begins, bytes_of_all}
+use Rattle.pkcheck.specs.RowRuns.{Pickle, sequences_of}
+use Rattle.pkcheck.specs.Shape.{Breach, and_then}
+use Rattle.pkcheck.specs.declared.loading.Loading.{Loading}
+use Rattle.pkcheck.specs.declared.loading.Memo.{Memo}
+use Rattle.pkcheck.specs.declared.loading.Memo.TheVariants.{Fresh, Kept}
+use Rattle.pkload.proofs.Costs.{all_front}
+use Rattle.pkload.proofs.Loading.{all_good, billed_more}
+use Rattle.pkload.proofs.Staying.{excess_stays}
+use Rattle.pkload.specs.Bill.{Bill, all_billed, bill_before, billed, no_bill, row_billed}
+use Rattle.pkload.specs.Costly.{ExceedsIn}
+use Rattle.pkload.specs.Loading.{CostsWithin, StaysWithin}
+use Rattle.pkload.specs.Tolls.{Exceeds, IsExcess, IsFirstExcess, KeepsWithin}
+use Rattle.pkload.specs.declared.tally.Tally.{Tally}
+use Rattle.pkload.specs.declared.tolls.Excess.{Excess}
+use Rattle.pkload.specs.declared.tolls.Excess.TheVariants.{BuildsImport, DeepKey, HeavyKeys}
+use Rattle.pkload.specs.declared.tolls.Excess.TheVariants.{ManyKeys, MuchMemory, OutOfMemory}
+use Rattle.pkload.specs.declared.tolls.Tolls.{Tolls}
+
+-- ---- lists and bytes
+
+pub consumed : (old : Sight) (bytes run : List ℕ) (new : Sight) → old.left ≡ Some bytes
+    → Takes old new run → (rest : List ℕ) × (new.left ≡ Some rest) × (bytes ≡ run ++ rest)
+consumed old bytes run new is t =
+    left_by new.left (subst (λ o. Consumes o new.left run) is t.bytes)
+  where
+    left_by : (o : Option (List ℕ)) → Consumes (Some bytes) o run
+        → (rest : List ℕ) × (o ≡ Some rest) × (bytes ≡ run ++ rest)
+    left_by None h = absurd h
+    left_by (Some rest) h = (rest, refl, h)
+
+spelled_with : (is js : List Instruction) (rest : List ℕ)
+    → spellings (is ++ js) ++ rest ≡ spellings is ++ (spellings js ++ rest)
+spelled_with is js rest = ap (λ l. l ++ rest) (flat_map-append spelling is js)
+    ∙ append_assoc (spellings is) (spellings js) rest
+
+each_at : (P : Instruction → Type 0) (is : List Instruction) (i : Instruction)
+    (js : List Instruction) → All P (is ++ i ∷ js) → P i
+each_at P [] i js h = All-head P i js h
+each_at P (x ∷ is) i js h = each_at P is i js (All-tail P x (is ++ i ∷ js) h)
+
+none_ends : (is : List Instruction) (i : Instruction) (js : List Instruction)
+    → [] ≡ is ++ i ∷ js → ⊥
+none_ends [] i js e = cc
+none_ends (x ∷ is) i js e = cc
+
+same_tail : (i j : Instruction) (is js : List Instruction) → i ∷ is ≡ j ∷ js
+    → (i ≡ j) × (is ≡ js)
+same_tail i j is js e = (cc, cc)
+
+same_last : (is js : List Instruction) (i j : Instruction) → is ++ i ∷ [] ≡ js ++ j ∷ []
+    → (is ≡ js) × (i ≡ j)
+same_last [] [] i j e = (refl, (same_tail i j [] [] e).0)
+same_last [] (y ∷ js) i j e =
+    absurd (none_ends js j [] (same_tail i y [] (js ++ j ∷ []) e).1)
+same_last (x ∷ is) [] i j e =
+    absurd (none_ends is i [] (sym (same_tail x j (is ++ i ∷ []) [] e).1))
+same_last (x ∷ is) (y ∷ js) i j e =
+    let t = same_tail x y (is ++ i ∷ []) (js ++ j ∷ []) e in
+    let s = same_last is js i j t.1 in
+    (ap (λ z. z ∷ is) t.0 ∙ ap (λ l. y ∷ l) s.0, s.1)
+
+-- what begins with more than the first list has more than it before its last
+split_last : (is js : List Instruction) (i j : Instruction) (more : List Instruction)
+    → is ++ i ∷ [] ≡ js ++ j ∷ more → (between : List Instruction) × (is ≡ js ++ between)
+split_last is [] i j more e = (is, refl)
+split_last [] (y ∷ js) i j more e =
+    absurd (none_ends js j more (same_tail i y [] (js ++ j ∷ more) e).1)
+split_last (x ∷ is) (y ∷ js) i j more e =
+    let t = same_tail x y (is ++ i ∷ []) (js ++ j ∷ more) e in
+    let s = split_last is js i j more t.1 in
+    (s.0, ap (λ z. z ∷ is) t.0 ∙ ap (λ l. y ∷ l) s.1)
+
+-- ---- limits
+
+module _ (tolls : Tolls) (t : Tally) (m : ℕ) where
+  -- of two limits, the one that is tried earlier isn't exceeded
+  abbrev Not : Excess → Excess → Type 0
+  Not a b = IsExcess a tolls t m → IsFirstExcess b tolls t m → ⊥
+
+  deep_heavy : Not DeepKey HeavyKeys
+  deep_heavy e f = omega (arith, e, f)
+
+  deep_many : Not DeepKey ManyKeys
+  deep_many e f = omega (arith, e, f.0)
+
+  deep_much : Not DeepKey MuchMemory
+  deep_much e f = omega (arith, e, f.0)
+
+  deep_build : Not DeepKey BuildsImport
+  deep_build e f = omega (arith, e, f.0)
+
+  heavy_many : Not HeavyKeys ManyKeys
+  heavy_many (inl e) f = omega (arith, e, f.1)
+  heavy_many (inr e) f = omega (arith, e, f.2)
+
+  heavy_much : Not HeavyKeys MuchMemory
+  heavy_much (inl e) f = omega (arith, e, f.1)
+  heavy_much (inr e) f = omega (arith, e, f.2)
+
+  heavy_build : Not HeavyKeys BuildsImport
+  heavy_build (inl e) f = omega (arith, e, f.1)
+  heavy_build (inr e) f = omega (arith, e, f.2)
+
+  many_much : Not ManyKeys MuchMemory
+  many_much e f = omega (arith, e, f.3)
+
+  many_build : Not ManyKeys BuildsImport
+  many_build e f = omega (arith, e, f.3)
+
+  much_build : Not MuchMemory BuildsImport
+  much_build e f = omega (arith, e, f.4)
+
+  same_excess : (a b : Excess) → Exceeds a tolls t m → Exceeds b tolls t m → a ≡ b
+  same_excess DeepKey DeepKey h g = refl
+  same_excess DeepKey HeavyKeys h g = absurd (deep_heavy h.0 g.1)
+  same_excess DeepKey ManyKeys h g = absurd (deep_many h.0 g.1)
+  same_excess DeepKey MuchMemory h g = absurd (deep_much h.0 g.1)
+  same_excess DeepKey BuildsImport h g = absurd (deep_build h.0 g.1)
+  same_excess HeavyKeys DeepKey h g = absurd (deep_heavy g.0 h.1)
+  same_excess HeavyKeys HeavyKeys h g = refl
+  same_excess HeavyKeys ManyKeys h g = absurd (heavy_many h.0 g.1)
+  same_excess HeavyKeys MuchMemory h g = absurd (heavy_much h.0 g.1)
+  same_excess HeavyKeys BuildsImport h g = absurd (heavy_build h.0 g.1)
+  same_excess ManyKeys DeepKey h g = absurd (deep_many g.0 h.1)
+  same_excess ManyKeys HeavyKeys h g = absurd (heavy_many g.0 h.1)
+  same_excess ManyKeys ManyKeys h g = refl
+  same_excess ManyKeys MuchMemory h g = absurd (many_much h.0 g.1)
+  same_excess ManyKeys BuildsImport h g = absurd (many_build h.0 g.1)
+  same_excess MuchMemory DeepKey h g = absurd (deep_much g.0 h.1)
+  same_excess MuchMemory HeavyKeys h g = absurd (heavy_much g.0 h.1)
+  same_excess MuchMemory ManyKeys h g = absurd (many_much g.0 h.1)
+  same_excess MuchMemory MuchMemory h g = refl
+  same_excess MuchMemory BuildsImport h g = absurd (much_build h.0 g.1)
+  same_excess BuildsImport DeepKey h g = absurd (deep_build g.0 h.1)
+  same_excess BuildsImport HeavyKeys h g = absurd (heavy_build g.0 h.1)
+  same_excess BuildsImport ManyKeys h g = absurd (many_build g.0 h.1)
+  same_excess BuildsImport MuchMemory h g = absurd (much_build g.0 h.1)
+  same_excess BuildsImport BuildsImport h g = refl
+  same_excess OutOfMemory b h g = absurd h.0
+  same_excess DeepKey OutOfMemory h g = absurd g.0
+  same_excess HeavyKeys OutOfMemory h g = absurd g.0
+  same_excess ManyKeys OutOfMemory h g = absurd g.0
+  same_excess MuchMemory OutOfMemory h g = absurd g.0
+  same_excess BuildsImport OutOfMemory h g = absurd g.0
+
+-- ---- bills
+
+with_last : (is : List Instruction) (i : Instruction) (x : Result Bill Breach) (earlier bill : Bill)
+    → and_then x (all_billed is) ≡ Ok earlier → billed i earlier ≡ Ok bill
+    → and_then x (all_billed (is ++ i ∷ [])) ≡ Ok bill
+with_last is i (Ok b) earlier bill e h = billed_more is (i ∷ []) b
+    ∙ ap (λ y. and_then y (all_billed (i ∷ []))) e ∙ ap (λ y. and_then y (all_billed [])) h
+with_last is i (Err r) earlier bill e h = cc
+
+same_bill : (a b : Bill) → ◌≡◌ {A = Result Bill Breach} (Ok a) (Ok b) → a ≡ b
+same_bill a b e = cc
+
+-- the bill behind pickles depends on their instructions alone
+abbrev bill_behind : Memo → List (List Instruction) → Result Bill Breach
+bill_behind Fresh pickles = Ok no_bill
+bill_behind Kept pickles = row_billed pickles no_bill
+
+behind_is : (memo : Memo) (xs : List Pickle)
+    → bill_before (begins memo xs) ≡ bill_behind memo (sequences_of xs)
+behind_is Fresh xs = refl
+behind_is Kept [] = refl
+behind_is Kept (x ∷ xs) = refl
+
+bill_alike : (memo : Memo) (xs ys : List Pickle) → sequences_of xs ≡ sequences_of ys
+    → bill_before (begins memo xs) ≡ bill_before (begins memo ys)
+bill_alike memo xs ys e = behind_is memo xs ∙ ap (bill_behind memo) e ∙ sym (behind_is memo ys)
+
+-- ---- one pickle
+
+module _ (loading : Loading) (policy : Policy) (limits : Bounds) (tolls : Tolls)
+    (xs ys : List Pickle) (same : sequences_of xs ≡ sequences_of ys) where
+  abbrev Over : Sight → ℕ → Excess → Type 0
+  Over here at excess = ExceedsIn loading policy limits tolls here xs at excess
+
+  over_bill : (here : Sight) (at : ℕ) (excess : Excess) (e : Over here at excess)
+      → and_then (bill_before (begins loading.memo xs)) (all_billed (e.instructions ++ e.last ∷ []))
+      ≡ Ok e.bill
+  over_bill here at excess e = with_last e.instructions e.last
+      (bill_before (begins loading.memo xs)) e.earlier e.bill e.so_far e.adds
+
+  -- what keeps within the limits doesn't begin with what exceeds one
+  pub over_within : (here : Sight) (at : ℕ) (excess : Excess) (e : Over here at excess)
+      (is more : List Instruction) → is ≡ (e.instructions ++ e.last ∷ []) ++ more
+      → (after : Bill)
+      → and_then (bill_before (begins loading.memo ys)) (all_billed is) ≡ Ok after
+      → KeepsWithin tolls after.tally after.memory → ⊥
+  over_within here at excess e is more parts after h w =
+      excess_stays excess tolls (begins loading.memo xs) (e.instructions ++ e.last ∷ []) more e.bill
+      after (over_bill here at excess e) e.exceeds
+      (ap (λ x. and_then x (all_billed ((e.instructions ++ e.last ∷ []) ++ more)))
+      (bill_alike loading.memo xs ys same)
+      ∙ subst (λ l. and_then (bill_before (begins loading.memo ys)) (all_billed l) ≡ Ok after) parts
+      h) w
+
+  module _ (bytes : List ℕ) (here there : Sight) (is : here.left ≡ Some bytes)
+      (also : there.left ≡ Some bytes) where
+    -- an accepted pickle that keeps within the limits exceeds none
+    pub yes_or_over : OneFront → SequenceGoesOn → (after : Sight) (taken at : ℕ)
+        (imports : List Asked) (excess : Excess)
+        (a : AcceptedFrom loading.old_strings (begins loading.memo ys) policy limits there after
+        taken imports) (instructions : List Instruction) → a.instructions ≡ instructions
+        → CostsWithin loading.old_strings (begins loading.memo ys) tolls instructions
+        → Over here at excess → ⊥
+    yes_or_over front goes after taken at imports excess a p named w e =
+        let c = consumed there bytes (spellings a.instructions) after also a.bytes in
+        let d = consumed here bytes (spellings (e.instructions ++ e.last ∷ [])) e.there is e.bytes
+        in
+        let g = goes (payload_limit limits) (payload_limit limits) a.instructions e.instructions c.0
+        (spellings (e.last ∷ []) ++ d.0) a.sequence
+        (all_front limits e.instructions (e.last ∷ []) e.admitted) e.goes_on
+        (sym c.2 ∙ d.2 ∙ spelled_with e.instructions (e.last ∷ []) d.0) in
+        let f = front e.last g.next d.0 (spellings g.after ++ c.0)
+        (each_at (IsAllowedBy (payload_limit limits)) e.instructions e.last [] e.admitted).good
+        (each_at (IsAllowedBy (payload_limit limits)) e.instructions g.next g.after
+        (subst (All (IsAllowedBy (payload_limit limits))) g.split a.sequence.each)).good
+        (sym (ap (λ l. l ++ d.0) (append-nil (spelling e.last))) ∙ g.bytes) in
+        over_within here at excess e p g.after
+        (sym named ∙ g.split ∙ ap (λ j. e.instructions ++ j ∷ g.after) (sym f.0)
+        ∙ sym (append_assoc e.instructions (e.last ∷ []) g.after)) w.bill w.billed w.within
+
+    -- nor does one that is refused, where all before the refused instruction keeps within them
+    pub refused_or_over : RefusedBehind → (after : Sight) (place at : ℕ) (r : Reason)
+        (pair : Option Asked) (excess : Excess)
+        → length (bytes_of_all ys) + length bytes ≤ all_bytes
+        → (x : RefusedFrom (length (bytes_of_all ys)) loading.old_strings
+        (begins loading.memo ys) policy limits there after place r pair)
+        → r ≢ reason.Source → r ≢ reason.OutOfMemory
+        → StaysWithin loading tolls ys x.instructions → Over here at excess → ⊥
+    refused_or_over behind after place at r pair excess few x n m w e =
+        let p = e.instructions ++ e.last ∷ [] in
+        let d = consumed here bytes (spellings p) e.there is e.bytes in
+        let k = behind loading xs ys policy limits bytes here e.there p (length (bytes_of_all ys))
+        there after place r pair is also same
+        (omega (arith, few, ap length d.2, length-append (spellings p) d.0)) e.admitted e.faultless
+        e.bytes x n m in
+        over_within here at excess e x.instructions k.0 k.1 w.bill w.billed w.within
+
+    -- an accepted pickle isn't refused
+    pub yes_or_refused : RefusedBehind → (between after : Sight) (taken place : ℕ)
+        (imports : List Asked) (r : Reason) (pair : Option Asked)
+        → length (bytes_of_all ys) + length bytes ≤ all_bytes
+        → AcceptedFrom loading.old_strings (begins loading.memo xs) policy limits here between
+        taken imports
+        → RefusedFrom (length (bytes_of_all ys)) loading.old_strings (begins loading.memo ys)
+        policy limits there after place r pair
+        → r ≢ reason.Source → r ≢ reason.OutOfMemory → ⊥
+    yes_or_refused behind between after taken place imports r pair few a x n m =
+        let d = consumed here bytes (spellings a.instructions) between is a.bytes in
+        let k = behind loading xs ys policy limits bytes here between a.instructions
+        (length (bytes_of_all ys)) there after place r pair is also same
+        (omega (arith, few, ap length d.2, length-append (spellings a.instructions) d.0))
+        a.sequence.each a.faultless a.bytes x n m in
+        let s = a.sequence.stops in
+        each_at (λ i. i.op ≢ op.Stop) s.0 s.1 k.0
+        (subst (All (λ i. i.op ≢ op.Stop))
+        (k.1 ∙ ap (λ l. l ++ k.0) s.2 ∙ append_assoc s.0 (s.1 ∷ []) k.0) x.goes_on) s.3
+
+    -- a pickle is refused at one place
+    pub one_place : RefusedBehind → (after later : Sight) (place at : ℕ) (r q : Reason)
+        (pair other : Option Asked)
+        → length (bytes_of_all xs) + length bytes ≤ all_bytes
+        → RefusedFrom (length (bytes_of_all xs)) loading.old_strings (begins loading.memo xs)
+        policy limits here after place r pair → r ≢ reason.Source → r ≢ reason.OutOfMemory
+        → RefusedFrom (length (bytes_of_all ys)) loading.old_strings (begins loading.memo ys)
+        policy limits there later at q other → q ≢ reason.Source → q ≢ reason.OutOfMemory
+        → place ≡ at
+    one_place behind after later place at r q pair other few x n m y k l =
+        let from = ap (λ ps. length (flat_map spellings ps)) same in
+        let c = consumed here bytes (spellings x.instructions) x.here is x.bytes in
+        let d = consumed there bytes (spellings y.instructions) y.here also y.bytes in
+        let g = behind loading xs ys policy limits bytes here x.here x.instructions
+        (length (bytes_of_all ys)) there later at q other is also same
+        (omega (arith, few, from, ap length c.2, length-append (spellings x.instructions) c.0))
+        x.admitted x.faultless x.bytes y k l in
+        let h = behind loading ys xs policy limits bytes there y.here y.instructions
+        (length (bytes_of_all xs)) here after place r pair also is (sym same)
+        (omega (arith, few, ap length d.2, length-append (spellings y.instructions) d.0))
+        y.admitted y.faultless y.bytes x n m in
+        omega (
+          arith,
+          from,
+          x.place,
+          y.place,
+          ap (λ l. length (spellings l)) g.1 ∙ ap length (flat_map-append spelling x.instructions g.0),
+          length-append (spellings x.instructions) (spellings g.0),
+          ap (λ l. length (spellings l)) h.1 ∙ ap length (flat_map-append spelling y.instructions h.0),
+          length-append (spellings y.instructions) (spellings h.0),
+        )
+
+-- a pickle exceeds one limit first, at one place
+module _ (loading : Loading) (policy : Policy) (limits : Bounds) (tolls : Tolls)
+    (xs ys : List Pickle) (same : sequences_of xs ≡ sequences_of ys) (bytes : List ℕ)
+    (here there : Sight) (is : here.left ≡ Some bytes) (also : there.left ≡ Some bytes)
+    (at place : ℕ) (excess another : Excess)
+    (e : ExceedsIn loading policy limits tolls here xs at excess)
+    (f : ExceedsIn loading policy limits tolls there ys place another) where
+  abbrev first : List Instruction
+  first = e.instructions ++ e.last ∷ []
+
+  abbrev second : List Instruction
+  second = f.instructions ++ f.last ∷ []
+
+  where_same : e.instructions ≡ f.instructions → first ≡ second → (at ≡ place) × (excess ≡ another)
+  where_same alike all = (
+    omega (
+      arith,
+      e.place,
+      f.place,
+      ap (λ ps. length (flat_map spellings ps)) same,
+      ap (λ l. length (spellings l)) alike,
+    ),
+    same_excess tolls e.bill.tally e.bill.memory excess another e.exceeds
+        (subst (λ b. Exceeds another tolls b.tally b.memory)
+        (same_bill f.bill e.bill
+        (sym (over_bill loading policy limits tolls ys xs (sym same) there place another f)
+        ∙ ap (λ x. and_then x (all_billed second)) (bill_alike loading.memo ys xs (sym same))
+        ∙ ap (λ l. and_then (bill_before (begins loading.memo xs)) (all_billed l)) (sym all)
+        ∙ over_bill loading policy limits tolls xs ys same here at excess e))
+        f.exceeds),
+  )
+
+  when_more : (more : List Instruction) → second ≡ first ++ more
+      → (at ≡ place) × (excess ≡ another)
+  when_more [] parts =
+      let s = same_last f.instructions e.instructions f.last e.last
+      (parts ∙ append-nil first) in
+      where_same (sym s.0) (sym (parts ∙ append-nil first))
+  when_more (j ∷ more) parts =
+      let s = split_last f.instructions first f.last j more parts in
+      absurd (over_within loading policy limits tolls xs ys same here at excess e f.instructions s.0
+      s.1 f.earlier f.so_far f.within)
+
+  when_less : (more : List Instruction) → first ≡ second ++ more
+      → (at ≡ place) × (excess ≡ another)
+  when_less [] parts = let s = same_last e.instructions f.instructions e.last f.last
+      (parts ∙ append-nil second) in where_same s.0 (parts ∙ append-nil second)
+  when_less (j ∷ more) parts =
+      let s = split_last e.instructions second e.last j more parts in
+      absurd (over_within loading policy limits tolls ys xs (sym same) there place another f
+      e.instructions s.0 s.1 e.earlier e.so_far e.within)
+
+  pub one_excess : OneBegins → (at ≡ place) × (excess ≡ another)
+  one_excess begin =
+      let c = consumed here bytes (spellings first) e.there is e.bytes in
+      let d = consumed there bytes (spellings second) f.there also f.bytes in
+      by_part (begin first second c.0 d.0 (all_good limits first e.admitted)
+      (all_good limits second f.admitted) (sym c.2 ∙ d.2))
+    where
+      by_part : ((behind : List Instruction) × (second ≡ first ++ behind))
+          ⊎ ((behind : List Instruction) × (first ≡ second ++ behind))
+          → (at ≡ place) × (excess ≡ another)
+      by_part (inl k) = when_more k.0 k.1
+      by_part (inr k) = when_less k.0 k.1
