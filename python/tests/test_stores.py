@@ -96,7 +96,7 @@ class Stores(unittest.TestCase):
                 for path in self.folder.iterdir():
                     path.unlink()
 
-    @needs("module:dbm.ndbm")
+    @needs("module:_dbm")
     def test_long_values_of_ndbm(self):
         """Berkeley DB cuts a value into pages, each with a header."""
         from dbm import ndbm

@@ -58,7 +58,8 @@ class WideLimits(unittest.TestCase):
         self.assertIsNotNone(judged("posix", "system"))
         for data in PICKLES.values():
             for allow in (*LISTS.values(), None):
-                (found,) = reports(data[:-1] + HARM, allow)
+                found = reports(data[:-1] + HARM, allow)[0]
+                self.assertEqual(found.kind, "pickle")
                 self.assertIn(("posix", "system"), found.imports)
                 self.assertIn("danger", {it.severity for it in found.findings})
 

@@ -1,8 +1,12 @@
 """Files that libraries write themselves, of values without a name off the list."""
 
+import base64
 import bz2
+import datetime
 import gzip
+import hashlib
 import io
+import json
 import lzma
 import pathlib
 import pickle
@@ -16,7 +20,7 @@ import shapes
 
 def files():
     """The name and the bytes of each."""
-    for make in (plain, packed, archives, arrays, frames, stored, checkpoints):
+    for make in (plain, packed, archives, arrays, frames, stored, checkpoints, tables, caches):
         try:
             yield from make()
         except ImportError:
@@ -131,3 +135,36 @@ def checkpoints():
         out = io.BytesIO()
         torch.save(value, out, _use_new_zipfile_serialization=is_zip)
         yield f"torch {is_zip}", out.getvalue()
+
+
+def tables():
+    import sqlite3
+
+    words = [f"word {number}" for number in range(999)]
+    dated = [pickle.dumps([datetime.date(2026, 1, 2), *words], protocol) for protocol in (2, 4)]
+    values = [
+        *shapes.GOOD, *dated, *words, "cats\ndogs\n", json.dumps({"all": words}, indent=1),
+        *(base64.b64encode(data).decode() for data in shapes.GOOD), zlib.compress(dated[0]),
+        *(hashlib.sha256(word.encode()).digest() for word in words), bytes(range(256)) * 99,
+    ]
+    with tempfile.TemporaryDirectory() as folder:
+        for number, kind in enumerate(("value", "value unique", "value primary key")):
+            path = pathlib.Path(folder) / f"base{number}"
+            base = sqlite3.connect(str(path))
+            base.execute(f"create table kept ({kind}) {'without rowid' * (number == 2)}")
+            base.executemany("insert or ignore into kept values (?)", [(it,) for it in values])
+            base.execute("delete from kept where rowid % 3 = 0" if number < 2 else "select 1")
+            base.commit()
+            base.close()
+            yield f"sqlite {kind}", path.read_bytes()
+
+
+def caches():
+    import cachelib
+
+    with tempfile.TemporaryDirectory() as folder:
+        made = cachelib.FileSystemCache(folder, mode=0o600)
+        for number, value in enumerate(shapes.GOOD_VALUES):
+            made.set(str(number), value)
+        for path in sorted(pathlib.Path(folder).iterdir()):
+            yield f"cachelib {path.name}", path.read_bytes()

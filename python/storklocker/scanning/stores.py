@@ -19,7 +19,7 @@ from .._reasons import Reason
 from .budget import Budget
 from .dangers import is_harmful, is_suspect, suspect_heads
 from .names import NOTHING, Imports, imports_within
-from .reaching import LENGTHS, reached, without_frames
+from .reaching import LENGTHS, is_module, reached, without_frames
 from .readings import Found, Piece, Place, Reading, is_text
 from .source import BLOCK, Source, in_memory
 from .trails import Trail, Trails, texts_in
@@ -210,19 +210,25 @@ def is_value(source: Source) -> bool:
     found = _imports_at(source, 0)
     if found.verdict.reason is Reason.BrokenFrame and not found.names:
         found = _imports_at(source, 0, False)
-    verdict, names = found.verdict, list(found.names)
+    verdict, names = found.verdict, list(itertools.takewhile(_may_be, found.names))
     is_whole = verdict.taken == source.size
     if not verdict:
         beyond = reached(source, verdict.at, verdict.reason)
         is_stopped = verdict.reason is Reason.Truncated or not beyond
         is_whole = not is_stopped and source.read(source.size - 1, 1) == b"."
-        names += [(b"", b"")] if beyond.pair else []
-    if is_whole or not _is_in_words(source):
+        names += [(b"", b"")] if beyond.pair and len(names) == len(found.names) else []
+    if is_whole or not is_in_words(source):
         return bool(names) or not found.is_complete
     return any(map(_is_harmful, names))
 
 
-def _is_in_words(source: Source) -> bool:
+def is_import(source: Source) -> bool:
+    """Whether it begins with an import that is known to do harm."""
+    front = source.front()
+    return any(begun.match(front) for begun in _BEGINNINGS) and _is_harm(source, 0)
+
+
+def is_in_words(source: Source) -> bool:
     """Whether a value is a text, whose lines may look like imports."""
     front = source.front()
     cut = 3 if len(front) < source.size else 0  # of the last character
@@ -241,6 +247,11 @@ def _imports_at(source: Source, at: int, is_framed: bool = True) -> Imports:
         if found.verdict or not is_cut or found.names:
             return found
         size *= 16
+
+
+def _may_be(names: "Names") -> bool:
+    """Whether a module may have such a name."""
+    return names[0] is None or is_module(names[0].decode("utf-8", "replace"))
 
 
 def _is_harmful(names: "Names") -> bool:
