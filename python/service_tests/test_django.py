@@ -45,7 +45,7 @@ def run():
         with common.table() as table:
             table.runs_all(read_session)
         # (the one name that a guard reports and loads)
-        watching.watch([*common.LISTED, ("storklocker._limits", "limits_of")], [folder])
+        watching.watch([*common.LISTED, ("storklocker._limits", "_limits_with")], [folder])
         with common.log() as log:
             for kind, guard in GUARDS.items():
                 try_cache(caches[kind], WRITERS[kind](caches[kind]), guard)

@@ -54,10 +54,15 @@ _NO_PICKLE = (
 
 
 def hint_of(
-    verdict: Verdict, read: Callable[[int, int], bytes], limits: Limits, start: int = 0
+    verdict: Verdict,
+    read: Callable[[int, int], bytes],
+    limits: Limits,
+    start: int = 0,
+    has_substitutes: bool = False,
 ) -> str:
     """The hint for a refusal under these limits, or an empty text. `read(at, count)` returns bytes
-    of what was checked, of which the verdict counts the first as `start`.
+    of what was checked, of which the verdict counts the first as `start`. `has_substitutes` says
+    that the list has names that are loaded through substitutes.
     """
     at, front = verdict.at - start, read(0, 8)
     for pattern, what in _OTHERS:
@@ -72,7 +77,8 @@ def hint_of(
     if verdict.reason in _COSTS:
         return _of_costs(_COSTS[verdict.reason], limits)
     if verdict.reason is Reason.BuildsImport:
-        return f'{CHANGES}: build="any" permits it'
+        permits = "no guard of a list with substitutes" if has_substitutes else 'build="any"'
+        return f"{CHANGES}: {permits} permits it"
     if verdict.reason is Reason.NotAscii:
         return 'old_strings="bytes" reads such strings as bytes'
     return ""

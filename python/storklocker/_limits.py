@@ -124,7 +124,7 @@ class Limits(
         )
 
     def __reduce__(self) -> "Tuple[Any, ...]":
-        return (limits_of, tuple(self))
+        return (_limits_with, (self._asdict(),))
 
 
 def flag(name: str, given: bool) -> bool:
@@ -143,16 +143,19 @@ def number(name: str, given: int) -> int:
     return int(given)
 
 
+def _limits_with(fields: "Dict[str, Any]") -> Limits:
+    """What pickles of Limits call."""
+    return Limits(**fields)
+
+
 def limits_of(
-    counted: int,
-    stack: int,
-    memo: int,
-    passed: int,
-    numbers: int,
-    large: int,
-    *costs: "Optional[int]",
+    counted: int, stack: int, memo: int, passed: int, numbers: int, large: int
 ) -> Limits:
-    """Limits with these values, and the defaults of those that are left out."""
+    """Limits with these values, and the default limits on costs.
+
+    Pickles of earlier versions call it. Some pass limits on costs too, of which None meant the
+    default: they raise TypeError, since it would mean no limit now.
+    """
     return Limits(
         counted=counted,
         stack=stack,
@@ -160,13 +163,12 @@ def limits_of(
         passed=passed,
         numbers=numbers,
         large=bool(large),
-        **dict(zip(COSTS, costs)),
     )
 
 
 def least(one: Limits, other: Limits) -> Limits:
     """The smaller of each two limits. On costs, one at its default yields to the other."""
-    return limits_of(*map(_lesser, one._fields, one, other))
+    return Limits(**dict(zip(one._fields, map(_lesser, one._fields, one, other))))
 
 
 def _lesser(name: str, one: "Optional[int]", other: "Optional[int]") -> "Any":
@@ -179,7 +181,7 @@ def _lesser(name: str, one: "Optional[int]", other: "Optional[int]") -> "Any":
 @functools.lru_cache(maxsize=64)
 def packed(limits: Limits, old_strings: str, keeps_memo: bool, build: str) -> bytes:
     """The bytes of a `struct storklocker_settings`, for sorted pairs."""
-    counted, stack, memo, passed, numbers, large, *costs = limits_of(*limits)
+    counted, stack, memo, passed, numbers, large, *costs = limits._replace()
     mosts = [most for _, most in COSTS.values()]
     return _SETTINGS.pack(
         _SETTINGS.size,

@@ -33,7 +33,10 @@ def _hint_for(guard: Guard, verdict: Verdict, data: bytes, start: int) -> str:
     if verdict.taken or len(data) >= guard._max_bytes:
         return f"it is longer than the guard's max_bytes, {guard._max_bytes:,}"
     limits = within(guard._limits, guard._allow.limits) or STANDARD
-    return hint_of(verdict, lambda at, count: data[at : at + count], limits, start)
+    has_substitutes = guard._has_substitutes
+    return hint_of(
+        verdict, lambda at, count: data[at : at + count], limits, start, has_substitutes
+    )
 
 
 class Misuses:

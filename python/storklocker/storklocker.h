@@ -238,13 +238,13 @@ uint32_t storklocker_read_list(
 
 /* Checks the pickle at the front of the bytes, permitting every import, and writes its imports in
    order, each as often as it occurs. If it is refused, they are those of the instructions before
-   `at`, which a reader may run before it fails: some run gets there, and each run that does has made
-   exactly these imports. EXT1, EXT2 and EXT4 import what the reader's registry says, so they are
-   refused, and only the reason tells of them. An import whose pair the pickle doesn't reveal has
-   UINT64_MAX for both lengths, and no bytes. Check `wanted` against a bound before you allocate: a
-   pickle of a megabyte may need gigabytes, because a text that it names a thousand times is copied a
-   thousand times. At STORKLOCKER_USAGE, `wanted` is 0. Limits on costs are ignored. Never returns
-   STORKLOCKER_NO_LIST. */
+   `at`, which a reader may run before it fails: some run gets there, and each run that does has
+   made exactly these imports. EXT1, EXT2 and EXT4 import what the reader's registry says, so they
+   are refused, and only the reason tells of them. An import whose pair the pickle doesn't reveal
+   has UINT64_MAX for both lengths, and no bytes. Check `wanted` against a bound before you
+   allocate: a pickle of a megabyte may need gigabytes, because a text that it names a thousand
+   times is copied a thousand times. At STORKLOCKER_USAGE, `wanted` is 0. Limits on costs are
+   ignored. Never returns STORKLOCKER_NO_LIST. */
 uint32_t storklocker_imports(
     const struct storklocker_settings *settings,
     const uint8_t *pickle, size_t pickle_length,

@@ -137,6 +137,16 @@ class Changes(unittest.TestCase):
                     self.assertEqual(self.told.pop().verdict, error.verdict)
                     self.assertEqual(self.told, [])
 
+    def test_nothing_permits_it_under_a_list_with_substitutes(self):
+        guard = Guard(self.guard.allow | AllowList([("builtins", "bytearray")]))
+        with self.assertRaises(Refused) as raised:
+            guard.loads(HOSTILE["by GLOBAL"])
+        self.assertIn("no guard of a list with substitutes permits it", raised.exception.hint)
+        free = Guard(guard.allow, build="any")
+        with self.assertRaises(Misused):
+            free.loads(HOSTILE["by GLOBAL"])
+        self.assertFalse(self.is_changed())
+
     def test_each_check(self):
         for what, data in HOSTILE.items():
             for build, reason in (("made", Reason.BuildsImport), ("any", None)):

@@ -1,10 +1,9 @@
 """The extension module: numbers and fields as the header and the crate have them, what it shows,
-and its memory.
+and how it is made.
 """
 
 import os
 import re
-import shutil
 import struct
 import subprocess
 import sys
@@ -294,130 +293,6 @@ class Module(unittest.TestCase):
             "loads(",
         ):
             self.assertIn(word, page)
-
-
-SANITIZED = r"""
-import ctypes, sys
-import storklocker
-from storklocker import _storklocker
-assert _storklocker.__file__.startswith(sys.argv[1]), _storklocker.__file__
-library = ctypes.CDLL(_storklocker.__file__)
-library.are_left.restype = ctypes.c_long
-library.grant.argtypes = [ctypes.c_long]
-import common
-
-LONG = b"\x8c\x01m\x8d" + (600).to_bytes(8, "little") + 600 * b"n" + b"\x93."
-CALLS = {
-    "accepted": lambda: storklocker.check(common.SEEDS[10], common.BY_PAIRS),
-    "refused": lambda: storklocker.check(b"cos\nsystem\n.", common.BY_PAIRS),
-    "long names": lambda: storklocker.check(LONG, common.BY_PAIRS),
-    "row": lambda: storklocker.check_row(common.SEEDS[10] * 3 + b"0", common.BY_PAIRS),
-    "list": lambda: storklocker.AllowList.from_text(common.LIST_TEXT),
-    "load": lambda: storklocker.loads(common.SEEDS[10], common.BY_PAIRS),
-    "imports": lambda: storklocker.imports(common.SEEDS[10]),
-    "missing": lambda: storklocker.check(b"cos\nsystem\n.", common.BY_PAIRS).missing,
-}
-
-def answer(call):
-    try:
-        return call()
-    except storklocker.Refused as refused:
-        return refused.verdict
-
-for name, call in CALLS.items():
-    wanted, count, wants = answer(call), 0, 0
-    while True:
-        library.grant(count)
-        try:
-            same = answer(call) == wanted
-        except MemoryError:
-            same, wants = True, wants + 1
-        was_refused = library.are_left() == -1
-        assert library.are_left() in (0, -1), (name, count)
-        library.grant(-1)
-        assert same, (name, count)
-        if not was_refused:
-            break
-        count += 1
-    assert wants > 0, name
-    print(f"{name}: {count} allocations, {wants} answered MemoryError")
-
-try:
-    from _testcapi import set_nomemory, remove_mem_hooks
-except ImportError:
-    print("no _testcapi: Python's own memory is not refused")
-else:
-    for name, call in CALLS.items():
-        for count in range(60):
-            set_nomemory(count, count + 1)
-            try:
-                answer(call)
-            except MemoryError:
-                pass
-            finally:
-                remove_mem_hooks()
-        print(f"{name}: Python's memory refused")
-"""
-
-
-@needs(COMPILER, ARCHIVE, INCLUDE)
-class Sanitized(unittest.TestCase):
-    @classmethod
-    def setUpClass(cls):
-        cls.folder = tempfile.TemporaryDirectory()
-        cls.package = Path(cls.folder.name, "storklocker")
-        without = shutil.ignore_patterns("*.so", "__pycache__")
-        shutil.copytree(PACKAGE, cls.package, ignore=without)
-        words = [str(PYTHON / "make"), "--debug", "--archive", ARCHIVE, "--out", str(cls.package)]
-        subprocess.run(words, check=True)
-        found = [
-            subprocess.run(
-                [*COMPILER.split(), f"-print-file-name={name}"], capture_output=True, text=True
-            ).stdout.strip()
-            for name in ("libasan.so", "libubsan.so")
-        ]
-        cls.environment = {
-            **os.environ,
-            "LD_PRELOAD": " ".join(found),
-            "ASAN_OPTIONS": "detect_leaks=0:allocator_may_return_null=1",
-            "PYTHONPATH": os.pathsep.join([cls.folder.name, str(PYTHON / "tests")]),
-            "PYTHONMALLOC": "malloc",
-            "PYTHONDONTWRITEBYTECODE": "1",
-        }
-
-    @classmethod
-    def tearDownClass(cls):
-        cls.folder.cleanup()
-
-    def ran(self, *words):
-        ran = subprocess.run(
-            [sys.executable, *words],
-            capture_output=True,
-            text=True,
-            env=self.environment,
-            cwd=PYTHON / "tests",
-        )
-        self.assertEqual(ran.returncode, 0, ran.stdout[-2000:] + ran.stderr[-4000:])
-        return ran.stdout
-
-    def test_each_allocation_refused_in_turn(self):
-        said = self.ran("-c", SANITIZED, self.folder.name)
-        self.assertGreaterEqual(said.count("answered MemoryError"), 6)
-
-    def test_values_and_guards(self):
-        self.ran(
-            "-m",
-            "unittest",
-            "-q",
-            "test_values.Lists",
-            "test_values.Copies",
-            "test_guard.Loads",
-            "test_guarded_files.Files",
-            "test_loads.Memory",
-            "test_joblib_files.Hastened",
-            "test_builds",
-            "test_uses",
-        )
 
 
 if __name__ == "__main__":

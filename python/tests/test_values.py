@@ -156,6 +156,15 @@ class Copies(unittest.TestCase):
         self.assertNotEqual(FEW, storklocker.STANDARD)
         self.assertNotEqual(Limits(large=True), storklocker.STANDARD)
 
+    def test_limits_of_earlier_versions(self):
+        call = b"cstorklocker._limits\nlimits_of\n(I1\nI2\nI3\nI4\nI5\nI00\n"
+        few = Limits(counted=1, stack=2, memo=3, passed=4, numbers=5)
+        self.assertEqual(pickle.loads(call + b"tR."), few)
+        with self.assertRaises(TypeError):  # (None meant a default)
+            pickle.loads(call + b"NNNNNtR.")
+        free = Limits(levels=None, weight=None, work=None)
+        self.assertEqual(list(copies(free)), len(list(copies(free))) * [free])
+
     def test_a_copy_outlives_what_it_was_made_of(self):
         data = pickle.dumps([Limits(stack=1), AllowList(LISTED)])
         for _ in range(1000):

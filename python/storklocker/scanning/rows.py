@@ -22,7 +22,7 @@ if TYPE_CHECKING:
     from .._limits import Limits
     from .._lists import Names
 
-_FIRST = 4096
+_FIRST = 1 << 14
 """The size of the first window; it grows sixteenfold until it contains the whole pickle."""
 _WHOLE = 1 << 26
 """The most bytes of a file that the third window of its first pickle contains at once, and of a row
