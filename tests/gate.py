@@ -238,6 +238,24 @@ class Groups(Copies):
         _, lines = self.ran("./test", "edits", PYTHONUNBUFFERED="1", PYTHONPATH="/x", LD_PRELOAD="")
         self.assertFalse([it for it in lines if re.match("PYTHON(UNBUFFERED|PATH)=|LD_", it)])
 
+    def test_the_package_under_two_pythons(self) -> None:
+        find = "import os, sys; print(os.path.realpath(sys.executable))"
+        found = []
+        for python in ("python3", "/usr/bin/python3"):
+            if shutil.which(python):
+                words = [python, "-c", find]
+                found.append(subprocess.run(words, check=True, stdout=subprocess.PIPE).stdout)
+        tests = [find, "print(sorted(it for it in os.environ if it[:7] == 'PYTHONU'))"]
+        tests.append("print('1 passed, 0 failed, 0 skipped')")
+        (self.copy / "python" / "tests" / "run.py").write_text("\n".join(tests))
+        # (what isn't shipped takes no environment of its own)
+        (self.copy / "python" / "storklocker" / "_other.py").touch()
+        status, lines = self.ran("./test", "package", PYTHONUNBUFFERED="1")
+        self.assertEqual((status, self.counts(lines)[0]), (0, len(set(found))), lines)
+        for python in found:
+            self.assertIn(python.decode().strip(), lines)
+        self.assertNotIn("['PYTHONUNBUFFERED']", lines)
+
     def test_words(self) -> None:
         status, lines = self.ran("./test", "--list")
         self.assertEqual((status, lines[0].split()[0]), (0, "gone"))

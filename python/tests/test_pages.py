@@ -1,6 +1,5 @@
 """The manual page and the completions, as `man` and the shells read them."""
 
-import shutil
 import subprocess
 import tempfile
 import unittest
@@ -49,15 +48,13 @@ class Pages(unittest.TestCase):
     def test_it_runs(self):
         self.assertEqual(python("from storklocker.pages import main; main(['bash'])"), page("bash"))
 
+    @needs("groff")
     def test_the_manual_page(self):
-        if shutil.which("groff"):
-            words = ("groff", "-man", "-ww", "-z", "-Tutf8")
-            self.assertEqual(said(page("man"), *words), "")
+        words = ("groff", "-man", "-ww", "-z", "-Tutf8")
+        self.assertEqual(said(page("man"), *words), "")
 
-    @needs("/dev/fd")
+    @needs("/dev/fd", "bash")
     def test_bash(self):
-        if not shutil.which("bash"):
-            return
         for words, wanted in (
             ("storklocker s", ["scan"]),
             ("storklocker scan --fo", ["--format"]),
@@ -69,17 +66,24 @@ class Pages(unittest.TestCase):
             found = said(page("bash") + asked, "bash", "--norc", "-s")
             self.assertEqual(found.split(), wanted, words)
 
-    def test_other_shells(self):
+    @needs("zsh")
+    def test_zsh(self):
         with tempfile.TemporaryDirectory() as folder:
-            file = Path(folder) / "completions"
-            if shutil.which("zsh"):
-                file.write_text(page("zsh"))
-                said("", "zsh", "-n", str(file))
-            if shutil.which("fish"):
-                file.write_text(page("fish"))
-                asked = f"source {file}; complete -C 'storklocker scan --fo'"
-                found = said("", "fish", "--no-config", "-c", asked)
-                self.assertEqual(found.split()[:1], ["--format"])
+            (Path(folder) / "_storklocker").write_text(page("zsh"))
+            said(page("zsh"), "zsh", "-n")
+            asked = f"fpath+={folder}; autoload compinit; compinit -u -D; echo $_comps[storklocker]"
+            self.assertEqual(said("", "zsh", "-fc", asked), "_storklocker\n")
+
+    @needs("fish")
+    def test_fish(self):
+        for words, wanted in (
+            ("storklocker s", "scan"),
+            ("storklocker scan --fo", "--format"),
+            ("storklocker scan a --format s", "sarif"),
+        ):
+            asked = f"source -; complete -C '{words}'"
+            found = said(page("fish"), "fish", "--no-config", "-c", asked)
+            self.assertEqual(found.split()[:1], [wanted], words)
 
 
 if __name__ == "__main__":
