@@ -1,4 +1,4 @@
-"""`scan` on pickles of more than a guard takes by default: it says what a guard under the list says.
+"""`scan` on pickles of more than guards take by default: it says what a guard under the list says.
 """
 
 import io

@@ -16,7 +16,7 @@ _NEVER = (b"", b"P", b"Q")
 
 
 def cachelib_reading(place: Place) -> Found:
-    """What cachelib gets to. The bytes in front say nothing, so the file may be another one, too."""
+    """What cachelib gets to. The bytes in front say nothing: the file may be another one, too."""
     source = place.source
     value = source.part(_TIME, source.size)
     if place.is_raw or value.read(0, 1) in _NEVER:

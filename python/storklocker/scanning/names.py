@@ -20,7 +20,7 @@ WIDE = Limits(passed=1 << 40, **NO_COSTS)
 """The limits under a list that has none: those of a guard, but for payloads that are passed over,
 which may have any length.
 """
-WIDEST = WIDE._replace(**dict.fromkeys(("counted", "stack", "memo", "numbers"), UNBOUND), large=True)
+WIDEST = Limits(passed=1 << 40, numbers=UNBOUND, large=True, **NO_COSTS)
 """Under a list with limits, just these."""
 _ROOM = 1 << 22
 """The least bytes of names that are taken from a pickle; for a larger pickle, its size."""
