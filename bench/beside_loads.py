@@ -47,8 +47,10 @@ class Shape(NamedTuple):
         return f"| {self.name} | {shown} | {told} | {self.remark(ratios)} |"
 
     def remark(self, ratios: List[Optional[float]]) -> str:
-        """What is said of the ratios of the command, of a check and of a guarded load."""
-        command, check, loads = (it or 0 for it in ratios)
+        """What is said of the ratios of the command, of a check, of one that limits no costs, and
+        of a guarded load.
+        """
+        command, check, _, loads = (it or 0 for it in ratios)
         if self.loads:
             return "TOO SLOW" if loads > self.loads else "missed" if loads > self.target else ""
         worst = max(command, check)
@@ -106,20 +108,24 @@ def timed(call: Callable[[], object], calls: int) -> float:
 def measure(
     storklocker: ModuleType, shape: Shape, allow: pathlib.Path, rounds: int
 ) -> List[Optional[float]]:
-    """The times of the command, of a check and of a guarded load, beside those of a load. Small
-    pickles aren't given to the command, whose start would be most of its time.
+    """The times of the command, of a check, of one that limits no costs, and of a guarded load,
+    beside those of a load. Small pickles aren't given to the command, whose start would be most of
+    its time.
     """
     guard, data = storklocker.Guard(shape.allow), shape.data
+    none = storklocker.Limits(levels=None, weight=None, work=None)
+    free = storklocker.Guard(shape.allow, limits=none, build="any")
     path = allow.with_suffix(".pickle")
     path.write_bytes(data)
     bare: List[float] = []
-    times: List[List[float]] = [[], [], []]
+    times: List[List[float]] = [[], [], [], []]
     for _ in range(rounds):
         bare.append(timed(lambda: pickle.loads(data), shape.calls))
         if shape.calls == 1 and not shape.loads:
             times[0].append(program.check(allow, path).seconds)
         times[1].append(timed(lambda: guard.check(data), shape.calls))
-        times[2].append(timed(lambda: guard.loads(data), shape.calls))
+        times[2].append(timed(lambda: free.check(data), shape.calls))
+        times[3].append(timed(lambda: guard.loads(data), shape.calls))
     return [program.ratio(took, bare) if took else None for took in times]
 
 
@@ -138,8 +144,8 @@ def main() -> int:
     import storklocker.lists  # type: ignore[import]
 
     gc.disable()
-    print("| Shape | Size | `pktool check` | `guard.check` | Guarded load | |")
-    print("|---|---|---|---|---|---|")
+    print("| Shape | Size | `pktool check` | `guard.check` | At any cost | Guarded load | |")
+    print("|---|---|---|---|---|---|---|")
     faults = 0
     with tempfile.TemporaryDirectory() as folder:
         allow = pathlib.Path(folder, "list.toml")
