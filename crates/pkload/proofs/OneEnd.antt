@@ -18,18 +18,22 @@ use Rattle.pkcheck.specs.Knowledge.{Asked, Policy}
 use Rattle.pkcheck.specs.Refused.{RefusedFrom}
 use Rattle.pkcheck.specs.RowOfPickles.{AreAccepted, begins, bytes_of_all}
 use Rattle.pkcheck.specs.RowRuns.{Pickle, sequences_of}
+use Rattle.pkcheck.specs.Shape.{and_then}
 use Rattle.pkcheck.specs.declared.check_loop.Extent.{Extent}
 use Rattle.pkcheck.specs.declared.check_loop.Extent.TheVariants.{OnePickle, ToTheEnd}
 use Rattle.pkcheck.specs.declared.check_loop.RefusedPickle.{RefusedPickle}
 use Rattle.pkcheck.specs.declared.loading.Loading.{Loading}
 use Rattle.pkload.proofs.Costs.{takes_none}
+use Rattle.pkload.proofs.SameBytes.{bill_alike, same_bill}
 use Rattle.pkload.proofs.SameBytes.{consumed, one_excess, one_place, refused_or_over}
 use Rattle.pkload.proofs.SameBytes.{yes_or_over, yes_or_refused}
 use Rattle.pkload.proofs.SameRows.{Compared, Longer, compare, first_empty, none_left, same_bytes}
-use Rattle.pkload.proofs.SameRows.{same_count, takes_some}
+use Rattle.pkload.proofs.SameRows.{same_count, sequences_with}
+use Rattle.pkload.proofs.SameRows.{takes_some}
+use Rattle.pkload.specs.Bill.{Bill, all_billed, bill_before}
 use Rattle.pkload.specs.Costly.{CostsTooMuch, ExceedsIn}
 use Rattle.pkload.specs.Loading.{AcceptedWithBill, AcceptedWithin, CostsWithin, KeepWithin}
-use Rattle.pkload.specs.Loading.{StaysWithin}
+use Rattle.pkload.specs.Loading.{StaysWithin, bill_of, last_bill}
 use Rattle.pkload.specs.OneEnd.{Fits, Loaded, OneEndFits, SameEnd}
 use Rattle.pkload.specs.declared.checking.Costly.{Costly}
 use Rattle.pkload.specs.declared.checking.YesWithBill.{YesWithBill}
@@ -47,6 +51,47 @@ kept_there loading tolls (y ∷ front) done x more h =
     subst (λ l. CostsWithin loading.old_strings (begins loading.memo l) tolls x.instructions)
     (append_assoc done (y ∷ []) front)
     (kept_there loading tolls front (done ++ y ∷ []) x more h.1)
+
+same_first : (p q : List Instruction) (ps qs : List (List Instruction)) → p ∷ ps ≡ q ∷ qs
+    → (p ≡ q) × (ps ≡ qs)
+same_first p q ps qs e = (cc, cc)
+
+not_none : (p : List Instruction) (ps : List (List Instruction)) → [] ≡ p ∷ ps → ⊥
+not_none p ps e = cc
+
+module _ (loading : Loading) (tolls : Tolls) where
+  one_bill : (xs ys : List Pickle) (p q : List Instruction) → sequences_of xs ≡ sequences_of ys
+      → p ≡ q → (h : CostsWithin loading.old_strings (begins loading.memo xs) tolls p)
+      (g : CostsWithin loading.old_strings (begins loading.memo ys) tolls q) → h.bill ≡ g.bill
+  one_bill xs ys p q e f h g = same_bill h.bill g.bill
+      (sym h.billed ∙ ap (λ x. and_then x (all_billed p)) (bill_alike loading.memo xs ys e)
+      ∙ ap (λ l. and_then (bill_before (begins loading.memo ys)) (all_billed l)) f ∙ g.billed)
+
+  -- the bill of the last pickle depends on the instructions alone
+  last_alike : (xs ys done gone : List Pickle) → sequences_of xs ≡ sequences_of ys
+      → sequences_of done ≡ sequences_of gone → (h : KeepWithin loading tolls done xs)
+      (g : KeepWithin loading tolls gone ys)
+      → last_bill loading tolls done xs h ≡ last_bill loading tolls gone ys g
+  last_alike [] [] done gone e f h g = refl
+  last_alike (x ∷ []) (y ∷ []) done gone e f h g =
+      ap Some (one_bill done gone x.instructions y.instructions f
+      (same_first x.instructions y.instructions [] [] e).0 h.0 g.0)
+  last_alike (x ∷ v ∷ xs) (y ∷ w ∷ ys) done gone e f h g =
+      let s = same_first x.instructions y.instructions (sequences_of (v ∷ xs))
+      (sequences_of (w ∷ ys)) e in
+      last_alike (v ∷ xs) (w ∷ ys) (done ++ x ∷ []) (gone ++ y ∷ []) s.1
+      (sequences_with done x ∙ ap (λ l. l ++ x.instructions ∷ []) f
+      ∙ ap (λ p. sequences_of gone ++ p ∷ []) s.0 ∙ sym (sequences_with gone y)) h.1 g.1
+  last_alike [] (y ∷ ys) done gone e f h g =
+      absurd (not_none y.instructions (sequences_of ys) e)
+  last_alike (x ∷ xs) [] done gone e f h g =
+      absurd (not_none x.instructions (sequences_of xs) (sym e))
+  last_alike (x ∷ []) (y ∷ w ∷ ys) done gone e f h g =
+      absurd (not_none w.instructions (sequences_of ys)
+      (same_first x.instructions y.instructions [] (sequences_of (w ∷ ys)) e).1)
+  last_alike (x ∷ v ∷ xs) (y ∷ []) done gone e f h g =
+      absurd (not_none v.instructions (sequences_of xs)
+      (sym (same_first x.instructions y.instructions (sequences_of (v ∷ xs)) [] e).1))
 
 module _ (front : OneFront) (goes : SequenceGoesOn) (unique : OneSequence) (begin : OneBegins)
     (behind : RefusedBehind) (excludes : YesExcludesNo) (of_row : YesOfRowExcludesNo)
@@ -250,19 +295,26 @@ module _ (front : OneFront) (goes : SequenceGoesOn) (unique : OneSequence) (begi
       o.here old (c.1 ∙ ap Some (sym c.2)) is front goes new x.yes.taken y.at x.yes.imports y.excess
       a.0 a.0.instructions refl a.1 o.over
 
+  abbrev bill_in : (extent : Extent) (old new : Sight) (x : YesWithBill)
+      → AcceptedWithin loading policy limits tolls old new extent x.yes → Option Bill
+  bill_in extent old new x a = bill_of loading policy limits tolls old new extent x.yes a
+
   yes_yes : (extent : Extent) (old new other after : Sight) (x y : YesWithBill)
       → old.left ≡ Some bytes → other.left ≡ Some bytes
-      → AcceptedWithin loading policy limits tolls old new extent x.yes
-      → AcceptedWithin loading policy limits tolls other after extent y.yes
+      → (a : AcceptedWithin loading policy limits tolls old new extent x.yes)
+      (b : AcceptedWithin loading policy limits tolls other after extent y.yes)
       → (x.yes.pickles ≡ y.yes.pickles) × (x.yes.taken ≡ y.yes.taken)
+      × (bill_in extent old new x a ≡ bill_in extent other after y b)
   yes_yes ToTheEnd old new other after x y is also a b =
       by_rows (compared a.0.row b.0.row old new other after is also a.0.each b.0.each)
     where
       by_rows : Both a.0.row b.0.row new after
           → (x.yes.pickles ≡ y.yes.pickles) × (x.yes.taken ≡ y.yes.taken)
+          × (bill_in ToTheEnd old new x a ≡ bill_in ToTheEnd other after y b)
       by_rows (inl s) = (
         a.0.number ∙ same_count a.0.row b.0.row s.same ∙ sym b.0.number,
         a.0.count ∙ same_bytes a.0.row b.0.row s.same ∙ sym b.0.count,
+        last_alike loading tolls a.0.row b.0.row [] [] s.same refl a.1 b.1,
       )
       by_rows (inr (inl l)) = absurd (not_longer a.0.row b.0.row after b.0.ends l)
       by_rows (inr (inr l)) = absurd (not_longer b.0.row a.0.row new a.0.ends l)
@@ -273,13 +325,29 @@ module _ (front : OneFront) (goes : SequenceGoesOn) (unique : OneSequence) (begi
       c.0 d.0 a.0.sequence b.0.sequence (sym c.2 ∙ d.2) in (
         a.2 ∙ sym b.2,
         a.0.count ∙ ap (λ l. length (spellings l)) u.0 ∙ sym b.0.count,
+        ap Some (one_bill loading tolls [] [] a.0.instructions b.0.instructions refl u.0 a.1 b.1),
+      )
+
+  same_some : (b c : Bill) → Some b ≡ Some c → b ≡ c
+  same_some b c e = cc
+
+  both_yes : (extent : Extent) (old new other after : Sight) (x y : YesWithBill)
+      → old.left ≡ Some bytes → other.left ≡ Some bytes → Accepted extent old new x
+      → Accepted extent other after y → SameEnd (Ok (Ok x)) (Ok (Ok y))
+  both_yes extent old new other after x y is also h g =
+      let k = yes_yes extent old new other after x y is also h.right g.right in
+      let same = same_some h.bill g.bill (sym h.last ∙ k.2 ∙ g.last) in (
+        k.0,
+        k.1,
+        h.tally ∙ ap (λ (b : Bill). b.tally) same ∙ sym g.tally,
+        h.memory ∙ ap (λ (b : Bill). b.memory) same ∙ sym g.memory,
       )
 
   ends : (extent : Extent) (old new other after : Sight) (a b : Loaded) → old.left ≡ Some bytes
       → other.left ≡ Some bytes → Fits loading policy limits tolls extent old new a
       → Fits loading policy limits tolls extent other after b → SameEnd a b
   ends extent old new other after (Ok (Ok x)) (Ok (Ok y)) is also h g =
-      yes_yes extent old new other after x y is also h.right g.right
+      both_yes extent old new other after x y is also h g
   ends extent old new other after (Ok (Ok x)) (Ok (Err y)) is also h g =
       yes_refused extent old new other after x y is also h.right g
   ends extent old new other after (Ok (Err x)) (Ok (Ok y)) is also h g =

@@ -175,7 +175,7 @@ with_last is i (Ok b) earlier bill e h = billed_more is (i ∷ []) b
     ∙ ap (λ y. and_then y (all_billed (i ∷ []))) e ∙ ap (λ y. and_then y (all_billed [])) h
 with_last is i (Err r) earlier bill e h = cc
 
-same_bill : (a b : Bill) → ◌≡◌ {A = Result Bill Breach} (Ok a) (Ok b) → a ≡ b
+pub same_bill : (a b : Bill) → ◌≡◌ {A = Result Bill Breach} (Ok a) (Ok b) → a ≡ b
 same_bill a b e = cc
 
 -- the bill behind pickles depends on their instructions alone
@@ -189,7 +189,7 @@ behind_is Fresh xs = refl
 behind_is Kept [] = refl
 behind_is Kept (x ∷ xs) = refl
 
-bill_alike : (memo : Memo) (xs ys : List Pickle) → sequences_of xs ≡ sequences_of ys
+pub bill_alike : (memo : Memo) (xs ys : List Pickle) → sequences_of xs ≡ sequences_of ys
     → bill_before (begins memo xs) ≡ bill_before (begins memo ys)
 bill_alike memo xs ys e = behind_is memo xs ∙ ap (bill_behind memo) e ∙ sym (behind_is memo ys)
 

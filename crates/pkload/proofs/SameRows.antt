@@ -30,7 +30,7 @@ pub same_bytes : (xs ys : List Pickle) → sequences_of xs ≡ sequences_of ys
     → length (bytes_of_all xs) ≡ length (bytes_of_all ys)
 same_bytes xs ys e = ap (λ ps. length (flat_map spellings ps)) e
 
-sequences_with : (xs : List Pickle) (x : Pickle)
+pub sequences_with : (xs : List Pickle) (x : Pickle)
     → sequences_of (xs ++ x ∷ []) ≡ sequences_of xs ++ x.instructions ∷ []
 sequences_with xs x = map-append (λ (z : Pickle). z.instructions) xs (x ∷ [])
 

@@ -30,10 +30,11 @@ module _ (loading : Loading) (policy : Policy) (limits : Bounds) (tolls : Tolls)
     Fits old new (Err costly) =
         CostsTooMuch loading policy limits tolls old extent costly.pickle costly.at costly.excess
 
--- both are a yes to as many pickles and bytes, both a refusal of the same instruction, or both the
--- same limit at the same instruction
+-- both are a yes to as many pickles and bytes with the same bill, both a refusal of the same
+-- instruction, or both the same limit at the same instruction
 abbrev pub SameEnd : Loaded → Loaded → Type 0
 SameEnd (Ok (Ok a)) (Ok (Ok b)) = (a.yes.pickles ≡ b.yes.pickles) × (a.yes.taken ≡ b.yes.taken)
+    × (a.tally ≡ b.tally) × (a.memory ≡ b.memory)
 SameEnd (Ok (Err a)) (Ok (Err b)) = (a.pickle ≡ b.pickle) × (a.no.at ≡ b.no.at)
 SameEnd (Err a) (Err b) = (a.pickle ≡ b.pickle) × (a.at ≡ b.at) × (a.excess ≡ b.excess)
 SameEnd _ _ = ⊥

@@ -61,9 +61,10 @@ impl fmt::Display for Costly {
 /// # Errors
 ///
 /// The first limit that an instruction exceeds which the check accepts, with its place. What the
-/// check refuses at this instruction or before it comes first. Each run that gets past the
-/// instruction and whose answers are new objects exceeds the limit. `OutOfMemory` says no more than
-/// that the bill couldn't be kept.
+/// check refuses at this instruction or before it comes first. Some run whose answers are new
+/// objects gets past the instruction, and each run that gets there exceeds the limit, whatever is
+/// answered, if old strings are decoded to new objects. `OutOfMemory` says no more than that the
+/// bill couldn't be kept.
 pub fn check_loading<R: Source>(
     alloc: Global,
     source: &mut R,

@@ -22,9 +22,9 @@ pub fn excess_stays()
     ensures { ExcessStays }
 {}
 
-/// Two answers to the same bytes under the same settings are both yes, both a refusal of the same
-/// instruction, or both the same limit at the same instruction, except for a refused allocation or
-/// a failed read.
+/// Two answers to the same bytes under the same settings are both yes with the same bill, both a
+/// refusal of the same instruction, or both the same limit at the same instruction, except for a
+/// refused allocation or a failed read.
 pub fn one_end()
     ensures { OneEndFits }
 {
