@@ -245,8 +245,8 @@ static PyObject *read_list(PyObject *Py_UNUSED(module), PyObject *args) {
     storklocker_read_list(
         (const uint8_t *)list, (size_t)length, start, (size_t)size, &s, &wanted, &v);
     return Py_BuildValue(
-        "I(KKKKKI)KN", v.reason, s.counted, s.stack, s.memo, s.passed, s.numbers, s.large, wanted,
-        room);
+        "I(KKKKKI)(IIKKKI)KN", v.reason, s.counted, s.stack, s.memo, s.passed, s.numbers, s.large,
+        s.levels, s.weight, s.work, s.clash, s.memory, s.builds, wanted, room);
 }
 
 static PyMethodDef methods[] = {
@@ -271,7 +271,7 @@ static PyMethodDef methods[] = {
      "What loading an accepted pickle costs, if the settings limit costs; None if it is refused."},
     {"imports", AS_C_FUNCTION(imports), METH_FASTCALL,
      "The Verdict with every import permitted, bytes needed, and the imports."},
-    {"read_list", read_list, METH_VARARGS, "Fault or 0, limits, bytes needed, and the pairs."},
+    {"read_list", read_list, METH_VARARGS, "Fault or 0, limits, costs, bytes needed, and the pairs."},
     {NULL, NULL, 0, NULL}};
 
 static int filled(PyObject *module) {

@@ -29,6 +29,8 @@ extern __typeof__(storklocker_check_list) pkguard_check_list;
 extern __typeof__(storklocker_check_row) pkguard_check_row;
 extern __typeof__(storklocker_read_list) pkguard_read_list;
 extern __typeof__(storklocker_imports) pkguard_imports;
+extern uint32_t pkguard_list_costs(
+    const uint8_t *, size_t, struct costs *, struct storklocker_verdict *);
 extern uint32_t pkguard_check_loading(
     const struct storklocker_pair *, size_t, const struct storklocker_settings *,
     const struct costs *, const uint8_t *, size_t, uint8_t *, size_t, struct storklocker_verdict *,
@@ -100,7 +102,7 @@ const char *storklocker_fault_text(uint32_t fault) {
     static const char *const texts[] = {
         "", "Syntax", "Shape(Version)", "Shape(TopKey)", "Shape(Imports)", "Shape(Module)",
         "Shape(Name)", "Version", "OutOfMemory", "Shape(Limits)", "Shape(LimitKey)",
-        "Shape(Limit)"};
+        "Shape(Limit)", "Shape(Rules)", "Shape(RuleKey)", "Shape(Rule)"};
     return texts[fault < sizeof texts / sizeof *texts ? fault : 0];
 }
 
@@ -158,6 +160,25 @@ uint32_t storklocker_check_row(
     return check(pairs, count, settings, pickles, pickles_length, room, room_length, verdict, 1);
 }
 
+/* Writes the limits on costs of a list file that was read. Where it says nothing they stay. Returns
+   0 if an allocation is refused. */
+static int read_costs(
+    const uint8_t *list, size_t length, struct storklocker_settings *limits) {
+    struct costs said = {
+        limits->levels, limits->weight, limits->work, limits->clash, limits->memory,
+        limits->builds, 0};
+    struct storklocker_verdict verdict;
+    if (pkguard_list_costs(or_nothing(list), length, &said, &verdict) != STORKLOCKER_YES)
+        return 0;
+    limits->levels = said.levels;
+    limits->weight = said.weight;
+    limits->work = said.work;
+    limits->clash = said.clash;
+    limits->memory = said.memory;
+    limits->builds = said.builds;
+    return 1;
+}
+
 /* Whether a list file that was read has `numbers` among its limits, -1 if an allocation is refused.
    Written otherwise, that key is a fault, and a module of that name another module. */
 static int has_numbers(const uint8_t *list, size_t length) {
@@ -198,18 +219,21 @@ uint32_t storklocker_read_list(
     own.size = size_of(limits);
     pkguard_read_list(
         or_nothing(list), list_length, or_nothing(room), room_length, &own, wanted, verdict);
-    if (verdict->status == STORKLOCKER_YES && own.numbers == UINT32_MAX)
-        switch (has_numbers(list, list_length)) {
-        case 0:
+    if (verdict->status == STORKLOCKER_YES) {
+        int numbers = own.numbers == UINT32_MAX ? has_numbers(list, list_length) : 1;
+        if (numbers == 0)
             own.numbers = standard.numbers;
-            break;
-        case -1: {
-            const struct storklocker_verdict lacking = {
-                .status = STORKLOCKER_NO_LIST, .reason = STORKLOCKER_LIST_OUT_OF_MEMORY};
-            memcpy(verdict, &lacking, VERDICT_SIZE);
+        struct storklocker_verdict other = {0};
+        if (numbers == -1 || !read_costs(list, list_length, &own)) {
+            other.status = STORKLOCKER_NO_LIST;
+            other.reason = STORKLOCKER_LIST_OUT_OF_MEMORY;
+        } else if (limits != NULL && !are_of_this_version(limits) && limit_costs(&own))
+            other.status = STORKLOCKER_USAGE; /* the caller's header has no such limits */
+        if (other.status != STORKLOCKER_YES) {
+            memcpy(verdict, &other, VERDICT_SIZE);
             *wanted = 0;
         }
-        }
+    }
     if (limits != NULL && verdict->status == STORKLOCKER_YES) {
         own.size = limits->size;
         memcpy(limits, &own, own.size);

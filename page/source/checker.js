@@ -13,7 +13,8 @@ export const REASONS = [
 ];
 export const FAULTS = [
   "", "Syntax", "Shape(Version)", "Shape(TopKey)", "Shape(Imports)", "Shape(Module)", "Shape(Name)",
-  "Version", "OutOfMemory", "Shape(Limits)", "Shape(LimitKey)", "Shape(Limit)",
+  "Version", "OutOfMemory", "Shape(Limits)", "Shape(LimitKey)", "Shape(Limit)", "Shape(Rules)",
+  "Shape(RuleKey)", "Shape(Rule)",
 ];
 export const YES = 0, NO = 1, NO_LIST = 2;
 

@@ -2,6 +2,7 @@
 // the page as text.
 
 const LONGEST = 256;
+const UNSERVED = 3; // the status of a check under a list that limits what loading costs
 
 const SENTENCES = {
   Truncated: "the bytes end before the pickle does",
@@ -44,6 +45,7 @@ export function counted(number, one, more = `${one}s`) {
 // The line that `pktool check` prints.
 export function verdictLine(verdict) {
   if (verdict.status === 0) return `yes: ${verdict.taken} bytes, ${verdict.imports} imports`;
+  if (verdict.status === UNSERVED) return "the list limits what loading costs";
   if (verdict.status !== 1) return `the list can't be read: ${verdict.reason}`;
   const numbered = ["UnknownOpcode", "UnsupportedProtocol", "MissingMemo"];
   let reason = verdict.reason;
@@ -66,6 +68,9 @@ export function sentence(verdict) {
   if (verdict.status === 0) {
     const imports = verdict.imports === 0 ? "nothing" : counted(verdict.imports, "listed name");
     return `Its ${counted(verdict.taken, "byte")} import ${imports}, and leave one object.`;
+  }
+  if (verdict.status === UNSERVED) {
+    return "The list limits what loading costs, which pktool checks and this page doesn't.";
   }
   if (verdict.status !== 1) return "The list can't be read, so nothing was checked.";
   const place = `At byte ${verdict.at.toLocaleString("en")}`;

@@ -62,6 +62,9 @@ LIST_FAULTS = {
     9: "Shape(Limits)",
     10: "Shape(LimitKey)",
     11: "Shape(Limit)",
+    12: "Shape(Rules)",
+    13: "Shape(RuleKey)",
+    14: "Shape(Rule)",
 }
 
 SHOWN = 64

@@ -36,8 +36,8 @@ def check(
     Returns a Verdict; ignores bytes after STOP. `limits` defaults to the list's, or STANDARD; both
     apply if the list is from a file. `old_strings` says how Python 2 strings are decoded: "ascii"
     to text (a byte above 7f is refused), "bytes" to bytes, "unknown" to anything. `build` says what
-    BUILD, which sets attributes, may take: "made" no object that an import gave, "any" each. Raises
-    MemoryError.
+    BUILD, which sets attributes, may take, unless the list says so: "made" no object that an import
+    gave, "any" each. Raises MemoryError.
     """
     if limits is None and old_strings == "unknown" and build == "made":
         return verdict(data, allow, None)

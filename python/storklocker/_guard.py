@@ -69,7 +69,7 @@ class Guard(Loads):
         TooLarge. The default is 1 GiB.
     build: what BUILD, which sets attributes, may take: "made", the default, no object that an
         import gave, so that a pickle changes no listed class or function; "any" permits that too,
-        but under a list with names that have substitutes.
+        but under a list with names that have substitutes. What the list says comes first.
     """
 
     PickleError = pickle.PickleError

@@ -92,7 +92,7 @@ def _of_costs(asked: Dict[str, str], limits: Limits) -> str:
         if held[name] is not None
     ]
     named = ", ".join(f"{name}=.." for name in asked if held[name] is not None)
-    return f"{', or '.join(what)}: Limits({named}) of the guard raises it"
+    return f"{', or '.join(what)}: Limits({named}), or [limits] of a list file, raises it"
 
 
 def _of_argument(instruction: bytes) -> str:

@@ -106,7 +106,7 @@ def _first_missing(data: bytes, allow: AllowList, settings: Optional[bytes]) -> 
         if pair is None or room < 0:
             return
         names = (pair[0].encode(), pair[1].encode())
-        listed = listed._of((*listed._pairs, names), listed.limits)
+        listed = listed._of((*listed._pairs, names), listed.limits, listed.build)
         yield names
 
 

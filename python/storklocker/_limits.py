@@ -33,6 +33,8 @@ COSTS = {
 """The limits on what loading costs, each with its default and the number that stands for none in
 storklocker.h.
 """
+MOST_SAID = {name: min(most, (1 << 63) - 1) for name, (_, most) in COSTS.items()}
+"""The numbers that stand for none in a list file: the greatest that each may have there."""
 NO_COSTS: "Dict[str, Any]" = dict.fromkeys(COSTS)
 """The words that ask `Limits` for no limit on what loading costs."""
 BUILDS = ("made", "any")
@@ -67,7 +69,7 @@ class Limits(
     check with such limits, or with `build="made"`, takes twice as long or more.
     `Limits(levels=None, weight=None, work=None)` has none. Say so once, to the list or to the
     guard: of two such limits, one at its default yields to the other, and otherwise the smaller
-    applies. A list file has none of them.
+    applies.
 
     levels: levels of tuples in a key, each of which hashing descends by calls in C; default 1,000.
         From 1,023 on, a limit is none.
@@ -164,6 +166,20 @@ def limits_of(
         numbers=numbers,
         large=bool(large),
     )
+
+
+def costs_said(limits: Limits) -> "Dict[str, int]":
+    """The limits on costs that aren't at their defaults, as a list file says them. Raises
+    ValueError if it can't.
+    """
+    said = {}
+    for name, (usual, _) in COSTS.items():
+        limit, most = getattr(limits, name), MOST_SAID[name]
+        if limit is not None and limit >= most:
+            raise ValueError(f"in a list file {name} is below {most:,}, or none")
+        if limit != usual:
+            said[name] = most if limit is None else limit
+    return said
 
 
 def least(one: Limits, other: Limits) -> Limits:

@@ -6,7 +6,7 @@ from types import MappingProxyType
 
 from . import _names
 from ._answers import LIST_FAULTS, ListFault
-from ._limits import BUILDS, OLD_STRINGS, Limits, least, limits_of, packed
+from ._limits import BUILDS, COSTS, MOST_SAID, OLD_STRINGS, Limits, least, limits_of, packed
 from ._storklocker import Pairs as _Pairs
 from ._storklocker import pairs_of, read_list
 
@@ -54,15 +54,18 @@ class AllowList(_Pairs):
         meant. A guard accepts no list with one that has no substitute and isn't named here.
     limits: Limits that apply to every check under the list, as those of a list file do; None if it
         has none. `Limits(levels=None, weight=None, work=None)` limits nothing of what loading
-        costs, which a list file can't say.
+        costs.
+    build: what BUILD may take in every check under the list, in place of what the check or the
+        guard says: "made" or "any"; None if the list leaves it to them.
     """
 
     # (PyPy gives the base class a `__weakref__`)
     __slots__ = (
-        *("_limits", "_loaded", "_fixed", "_guard", "_meant"),
+        *("_limits", "_build", "_loaded", "_fixed", "_guard", "_meant"),
         *(() if hasattr(_Pairs, "__weakref__") else ("__weakref__",)),
     )
     _limits: "Optional[Limits]"
+    _build: "Optional[str]"
     _loaded: "Optional[AllowList]"
     _fixed: "Optional[AllowList]"
     _guard: "Any"
@@ -75,9 +78,11 @@ class AllowList(_Pairs):
         substitutes: "Mapping[Any, Substitute]" = MappingProxyType({}),
         dangerous: "Iterable[Union[str, Pair]]" = (),
         limits: "Optional[Limits]" = None,
+        build: "Optional[str]" = None,
     ) -> "AllowList":
         own = _limits_in(limits)
-        return cls._saying(cls._of(_encoded(pairs), own), substitutes, dangerous)
+        said = None if build is None else _build_in(build)
+        return cls._saying(cls._of(_encoded(pairs), own, said), substitutes, dangerous)
 
     @classmethod
     def _saying(cls, made: "AllowList", substitutes: "Any", dangerous: "Any") -> "AllowList":
@@ -93,11 +98,12 @@ class AllowList(_Pairs):
         cls,
         pairs: "Iterable[Tuple[bytes, bytes]]",
         limits: "Optional[Limits]",
+        build: "Optional[str]",
         settings: "Optional[bytes]" = None,
     ) -> "AllowList":
-        own = packed(STANDARD if limits is None else limits, "unknown", False, "made")
+        own = packed(STANDARD if limits is None else limits, "unknown", False, build or "made")
         made = pairs_of(cls, tuple(sorted(set(pairs))), settings or own)
-        made._limits = limits
+        made._limits, made._build = limits, build
         made._loaded = made._fixed = made._guard = made._meant = None
         return made
 
@@ -106,7 +112,8 @@ class AllowList(_Pairs):
         """Parses the text of a list file. Raises ListFault if it is not one, and ValueError if its
         section `[substitutes]` has a name that isn't listed.
 
-        If its limits leave out `numbers`, the limit of `STANDARD` applies.
+        If its limits leave out `numbers` or one on costs, the limit of `STANDARD` applies. The
+        greatest number for a limit on costs is none.
         """
         if not isinstance(text, (str, bytes, bytearray)):
             raise TypeError(f"the text of a list file must be str or bytes, not {type(text)!r}")
@@ -116,12 +123,16 @@ class AllowList(_Pairs):
             from ._sections import split
 
             data, said = split(data)
-        (fault, numbers), room = with_room(lambda size: read_list(data, size))
+        (fault, numbers, costs), room = with_room(lambda size: read_list(data, size))
         if fault != 0:
             raise _fault_of(data, LIST_FAULTS[fault])
         pairs = ((module or b"", name or b"") for module, name in records(room))
-        limits = limits_of(*numbers) if _has_limits(data) else None
-        return cls._saying(cls._of(pairs, limits), *said)
+        *costs, builds = costs
+        heard = (_heard(data, name, number) for name, number in zip(COSTS, costs))
+        own = limits_of(*numbers)._replace(**dict(zip(COSTS, heard)))
+        limits = own if _has_limits(data) else None
+        is_ruled = builds == 0 or _says(data, b"build", "Shape(RuleKey)")
+        return cls._saying(cls._of(pairs, limits, BUILDS[builds] if is_ruled else None), *said)
 
     @classmethod
     def from_file(cls, file: "Union[str, os.PathLike[str]]") -> "AllowList":
@@ -154,6 +165,11 @@ class AllowList(_Pairs):
         """The limits that it has; None if there are none."""
         return self._limits
 
+    @property
+    def build(self) -> "Optional[str]":
+        """What BUILD may take under it; None if it doesn't say."""
+        return self._build
+
     def __iter__(self) -> "Iterator[Pair]":
         for module, name in self._pairs:
             yield (module.decode(), name.decode())
@@ -181,7 +197,9 @@ class AllowList(_Pairs):
         """The union of the pairs, under the limits of both."""
         if not isinstance(other, AllowList):
             return NotImplemented
-        made = type(self)._of(self._pairs + other._pairs, within(self._limits, other._limits))
+        limits, builds = within(self._limits, other._limits), (self._build, other._build)
+        build = "made" if "made" in builds else builds[0] or builds[1]
+        made = type(self)._of(self._pairs + other._pairs, limits, build)
         if self._meant or other._meant:
             from ._meant import both
 
@@ -191,28 +209,29 @@ class AllowList(_Pairs):
     def __eq__(self, other: object) -> bool:
         if not isinstance(other, AllowList):
             return NotImplemented
-        mine, its = (self._limits, self._meant), (other._limits, other._meant)
-        return self._pairs == other._pairs and mine == its
+        mine = (self._limits, self._build, self._meant)
+        return self._pairs == other._pairs and mine == (other._limits, other._build, other._meant)
 
     def __hash__(self) -> int:
-        return hash((self._pairs, self._limits))
+        return hash((self._pairs, self._limits, self._build))
 
     def __repr__(self) -> str:
         shown = [repr(pair) for pair, _ in zip(self, range(4))]
         if len(self) > len(shown):
             shown.append(f"... {len(self) - len(shown)} more")
         limits = "" if self._limits is None else f" within {self._limits!r}"
-        return f"AllowList([{', '.join(shown)}]){limits}"
+        build = "" if self._build is None else f" with build={self._build!r}"
+        return f"AllowList([{', '.join(shown)}]){limits}{build}"
 
     def __reduce__(self) -> "Tuple[Any, ...]":
-        said = () if self._meant is None else tuple(self._meant)
-        return (_list_of, (type(self), self._pairs, self._limits, *said))
+        said = ({}, ()) if self._meant is None else tuple(self._meant)
+        return (_list_of, (type(self), self._pairs, self._limits, *said, self._build))
 
     def _under(self, settings: bytes) -> "AllowList":
         """The list with these settings for the calls that name none."""
         if settings == settings_of(self, None, "unknown"):
             return self
-        return self._of(self._pairs, self._limits, settings)
+        return self._of(self._pairs, self._limits, self._build, settings)
 
     def _for_loading(self) -> "AllowList":
         """The pairs that this Python can import, without those of modules that only Python 2 has.
@@ -226,12 +245,12 @@ class AllowList(_Pairs):
         """The pairs that CPython maps to a pair of this list, with `fix_imports`."""
         if self._fixed is None:
             pairs = (_bytes_of_pair(old) for pair in self for old in _names.old_names(pair))
-            self._fixed = self._of(pairs, self._limits)
+            self._fixed = self._of(pairs, self._limits, self._build)
         return self._fixed
 
     def _without(self, lost: "List[Pair]") -> "AllowList":
         left = set(self._pairs) - {_bytes_of_pair(pair) for pair in lost}
-        return self._of(left, self._limits)
+        return self._of(left, self._limits, self._build)
 
 
 def _fault_of(text: bytes, fault: str) -> Exception:
@@ -245,8 +264,27 @@ def _fault_of(text: bytes, fault: str) -> Exception:
 
 def _has_limits(text: bytes) -> bool:
     """Whether a list file has the table `limits`: TOML permits no second one."""
-    (fault, _), _ = with_room(lambda size: read_list(text + b"\n[limits]\n", size))
+    (fault, *_), _ = with_room(lambda size: read_list(text + b"\n[limits]\n", size))
     return bool(LIST_FAULTS.get(fault) == "Syntax")
+
+
+def _says(text: bytes, key: bytes, fault: str) -> bool:
+    """Whether a list file has a key, which written otherwise has this fault. False if it is escaped:
+    then defaults apply, which permit less.
+    """
+    if key not in text:
+        return False
+    other = text.replace(key, b"-" + key[1:])
+    (found, *_), _ = with_room(lambda size: read_list(other, size))
+    return LIST_FAULTS.get(found) == fault
+
+
+def _heard(text: bytes, name: str, number: int) -> "Optional[int]":
+    """The limit on costs of a list file: the number that was read, or the default if it has none."""
+    usual, most = COSTS[name]
+    if number == most and not _says(text, name.encode(), "Shape(LimitKey)"):
+        return usual
+    return None if number in (most, MOST_SAID[name]) else number
 
 
 def has_substitutes(allow: AllowList) -> bool:
@@ -269,9 +307,11 @@ def _list_of(
     kind: "Type[AllowList]",
     pairs: "Tuple[Tuple[bytes, bytes], ...]",
     limits: "Optional[Limits]",
-    *said: "Any",
+    substitutes: "Any" = MappingProxyType({}),
+    dangerous: "Any" = (),
+    build: "Optional[str]" = None,
 ) -> AllowList:
-    return kind._saying(kind._of(pairs, limits), *(said or ({}, ())))
+    return kind._saying(kind._of(pairs, limits, build), substitutes, dangerous)
 
 
 @functools.lru_cache(maxsize=64)
@@ -358,6 +398,13 @@ def _limits_in(given: "Optional[Limits]") -> "Optional[Limits]":
     return given
 
 
+def _build_in(given: str) -> str:
+    """An argument that must say what BUILD may take."""
+    if given not in BUILDS:
+        raise ValueError(f"build must be 'made' or 'any', not {given!r}")
+    return given
+
+
 def settings_of(
     allow: AllowList,
     limits: "Optional[Limits]",
@@ -365,15 +412,17 @@ def settings_of(
     build: str = "made",
     keeps_memo: bool = False,
 ) -> bytes:
-    """The settings of a check as the library reads them. The limits of the list apply too."""
+    """The settings of a check as the library reads them. The limits of the list apply too, and its
+    word on BUILD comes first.
+    """
     if not isinstance(allow, AllowList):
         raise TypeError(f"allow must be a storklocker.AllowList, not {type(allow)!r}")
     _limits_in(limits)
     if old_strings not in OLD_STRINGS:
         raise ValueError(f"old_strings must be 'unknown', 'ascii' or 'bytes', not {old_strings!r}")
-    if build not in BUILDS:
-        raise ValueError(f"build must be 'made' or 'any', not {build!r}")
-    return packed(within(limits, allow._limits) or STANDARD, old_strings, keeps_memo, build)
+    own = _build_in(build)
+    applied = within(limits, allow._limits) or STANDARD
+    return packed(applied, old_strings, keeps_memo, allow._build or own)
 
 
 def records(room: bytes) -> "Iterator[Names]":

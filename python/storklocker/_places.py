@@ -9,7 +9,12 @@ from __future__ import annotations
 import re
 from typing import Any, Dict, List, NamedTuple, Optional, Tuple
 
-_LIMITS = ("counted", "depth", "large", "memo", "numbers", "passed", "stack", "values")
+from ._limits import MOST_SAID
+
+_LIMITS = (
+    *("clash", "counted", "depth", "large", "levels", "memo", "memory", "numbers", "passed"),
+    *("stack", "values", "weight", "work"),
+)
 _SHOWN = 60
 """The number of characters of a text that a hint shows."""
 
@@ -261,15 +266,17 @@ def _version(top: Dict[str, _Node]) -> Place:
 
 def _top_key(top: Dict[str, _Node]) -> Place:
     for key, node in top.items():
-        if key == "limits" and top["version"].value == 1:
-            return Place(node.line, f"limits need version = 2, in line {top['version'].line}")
-        if key in ("version", "imports", "limits"):
+        if key in ("limits", "rules") and top["version"].value == 1:
+            return Place(node.line, f"{key} need version = 2, in line {top['version'].line}")
+        if key in ("version", "imports", "limits", "rules"):
             continue
+        if key == "build":
+            return Place(node.line, "put build below [rules]")
         if key in _LIMITS:
             return Place(node.line, f"put {key} below [limits]")
         if isinstance(node.value, list):
             return Place(node.line, f"put {_shown(key)} below [imports]")
-        return Place(node.line, f"{_shown(key)} is none of the keys version, imports and limits")
+        return Place(node.line, f"{_shown(key)} is none of version, imports, limits and rules")
     return Place(0, "")
 
 
@@ -345,6 +352,8 @@ def _limit(top: Dict[str, _Node]) -> Place:
 def _greatest(key: str, is_large: bool) -> int:
     if key in ("counted", "stack", "memo") and is_large or key == "numbers":
         return 4_294_967_295
+    if key in MOST_SAID:
+        return MOST_SAID[key]
     usual = {"counted": 16_777_216, "passed": 1_099_511_627_776, "depth": 100}
     return usual.get(key, 1_000_000)
 
@@ -353,6 +362,21 @@ def _is_raised(key: str, node: _Node, large: Optional[_Node]) -> bool:
     """Whether a limit for large data would do."""
     is_raised = key in ("counted", "stack", "memo") and large is None
     return is_raised and _is_integer(node.value) and node.value > 0
+
+
+def _rules(top: Dict[str, _Node]) -> Place:
+    return Place(top["rules"].line, 'write [rules], and below it build = "made"')
+
+
+def _rule_key(top: Dict[str, _Node]) -> Place:
+    for key, node in top["rules"].value.items():
+        if key != "build":
+            return Place(node.line, f"{_shown(key)} is no rule, but build is")
+    return Place(0, "")
+
+
+def _rule(top: Dict[str, _Node]) -> Place:
+    return Place(top["rules"].value["build"].line, 'write build = "made", or build = "any"')
 
 
 _FINDERS = {
@@ -365,4 +389,7 @@ _FINDERS = {
     "Shape(Limits)": _limits,
     "Shape(LimitKey)": _limit_key,
     "Shape(Limit)": _limit,
+    "Shape(Rules)": _rules,
+    "Shape(RuleKey)": _rule_key,
+    "Shape(Rule)": _rule,
 }

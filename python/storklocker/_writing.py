@@ -9,7 +9,7 @@ import stat
 from pathlib import Path
 from typing import Any, Dict, Iterator, List, Union
 
-from ._limits import COSTS, limits_of
+from ._limits import COSTS, costs_said
 from ._lists import AllowList
 
 _LONGEST = 100
@@ -18,8 +18,6 @@ _BARE = re.compile(r"[A-Za-z0-9_-]+")
 
 def text_of(allow: AllowList) -> str:
     """The list file of a list. Raises ValueError if no file can say what the list says."""
-    if allow.limits is not None and allow.limits != limits_of(*allow.limits[: -len(COSTS)]):
-        raise ValueError("no list file limits what loading costs: give these limits to the guard")
     text = "".join(f"{line}\n" for line in _lines(allow))
     if type(allow).from_text(text) != allow:
         raise ValueError("no list file says what this list does: name its classes otherwise")
@@ -38,6 +36,9 @@ def _lines(allow: AllowList) -> Iterator[str]:
         *numbers, large = allow.limits[: -len(COSTS)]
         yield from (f"{limit} = {it}" for limit, it in zip(allow.limits._fields, numbers))
         yield from ["large = true"] if large else []
+        yield from (f"{limit} = {it}" for limit, it in costs_said(allow.limits).items())
+    if allow.build is not None:
+        yield from ("", "[rules]", f'build = "{allow.build}"')
     if allow._meant is not None:
         from ._sections import said_of
 

@@ -173,7 +173,10 @@ enum storklocker_fault {
     STORKLOCKER_LIST_OUT_OF_MEMORY = 8,
     STORKLOCKER_LIST_SHAPE_LIMITS = 9,
     STORKLOCKER_LIST_SHAPE_LIMIT_KEY = 10,
-    STORKLOCKER_LIST_SHAPE_LIMIT = 11
+    STORKLOCKER_LIST_SHAPE_LIMIT = 11,
+    STORKLOCKER_LIST_SHAPE_RULES = 12,
+    STORKLOCKER_LIST_SHAPE_RULE_KEY = 13,
+    STORKLOCKER_LIST_SHAPE_RULE = 14
 };
 
 /* The name of a reason, such as "ImportOffList", or of a fault, such as "Shape(Imports)": static
@@ -197,8 +200,8 @@ uint32_t storklocker_check_pairs(
 
 /* Like storklocker_check_pairs, with the text of a list file, which is parsed on every call; to
    parse it once, use storklocker_read_list. Each limit is the smaller of the list's and the
-   settings'. The `large` and `sorted` of the settings are ignored. A limit on costs is
-   STORKLOCKER_USAGE: read the list, and check under its pairs. */
+   settings'. The `large` and `sorted` of the settings are ignored. A limit on costs, of the list
+   or of the settings, is STORKLOCKER_USAGE: read the list, and check under its pairs. */
 uint32_t storklocker_check_list(
     const uint8_t *list, size_t list_length,
     const struct storklocker_settings *settings,
@@ -228,7 +231,8 @@ uint32_t storklocker_check_row(
    fault. The pairs are in the byte order of their modules, and within a module in the order of its
    array, repetitions included. `limits` receives the limits of the list, and the standard value of
    each that the list leaves out; set its `size` before the call. Its other fields receive their
-   standard values. */
+   standard values. STORKLOCKER_USAGE: the list limits costs, and `limits` is of an earlier version,
+   which can't say so. */
 uint32_t storklocker_read_list(
     const uint8_t *list, size_t list_length,
     uint8_t *room, size_t room_length,

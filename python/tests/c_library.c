@@ -276,6 +276,37 @@ static void unkept(void) {
     IS(given.builds == 1 && given.unused == 0);
 }
 
+/* What a list file says of costs is told to a caller whose header has it, and to no other. */
+static void listed_costs(void) {
+    static const char few[] = "version = 2\n[imports]\n[limits]\nlevels = 3\nmemory = 9\n";
+    static const char made[] = "version = 2\n[imports]\n[rules]\nbuild = 'made'\n";
+    static const char any[] = "version = 2\n[imports]\n[limits]\nweight = 4294967295\n"
+                              "[rules]\nbuild = 'any'\n";
+    struct storklocker_settings given = standard, old = standard;
+    struct storklocker_verdict verdict;
+    uint64_t wanted = 1;
+    IS(storklocker_read_list(BYTES(few), NULL, 0, &given, NULL, NULL) == STORKLOCKER_YES);
+    IS(given.levels == 3 && given.memory == 9 && given.weight == UINT32_MAX && given.builds == 1);
+    IS(given.work == UINT64_MAX && given.clash == UINT64_MAX && given.stack == 1000000);
+    IS(storklocker_read_list(BYTES(made), NULL, 0, &given, NULL, NULL) == STORKLOCKER_YES);
+    IS(given.levels == UINT32_MAX && given.memory == UINT64_MAX && given.builds == 0);
+    IS(storklocker_check_list(BYTES(few), NULL, BYTES("N."), NULL, 0, &verdict) == 3);
+    IS(storklocker_check_list(BYTES(made), NULL, BYTES("N."), NULL, 0, &verdict) == 3);
+    IS(storklocker_check_list(BYTES(any), NULL, BYTES("N."), NULL, 0, &verdict) == 3);
+    old.size = offsetof(struct storklocker_settings, levels);
+    IS(storklocker_read_list(BYTES(few), NULL, 0, &old, &wanted, &verdict) == STORKLOCKER_USAGE);
+    IS(verdict.status == STORKLOCKER_USAGE && verdict.reason == 0 && wanted == 0);
+    IS(storklocker_read_list(BYTES(made), NULL, 0, &old, NULL, NULL) == STORKLOCKER_USAGE);
+    IS(storklocker_read_list(BYTES(any), NULL, 0, &old, NULL, NULL) == STORKLOCKER_YES);
+    for (long count = 0; count < 100; count++) {
+        grant(count);
+        storklocker_read_list(BYTES(few), NULL, 0, &given, &wanted, &verdict);
+        grant(-1);
+        IS(verdict.status == 0 || verdict.reason == STORKLOCKER_LIST_OUT_OF_MEMORY);
+        IS(verdict.status != 0 || (given.levels == 3 && given.memory == 9));
+    }
+}
+
 /* A caller whose header has no costs: no byte of its settings and verdicts beyond them is used. */
 static void older(void) {
     size_t size = offsetof(struct storklocker_settings, levels);
@@ -309,6 +340,8 @@ static void texts(void) {
     IS(strcmp(storklocker_reason_text(STORKLOCKER_IMPORT_OFF_LIST), "ImportOffList") == 0);
     IS(strcmp(storklocker_reason_text(STORKLOCKER_NOT_ASCII), "NotAscii") == 0);
     IS(strcmp(storklocker_fault_text(STORKLOCKER_LIST_SHAPE_LIMIT), "Shape(Limit)") == 0);
+    IS(strcmp(storklocker_fault_text(STORKLOCKER_LIST_SHAPE_RULE), "Shape(Rule)") == 0);
+    IS(storklocker_fault_text(STORKLOCKER_LIST_SHAPE_RULE + 1)[0] == 0);
     IS(strcmp(storklocker_reason_text(STORKLOCKER_DEEP_KEY), "DeepKey") == 0);
     IS(strcmp(storklocker_reason_text(STORKLOCKER_BUILDS_IMPORT), "BuildsImport") == 0);
     IS(storklocker_reason_text(0)[0] == 0 && storklocker_reason_text(25)[0] == 0);
@@ -432,6 +465,7 @@ int main(void) {
     bills();
     unkept();
     older();
+    listed_costs();
     texts();
     rows();
     for (size_t less = 0; less < 2; less++) {

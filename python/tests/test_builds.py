@@ -183,6 +183,30 @@ class Changes(unittest.TestCase):
                           guard.learning(os.devnull, enforce=True)):
                 self.assertEqual(bool(other.check(data)), guard._build == "any")
 
+    def test_a_list_has_the_last_word(self):
+        names = {"job_program": ["Job", "resize"]}
+        hostile = HOSTILE["defaults of a function"]
+        for build in (None, "made", "any"):
+            allow = AllowList(names, build=build)
+            written = AllowList.from_text(allow.to_text())
+            for it in (allow, written, allow | AllowList([]), pickle.loads(pickle.dumps(written))):
+                self.assertEqual((it.build, it), (build, allow))
+                for given in ("made", "any"):
+                    is_accepted = (build or given) == "any"
+                    found = [
+                        storklocker.check(hostile, it, build=given),
+                        storklocker.check_row(hostile, it, build=given),
+                        Guard(it, build=given).check(hostile),
+                    ]
+                    self.assertEqual([one.accepted for one in found], 3 * [is_accepted])
+                own = build != "any"
+                self.assertEqual(storklocker.check(hostile, it).reason is None, not own)
+        stricter = AllowList(names, build="any") | AllowList([], build="made")
+        self.assertEqual(stricter.build, "made")
+        self.assertNotEqual(AllowList(names, build="any"), AllowList(names))
+        with self.assertRaisesRegex(ValueError, "build must be 'made' or 'any', not 'all'"):
+            AllowList(names, build="all")
+
     def test_wrong_values(self):
         for wrong in ("none", None, True):
             for call in (Guard, lambda allow, build: storklocker.check(b"N.", allow, build=build)):

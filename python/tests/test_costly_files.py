@@ -81,6 +81,16 @@ class Findings(unittest.TestCase):
         ((_, _, why), *_) = findings(FOUND["broken"][0])[::-1]
         self.assertNotIn("bill", why)
 
+    def test_a_list_that_limits_less_says_the_bill(self):
+        front, data = "version = 2\n[imports]\n[limits]\n", b"})" + b"\x85" * 9 + b"Ns."
+        for limit, reason in (("levels = 9", "DeepKey"), ("work = 9", "HeavyKeys")):
+            ((kind, severity, why),) = findings(data, AllowList.from_text(f"{front}{limit}\n"))
+            self.assertEqual((kind, severity), ("refused", "refused"))
+            self.assertIn(f"no at 12: {reason} (", why)
+            self.assertIn(", or [limits] of a list file, raises it", why)
+            self.assertTrue(why.endswith("; bill: levels 10, weight 10, work 10"), why)
+        self.assertEqual(findings(data, AllowList.from_text(f"{front}levels = 10\n")), [])
+
     def test_what_is_within_the_limits_is_none(self):
         for data in (
             b"})" + b"2\x86" * 18 + b"Ns.",

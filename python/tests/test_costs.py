@@ -331,8 +331,38 @@ class Lists(unittest.TestCase):
         self.assertEqual(AllowList.from_text(listed.to_text()), listed)
         made = AllowList([("a", "b")], limits=Limits(stack=9))
         self.assertEqual(AllowList.from_text(made.to_text()), made)
-        with self.assertRaisesRegex(ValueError, "no list file limits what loading costs"):
-            AllowList([], limits=FREE).to_text()
+        free = AllowList([], limits=FREE)
+        self.assertEqual(AllowList.from_text(free.to_text()), free)
+
+    def test_a_list_file_limits_them(self):
+        for name, number, data, reason, at in LIMITED:
+            allow = AllowList.from_text(f"version = 2\n[imports]\n[limits]\n{name} = {number}\n")
+            self.assertEqual(allow.limits, Limits(**{name: number}))
+            for it in (allow, pickle.loads(pickle.dumps(allow)), allow | NOTHING):
+                verdict = storklocker.check(data, it)
+                self.assertEqual((verdict.reason, verdict.at), (reason, at), name)
+                with self.assertRaises(Refused):
+                    Guard(it).loads(data)
+
+    def test_of_the_limits_of_a_file_and_a_guard_the_smaller_applies(self):
+        data = b"})\x85\x85Ns."
+        listed = "version = 2\n[imports]\n[limits]\nlevels = {}\n"
+        for levels, given, is_accepted in (
+            (3, Limits(), True),
+            (2, Limits(), False),
+            (3, Limits(levels=2), False),
+            (2, Limits(levels=3), False),
+            (2, FREE, False),
+            (4_294_967_295, Limits(levels=2), False),
+        ):
+            allow = AllowList.from_text(listed.format(levels))
+            self.assertEqual(storklocker.check(data, allow, limits=given).accepted, is_accepted)
+            guard = Guard(allow, limits=given)
+            self.assertEqual(guard.check(data).accepted, is_accepted)
+        rows = ("levels = 4_294_967_295", "weight = 4_294_967_295", f"work = {(1 << 63) - 1}")
+        free = AllowList.from_text("version = 2\n[imports]\n[limits]\n" + "\n".join(rows))
+        self.assertEqual(free.limits, FREE)
+        self.assertTrue(storklocker.check(ATTACK, free))
 
 
 class Imports(unittest.TestCase):

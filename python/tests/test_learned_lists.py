@@ -5,7 +5,7 @@ import pickle
 import unittest
 
 import storklocker
-from storklocker import AllowList, Guard, _learning
+from storklocker import AllowList, Guard, Limits, _learning
 from test_learning import EARLY, NOTHING, UNLISTED, Learning, named
 
 
@@ -118,6 +118,28 @@ class Lists(Learning):
         self.assertIn("+ substitute builtins.eval = dangerous", lines)
         self.assertIn("+ substitute builtins.getattr = members of x.y.C", lines)
         self.assertEqual(self.run_command("list", "diff", old, self.folder / "none")[0], 2)
+
+    def test_limits_on_costs_and_rules(self):
+        old, new = self.folder / "old.toml", self.folder / "new.toml"
+        front = 'version = 2\n[imports]\na = ["b"]\n[limits]\n'
+        old.write_text(front + "levels = 5\nwork = 1000\n")
+        new.write_text(front + 'work = 2000\nclash = 3\n[rules]\nbuild = "any"\n')
+        status, out, _ = self.run_command("list", "diff", old, new)
+        changes = ["+ limit clash = 3", "- limit levels = 5", "- limit work = 1000",
+                   "+ limit work = 2000", "+ rule build = any"]
+        self.assertEqual((status, out.splitlines()), (1, changes))
+        self.assertEqual(self.run_command("list", "add", new, "a.c", "x.Y"), (0, "", ""))
+        made = AllowList.from_file(new)
+        wanted = AllowList([("a", "b"), ("a", "c"), ("x", "Y")], build="any",
+                           limits=Limits(work=2000, clash=3))
+        self.assertEqual(made, wanted)
+        made.to_file(new)
+        self.assertEqual(AllowList.from_file(new), wanted)
+        new.write_text(front + "levels = -5\n")
+        status, _, errors = self.run_command("lint", new)
+        self.assertEqual(status, 2)
+        self.assertIn("line 5", errors)
+        self.assertIn("levels is an integer from 0 to 4,294,967,295", errors)
 
     def test_add_keeps_all_else(self):
         path = self.folder / "list.toml"

@@ -25,7 +25,7 @@ REASONS = (
 EXCESSES = "DeepKey HeavyKeys ManyKeys MuchMemory BuildsImport".split()
 FAULTS = (
     "Syntax Shape(Version) Shape(TopKey) Shape(Imports) Shape(Module) Shape(Name) Version "
-    "OutOfMemory Shape(Limits) Shape(LimitKey) Shape(Limit)"
+    "OutOfMemory Shape(Limits) Shape(LimitKey) Shape(Limit) Shape(Rules) Shape(RuleKey) Shape(Rule)"
 ).split()
 OLD_STRINGS = ("unknown", "ascii", "bytes")
 HEADER = (PACKAGE / "storklocker.h").read_text()

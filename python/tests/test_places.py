@@ -41,7 +41,10 @@ FAULTS = [
     ("version = 1\n[imports]\n[limits]\nstack = 1", "Shape(TopKey)", 3, "version = 2, in line 1"),
     ("version = 2\nos = ['path']", "Shape(TopKey)", 2, "put os below [imports]"),
     ("version = 2\nstack = 1\n[imports]", "Shape(TopKey)", 2, "below [limits]"),
-    ("version = 2\n[import]\n", "Shape(TopKey)", 2, "import is none of the keys"),
+    ("version = 2\n[import]\n", "Shape(TopKey)", 2, "import is none of version, imports"),
+    ("version = 1\n[imports]\n[rules]\n", "Shape(TopKey)", 3, "rules need version = 2, in line 1"),
+    ("version = 2\nbuild = 'made'\n[imports]", "Shape(TopKey)", 2, "put build below [rules]"),
+    ("version = 2\nlevels = 9\n[imports]", "Shape(TopKey)", 2, "put levels below [limits]"),
     ("version = 2\n", "Shape(Imports)", 0, "add [imports]"),
     ("version = 2\nimports = []\n", "Shape(Imports)", 2, "write [imports]"),
     (FRONT + "[limits]\nheap = 1", "Shape(LimitKey)", 4, "heap is none of the limits"),
@@ -52,6 +55,13 @@ FAULTS = [
     (FRONT + "[limits]\nlarge = 3\naaa = 1", "Shape(LimitKey)", 5, "aaa is none of the limits"),
     (FRONT + "[limits]\nlarge = 3\ncounted = -1", "Shape(Limit)", 5, "counted is an integer"),
     ("version = 2\nlimits = 7\n[imports]", "Shape(Limits)", 2, "write [limits]"),
+    (FRONT + "[limits]\nlevels = 4_294_967_296", "Shape(Limit)", 4, "from 0 to 4,294,967,295"),
+    (FRONT + "[limits]\nwork = -1", "Shape(Limit)", 4, "from 0 to 9,223,372,036,854,775,807"),
+    (FRONT + "[limits]\nclash = 'none'", "Shape(Limit)", 4, "clash is an integer"),
+    ("version = 2\nrules = 7\n[imports]", "Shape(Rules)", 2, 'and below it build = "made"'),
+    (FRONT + "[rules]\ncall = 1", "Shape(RuleKey)", 4, "call is no rule, but build is"),
+    (FRONT + "[rules]\nbuild = true", "Shape(Rule)", 4, 'write build = "made", or build = "any"'),
+    (FRONT + "[rules]\nbuild = 'all'", "Shape(Rule)", 4, 'write build = "made"'),
 ]
 # TOML that isn't common in list files, before a fault.
 ODD = """version = 0b10

@@ -26,6 +26,8 @@ def with_costs(limits: Limits) -> Limits:
 LIMITS = with_costs(WIDEST)
 """Limits on costs alone: where a reader must stop, whatever it has room for, or may never stop."""
 COSTLY = "costly-keys"
+COUNTED = (Reason.DeepKey, Reason.HeavyKeys, Reason.ManyKeys, Reason.MuchMemory)
+"""The reasons by which a list may refuse what costs too much."""
 KINDS = {
     Reason.DeepKey: COSTLY,
     Reason.HeavyKeys: COSTLY,
@@ -69,7 +71,7 @@ def exceeded(data: bytes, names: Iterable[Names]) -> Optional[Exceeded]:
     why = _WHY[found.reason]
     if found.reason is Reason.HeavyKeys and verdict(data, allow, _WEIGHING).at != found.at:
         why = _WORK
-    return Exceeded(found, why, _bill_of(data, allow) if KINDS[found.reason] == COSTLY else "")
+    return Exceeded(found, why, _bill_under(allow, data) if KINDS[found.reason] == COSTLY else "")
 
 
 def exceeded_in_row(data: bytes, names: Iterable[Names]) -> Optional[Tuple[Exceeded, int, int]]:
@@ -88,10 +90,17 @@ def exceeded_in_row(data: bytes, names: Iterable[Names]) -> Optional[Tuple[Excee
 
 def _permitting(names: Iterable[Names]) -> AllowList:
     pairs = [(module, name) for module, name in names if module is not None and name]
-    return AllowList._of(pairs, None, _SETTINGS)
+    return AllowList._of(pairs, None, None, _SETTINGS)
 
 
-def _bill_of(data: bytes, allow: AllowList) -> str:
+def bill_of(data: bytes, names: Iterable[Names]) -> str:
+    """What loading the pickle at the front of the bytes costs, whose imports are these; empty if it
+    isn't known.
+    """
+    return _bill_under(_permitting(names), data)
+
+
+def _bill_under(allow: AllowList, data: bytes) -> str:
     costs = bill(data, allow, _COUNTING)
     if costs is None:
         return ""

@@ -8,7 +8,7 @@ from typing import BinaryIO, Dict, Iterator, List, NamedTuple, Optional, Tuple
 from .._hints import hint_of
 from .._lists import AllowList, within
 from .budget import UNPACKED, Budget, TooMuch
-from .costs import cost_finding
+from .costs import COUNTED, bill_of, cost_finding
 from .dangers import import_findings
 from .joblib_files import WRAPPER_NAMES, without_arrays
 from .listing import listing
@@ -94,6 +94,7 @@ def _judged(piece: Piece, row: Row, question: Question, place: Place) -> Report:
         limits = row.limits(piece.source.size)
         hint = hint_of(row.refusal, piece.source.read, within(limits, own) or limits)
         why += f" ({hint})" if hint else ""
+        why += bill_of(row.refused[0], row.names) if row.refusal.reason in COUNTED else ""
         if question.allow is not None or not _is_text(piece, row):
             is_refused = question.allow is not None and not (piece.is_cut and not missing)
             kind = "refused" if is_refused else "broken-pickle"

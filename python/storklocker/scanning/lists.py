@@ -9,7 +9,7 @@ from pathlib import Path
 from typing import Any, Dict, Iterator, List, Tuple
 
 from .._answers import ListFault
-from .._limits import COSTS
+from .._limits import COSTS, costs_said
 from .._lists import AllowList
 from .._meant import EVERYTHING, Meant
 from .._meant import of as meant_in
@@ -70,6 +70,7 @@ def differences(old: AllowList, new: AllowList) -> Iterator[str]:
         elif pair not in before:
             yield f"+ {_shown(pair)}  {danger_of(pair)}".rstrip()
     yield from _rows("limit", _limits_of(old), _limits_of(new))
+    yield from _rows("rule", _rules_of(old), _rules_of(new))
     yield from _rows("substitute", _said_by(meant_in(old)), _said_by(meant_in(new)))
 
 
@@ -87,8 +88,12 @@ def _rows(what: str, old: Dict[str, str], new: Dict[str, str]) -> Iterator[str]:
 def _limits_of(allow: AllowList) -> Dict[str, str]:
     if allow.limits is None:
         return {}
-    held = allow.limits[: -len(COSTS)]
-    return {name: str(value) for name, value in zip(allow.limits._fields, held)}
+    held = dict(zip(allow.limits._fields, allow.limits[: -len(COSTS)]), **costs_said(allow.limits))
+    return {name: str(value) for name, value in held.items()}
+
+
+def _rules_of(allow: AllowList) -> Dict[str, str]:
+    return {} if allow.build is None else {"build": allow.build}
 
 
 def _said_by(meant: Meant) -> Dict[str, str]:

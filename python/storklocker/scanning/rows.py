@@ -8,13 +8,12 @@ from typing import TYPE_CHECKING, Dict, Iterable, Optional, Tuple
 
 from .._answers import Verdict
 from .._checking import check, check_row
-from .._lists import AllowList
+from .._limits import without_costs
+from .._lists import AllowList, settings_of
 from .._reasons import Reason
 from .budget import Budget, TooMuch
-from .costs import KINDS, LIMITS, Exceeded, exceeded, exceeded_in_row, with_costs
-from .names import (
-    NOTHING, WIDEST, Imports, imports_within, limits_under, refused_with
-)
+from .costs import COUNTED, KINDS, LIMITS, Exceeded, exceeded, exceeded_in_row, with_costs
+from .names import NOTHING, WIDEST, Imports, imports_within, limits_under, refused_with
 from .reaching import READERS_STOP, is_module, reached
 from .readings import Piece, is_text
 
@@ -62,6 +61,8 @@ class Row:
     def __init__(self, piece: Piece, allow: Optional[AllowList], budget: Budget) -> None:
         self._piece, self._source, self._budget = piece, piece.source, budget
         self._allow, self._listed = allow, NOTHING if allow is None else allow
+        under = settings_of(self._listed, WIDEST, "unknown", "any")
+        self._is_limited = without_costs(under) != under  # what loading costs, by the list
         self.names: Dict["Names", None] = {}
         self.is_complete, self.is_reached, self.is_cut = True, False, False
         self.refusal: Optional[Verdict] = None
@@ -104,7 +105,8 @@ class Row:
         names = dict.fromkeys((*found.names, *self._refused(verdict, found)))
         self.is_complete &= found.is_complete
         is_listed = found.is_complete and all(map(self._listed._has, names))
-        if not (verdict and is_within and is_listed) and self.refusal is None:
+        is_listed = is_listed and is_within and not self._is_limited
+        if not (verdict and is_listed) and self.refusal is None:
             self._judge(data, verdict)
         self._look_at_costs(data, found, names)
         self.names.update(names)
@@ -215,6 +217,7 @@ class Row:
         if not under:
             self.number, self.refused = self.pickles, (data, self.taken)
             self.refusal = under._replace(at=self.taken + under.at)
+            self.is_reached |= under.reason in COUNTED  # a reader gets on if it has the time
 
     def _are_all_accepted(self) -> bool:
         """Whether all pickles that are left import nothing new and cost little, by one call. So a
@@ -226,7 +229,8 @@ class Row:
             return False
         data = self._source.read(self.taken, left)
         names = [(module, name) for module, name in self.names if module is not None and name]
-        allow = AllowList._of(names, None if self._allow is None else self._allow.limits)
+        under = NOTHING if self._allow is None else self._allow
+        allow = AllowList._of(names, under.limits, under.build)
         limits, costs = self.limits(left), self.costly is None
         asked = with_costs(limits) if costs else limits
         verdict = check_row(data, allow, limits=asked, build="made" if costs else "any")

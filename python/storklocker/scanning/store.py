@@ -76,6 +76,6 @@ def _is_unread(report: Report) -> bool:
 def _digest(question: Question) -> str:
     """What the question is, in a few bytes."""
     allow = question.allow
-    listed = None if allow is None else [list(allow), str(allow.limits)]
+    listed = None if allow is None else [list(allow), str(allow.limits), allow.build]
     text = json.dumps([__version__, listed, question.with_sha256])
     return hashlib.sha256(text.encode()).hexdigest()
