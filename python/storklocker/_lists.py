@@ -269,8 +269,8 @@ def _has_limits(text: bytes) -> bool:
 
 
 def _says(text: bytes, key: bytes, fault: str) -> bool:
-    """Whether a list file has a key, which written otherwise has this fault. False if it is escaped:
-    then defaults apply, which permit less.
+    """Whether a list file has a key, which written otherwise is this fault. False if it is escaped:
+    then a default applies, which permits less.
     """
     if key not in text:
         return False
@@ -280,7 +280,7 @@ def _says(text: bytes, key: bytes, fault: str) -> bool:
 
 
 def _heard(text: bytes, name: str, number: int) -> "Optional[int]":
-    """The limit on costs of a list file: the number that was read, or the default if it has none."""
+    """The limit on costs of a list file: the number that was read; by default if it has none."""
     usual, most = COSTS[name]
     if number == most and not _says(text, name.encode(), "Shape(LimitKey)"):
         return usual

@@ -36,7 +36,8 @@ deep_key : costing_lines OnePickle true (Err (record { pickle = 0; at = 5; exces
 unfolding digits
 deep_key = refl
 
-deep_key_in_row : costing_lines ToTheEnd true (Err (record { pickle = 1; at = 7; excess = DeepKey }))
+row_of_deep_keys :
+    costing_lines ToTheEnd true (Err (record { pickle = 1; at = 7; excess = DeepKey }))
     ≡ codes "no in pickle 1 at 7: DeepKey\n"
 unfolding digits
-deep_key_in_row = refl
+row_of_deep_keys = refl
