@@ -4,7 +4,8 @@ ghost use Rattle.pkcheck.specs.ButForLimits.{RefusedForLimits};
 ghost use Rattle.pkcheck.specs.EachSetting.{SoundInEach};
 ghost use Rattle.pkcheck.specs.Ends.{ListedCarriesOver, SameAcross, SameAsItself, SameEitherWay};
 ghost use Rattle.pkcheck.specs.Ends.{SameEvents, WellCarriesOver, WellIsFree};
-ghost use Rattle.pkcheck.specs.Exclusive.{OneBegins, RefusedBehind, YesExcludesNo, YesOfRowExcludesNo};
+ghost use Rattle.pkcheck.specs.Exclusive.{OneBegins, RefusedBehind, YesExcludesNo};
+ghost use Rattle.pkcheck.specs.Exclusive.{YesOfRowExcludesNo};
 ghost use Rattle.pkcheck.specs.NewRuns.{FaultlessIsRun};
 ghost use Rattle.pkcheck.specs.Pairs.{HalvingIsRight};
 

@@ -1,6 +1,7 @@
 -- Two answers to the same bytes have the same end.
 use Rattle.std.proofs.Common.{◌≡◌, ◌≢◌, ◌≤◌, ℕ, inl, inr, List, [], ◌∷◌, ◌++◌}
-use Rattle.std.proofs.Common.{length, append-nil, append_assoc, length-append, Option, Some, Ok, Err}
+use Rattle.std.proofs.Common.{length, append-nil, append_assoc, length-append, Option, Some, Ok}
+use Rattle.std.proofs.Common.{Err}
 use Rattle.std.proofs.Common.{refl, sym, ap, subst, ◌∙◌, arith}
 use Rattle.std.specs.Io.KnownBytes.{IsAtEnd}
 use Rattle.std.specs.Prelude.{option_map}
@@ -107,8 +108,8 @@ module _ (front : OneFront) (goes : SequenceGoesOn) (unique : OneSequence) (begi
       → other.left ≡ Some bytes → AreAccepted loading policy limits old here [] xs
       → AreAccepted loading policy limits other there [] ys → Both xs ys here there
   compared xs ys old here other there is also a b =
-      compare loading policy limits (length bytes) unique xs ys [] [] bytes old here other there refl
-      (omega arith) is also a b
+      compare loading policy limits (length bytes) unique xs ys [] [] bytes old here other there
+      refl (omega arith) is also a b
 
   -- nothing is left behind a row that was accepted
   not_longer : (xs ys : List Pickle) (there : Sight) → IsAtEnd there.left → Long xs ys there → ⊥

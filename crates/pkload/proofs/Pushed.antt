@@ -9,8 +9,8 @@ use Rattle.pkload.specs.Heft.{Heft}
 
 module _ (r : Reading) where
   -- pushes one more object, of this cost
-  pub pushed : (hefts : List Heft) (another h : Heft) (objects : List Object) (es : List (Entry Heft))
-      (fs : List (Entry ℕ)) (ms : List (ℕ × Heft)) (ns : List (ℕ × ℕ))
+  pub pushed : (hefts : List Heft) (another h : Heft) (objects : List Object)
+      (es : List (Entry Heft)) (fs : List (Entry ℕ)) (ms : List (ℕ × Heft)) (ns : List (ℕ × ℕ))
       → length hefts ≡ length objects → r.Weighs (hefts ++ another ∷ []) h (length hefts)
       → Pointwise (AlikeEntry (r.Weighs hefts)) es fs
       → Pointwise (AlikeCell (r.Weighs hefts)) ms ns

@@ -309,9 +309,11 @@ module _ (loading : Loading) (policy : Policy) (limits : Bounds) (tolls : Tolls)
           from,
           x.place,
           y.place,
-          ap (λ l. length (spellings l)) g.1 ∙ ap length (flat_map-append spelling x.instructions g.0),
+          ap (λ l. length (spellings l)) g.1
+              ∙ ap length (flat_map-append spelling x.instructions g.0),
           length-append (spellings x.instructions) (spellings g.0),
-          ap (λ l. length (spellings l)) h.1 ∙ ap length (flat_map-append spelling y.instructions h.0),
+          ap (λ l. length (spellings l)) h.1
+              ∙ ap length (flat_map-append spelling y.instructions h.0),
           length-append (spellings y.instructions) (spellings h.0),
         )
 

@@ -1,4 +1,5 @@
--- The same bytes have one end under the same settings, but for refused allocations and failed reads.
+-- The same bytes have one end under the same settings, but for refused allocations and failed
+-- reads.
 use Rattle.std.specs.Prelude.{◌≡◌, ◌≢◌, ◌≤◌, List, ℕ, Result, Ok, Err, Some, length}
 use Rattle.pkops.specs.Limits.{Bounds}
 use Rattle.pkread.specs.Rows.{Sight, all_bytes}

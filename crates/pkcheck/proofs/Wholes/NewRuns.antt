@@ -359,8 +359,8 @@ module _ (setting : OldStrings) (limits : Bounds) where
           before → IsFaultless setting (begins memo before) policy limits p
           → InSomeNewRun setting (begins memo before) p GetsPast
       by_memo Fresh before old here a f =
-          let y = accepted setting limits policy Afresh nothing_known (begins_afresh setting None) p allowed
-          (last_more is last on) f in
+          let y = accepted setting limits policy Afresh nothing_known (begins_afresh setting None)
+          p allowed (last_more is last on) f in
           let b = past is last nothing_known y.known y.asked on y.accepts start
           (record { entries = tt; memo = tt }) in
           (b.outcomes, b.can, b.new, past_end p last y.known 0 start b)
