@@ -252,8 +252,8 @@ class Groups(Copies):
         (self.copy / "python" / "storklocker" / "_other.py").touch()
         status, lines = self.ran("./test", "package", PYTHONUNBUFFERED="1")
         self.assertEqual((status, self.counts(lines)[0]), (0, len(set(found))), lines)
-        for python in found:
-            self.assertIn(python.decode().strip(), lines)
+        for file in found:
+            self.assertIn(file.decode().strip(), lines)
         self.assertNotIn("['PYTHONUNBUFFERED']", lines)
 
     def test_words(self) -> None:
