@@ -143,6 +143,10 @@ HOSTILE = {
     "bytes": npy("(b'O', (1,))", EVIL), "npz": zipped(("a.npy", npy("'object'", EVIL))),
     "the second array": npy("'<i8'", bytes(8)) + npy("'|O'", EVIL),
     "a pickle behind an array": npy("'<i8'", bytes(8)) + EVIL,
+    "an array behind a pickle": b"I1\n." + npy("'|O'", EVIL),
+    "an array behind pickles": b"(dp0\n." * 99 + npy("'|O'", EVIL),
+    "a pickle between arrays": npy("'<i8'", bytes(8)) + b"I1\n.N." + npy("'|O'", EVIL),
+    "pickles between arrays": (npy("'<i8'", bytes(8)) + b"I1\n.") * 9 + npy("'|O'", EVIL),
     "an empty shape": npy("'<i8'", EVIL, shape="(0, 5)"),
     "a field of nothing": npy("[('a', '<i8', (0,))]", EVIL),
     "ZF": b"ZF" + hex(len(EVIL)).encode().ljust(19) + zlib.compress(EVIL),
@@ -207,6 +211,26 @@ class Readings(unittest.TestCase):
         for data in made:
             found = [it for report in reports(data, allow) for it in report.findings]
             self.assertEqual(found, [], data[:40])
+
+    @needs("module:numpy")
+    def test_numpy_loads_pickles_between_arrays(self):
+        import numpy
+
+        front = pickle.dumps([1], 0)
+        for parts in (
+            (numpy.arange(3), front, print), (front, print), (front, front, numpy.arange(3), print),
+            (numpy.arange(3), front, front, numpy.arange(2)), (front, numpy.arange(3)),
+        ):
+            out, last = io.BytesIO(), parts[-1]
+            for value in parts:
+                if isinstance(value, bytes):
+                    out.write(value)
+                else:
+                    numpy.save(out, numpy.array([print], object) if value is print else value)
+            out.seek(0)
+            read = [numpy.load(out, allow_pickle=True) for _ in parts]
+            self.assertEqual(read[-1].tolist(), [print] if last is print else last.tolist())
+            self.assertEqual(is_finding(out.getvalue()), last is print, parts)
 
     def test_texts(self):
         texts = (

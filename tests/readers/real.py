@@ -26,7 +26,7 @@ from listed import LISTED
 
 DEPTH = 3
 """How many containers a reader opens inside one another."""
-SECONDS, MEMORY, UNPACKED = 1, 1 << 29, 1 << 20
+SECONDS, MEMORY, UNPACKED = 1, 1 << 29, 1 << 18
 """What a reader may take: seconds, bytes beside those at the start, bytes that it unpacks."""
 RUNS = ("os.system", "os.exec", "os.fork", "os.posix_spawn", "subprocess.Popen", "socket.connect")
 

@@ -6,8 +6,9 @@ import ast
 import re
 from typing import Any, NamedTuple, Optional
 
-from .readings import Found, Place, examine
-from .source import Source
+from .names import length_at
+from .readings import Found, Piece, Place, examine
+from .source import BLOCK, Source
 
 MAGIC = b"\x93NUMPY"
 _LONGEST = 1 << 16
@@ -31,8 +32,9 @@ class _Header(NamedTuple):
 
 
 def npy_reading(place: Place) -> Found:
-    """What `numpy.load` gets to, as often as it is called."""
-    source, at = place.source, 0
+    """What `numpy.load` gets to, as often as it is called. It loads pickles between arrays too."""
+    source = place.source
+    at = 0 if source.read(0, 1) == b"\x80" else _behind_pickles(place, 0)
     while source.read(at, len(MAGIC)) == MAGIC:
         if at:
             place.budget.spend_member()
@@ -51,11 +53,35 @@ def npy_reading(place: Place) -> Found:
         if not size and header.size is None:
             return True
         at += size or 0
+        behind = _behind_pickles(place, at)
+        if behind > at:
+            rows = source.part(at, behind - at)
+            yield Piece(place.path, "behind an array", rows, True)
+            at = behind
     if not at:
         return False
     if at < source.size:
         yield from examine(place.inside("", source.part(at, source.size), "behind an array"))
     return True
+
+
+def _behind_pickles(place: Place, at: int) -> int:
+    """Where the next array is, behind pickles at an offset; the offset itself if there is none."""
+    source, start = place.source, at
+    while source.read(at, len(MAGIC)) != MAGIC:
+        taken = length_at(source, at, place.budget)
+        if not taken or at == start and not _has_magic(source, at):
+            return start
+        place.budget.spend_pickle()
+        at += taken
+    return at
+
+
+def _has_magic(source: Source, at: int) -> bool:
+    """Whether an array may begin behind an offset."""
+    return any(
+        MAGIC in source.read(start, BLOCK + len(MAGIC)) for start in range(at, source.size, BLOCK)
+    )
 
 
 def _header_at(source: Source, at: int) -> _Header:
