@@ -12,10 +12,16 @@ pub fn is_name(line: &[u8]) -> bool
     !line.is_empty() && is_ascii(line)
 }
 
-/// Whether each byte is ASCII. It looks at every byte, whatever the first ones are, which lets the
-/// compiler test sixteen at a time.
+/// The length from which on it is faster to test many bytes at a time.
+const LONG: usize = 12;
+
+/// Whether each byte is ASCII. Of a long text it looks at every byte, whatever the first ones are,
+/// which lets the compiler test sixteen at a time.
 pub fn is_ascii(bytes: &[u8]) -> bool
     ensures { result ≡ list_all is_ascii bytes.now }
 {
+    if bytes.len() < LONG {
+        return bytes.iter().all(|byte| byte.is_ascii());
+    }
     bytes.iter().fold(true, |good, byte| good & byte.is_ascii())
 }
