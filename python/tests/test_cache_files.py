@@ -1,5 +1,6 @@
 """`scan` on files of caches, in which a value stands behind the time at which it ends."""
 
+import io
 import os
 import pathlib
 import pickle
@@ -76,6 +77,21 @@ class CacheFiles(unittest.TestCase):
                 for protocol in (2, 4):
                     data = pickle.dumps(front, protocol) + zlib.compress(value)
                     self.check(data, is_evil, "zlib")
+
+    def test_long_pickles_in_front_of_a_packed_value(self):
+        """Of any form that Django's reader takes for a time."""
+        packers = [zlib.compressobj(9, zlib.DEFLATED, window) for window in (9, 14, 15)]
+        for packer in packers:
+            packed = packer.compress(pickle.dumps(Asks(), 2)) + packer.flush()
+            for front in (
+                b"N0" * 50 + b"I99999999999\n.", b"V" + b"a" * 999 + b"\n0I99999999999\n.",
+                b"I99999999999\n.", b"V" + b"a" * 999 + b"\nI99999999999\n.", b"N.",
+            ):
+                file = io.BytesIO(front + packed)
+                self.assertIn(pickle.load(file), (None, 99_999_999_999))
+                self.assertEqual(pickle.loads(zlib.decompress(file.read())), os.getpid())
+                found = reports(front + packed, AllowList([]))
+                self.assertTrue(any(it.is_finding for it in found), front[:9])
 
     def test_a_time_that_covers_the_value(self):
         """From the first byte on it is one pickle without an import."""

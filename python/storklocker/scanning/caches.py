@@ -2,10 +2,14 @@
 
 from __future__ import annotations
 
-from .names import NOTHING, WIDEST, imports_within
+import zlib
+
+from .._reasons import Reason
+from .budget import Budget
+from .names import NOTHING, WIDEST, imports_at, imports_within
 from .reaching import LENGTHS
 from .readings import Found, Place
-from .source import Source
+from .source import BLOCK, Source
 from .stores import is_import, is_in_words, is_value
 
 _TIME, _PICKLED = 4, 64
@@ -44,15 +48,29 @@ def _is_inside(source: Source) -> bool:
     return at == _TIME and (is_behind or inner.names.keys() <= whole.names.keys())
 
 
-def packed_behind(source: Source) -> int:
+def packed_behind(source: Source, budget: Budget) -> int:
     """Where the packed value begins in a file of Django's, behind the pickle of a time; else 0."""
-    at = _length(source)
-    header = source.read(at, 2) if at else b""
-    is_packed = header[:1] == b"x" and int.from_bytes(header, "big") % 31 == 0
-    return at if is_packed else 0
+    at = _length(source, budget)
+    if not 0 < at < source.size:
+        return 0
+    try:
+        zlib.decompressobj().decompress(source.read(at, BLOCK), 1)
+    except zlib.error:
+        return 0
+    return at
 
 
-def _length(source: Source) -> int:
-    """The length of the pickle at the front, if it is a short one that imports nothing."""
-    found = imports_within(source.read(0, _PICKLED), NOTHING, WIDEST)
-    return 0 if found.names else found.verdict.taken
+def _length(source: Source, budget: Budget) -> int:
+    """The length of the pickle at the front, if it imports nothing. It is a short one, or has no
+    PROTO, without which nobody claims what stands behind it.
+    """
+    front = source.read(0, _PICKLED)
+    found = imports_within(front, NOTHING, WIDEST)
+    is_cut = found.verdict.reason is Reason.Truncated and len(front) < source.size
+    if is_cut and front[:1] != b"\x80":
+        found = imports_at(source, 0, budget)
+    if found.names:
+        return 0
+    # readers take one of several objects
+    is_left_over = found.verdict.reason is Reason.LeftOver
+    return found.verdict.at + 1 if is_left_over else found.verdict.taken

@@ -58,16 +58,20 @@ def imports_within(data: bytes, allow: AllowList, limits: Limits = WIDE) -> Impo
     return Imports(verdict, dict.fromkeys(records(room[:wanted])))
 
 
-def length_at(source: Source, at: int, budget: Budget) -> int:
-    """The length of the pickle at an offset; 0 if no list makes it acceptable."""
+def imports_at(source: Source, at: int, budget: Budget) -> Imports:
+    """The imports of the pickle at an offset, however long it is."""
     size = BLOCK
     while True:
-        verdict = imports_within(source.read(at, size), NOTHING, WIDEST).verdict
+        found = imports_within(source.read(at, size), NOTHING, WIDEST)
         budget.spend_time()
-        is_cut = verdict.reason is Reason.Truncated and size < source.size - at
-        if not is_cut:
-            return verdict.taken
+        if found.verdict.reason is not Reason.Truncated or size >= source.size - at:
+            return found
         size *= 16
+
+
+def length_at(source: Source, at: int, budget: Budget) -> int:
+    """The length of the pickle at an offset; 0 if no list makes it acceptable."""
+    return imports_at(source, at, budget).verdict.taken
 
 
 def refused_with(reason: Optional[Reason]) -> Tuple[Names, ...]:

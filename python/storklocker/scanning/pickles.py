@@ -18,7 +18,7 @@ def pickle_reading(place: Place) -> Found:
         return False
     if place.is_raw and not is_pickle(place.source, 0):
         return False
-    packed = packed_behind(place.source)
+    packed = packed_behind(place.source, place.budget)
     if packed:
         yield place.piece(place.around, most=1)
         rest = place.source.part(packed, place.source.size)
