@@ -46,13 +46,16 @@ ASKED = """
     __builtin__.eval __builtin__.getattr commands.getoutput cPickle.loads _io.open shutil.rmtree
     subprocess.Popen.__init__ zipfile.ZipFile.__init__ io.FileIO.__init__
     codecs.__builtins__ builtins.object.__subclasses__ asyncio.unix_events.subprocess.Popen
+    six.exec_ six.moves.builtins.exec six.moves.cPickle.loads future.moves.subprocess.Popen
+    joblib.numpy_pickle.NDArrayWrapper joblib.numpy_pickle_compat.ZNDArrayWrapper
 """.split()
 HARMLESS = """
     __builtin__.set builtins.set copyreg._reconstructor copy_reg._reconstructor _codecs.encode
     collections.OrderedDict datetime.datetime decimal.Decimal pathlib.PosixPath uuid.UUID
     subprocess.CompletedProcess logging.getLogger numpy.dtype numpy.core.multiarray._reconstruct
     sklearn.svm._classes.SVC torch._utils._rebuild_tensor_v2 exceptions.ValueError builtins.KeyError
-    types.SimpleNamespace argparse.Namespace itertools.count
+    types.SimpleNamespace argparse.Namespace itertools.count joblib.numpy_pickle.NumpyArrayWrapper
+    sklearn.externals.joblib.numpy_pickle.NumpyArrayWrapper
 """.split()
 
 

@@ -178,8 +178,12 @@ class HostileFiles(unittest.TestCase):
         self.assertIn("comes from a pipe", out)
 
     def test_other_packers(self):
-        packed = lzma.compress(BAD, format=lzma.FORMAT_ALONE)
-        self.assertEqual(self.scanned("file", packed)[0], 1)
+        packed = lzma.compress(BAD + LARGE, format=lzma.FORMAT_ALONE)
+        for size in (-1, 1 << 37, 1 << 40, 1 << 56, (1 << 64) - 2):
+            data = packed[:5] + (size % (1 << 64)).to_bytes(8, "little") + packed[13:]
+            with lzma.open(io.BytesIO(data), format=lzma.FORMAT_ALONE) as file:
+                self.assertEqual(file.read(len(BAD)), BAD)
+            self.assertEqual(self.scanned("file", data)[0], 1, size)
         for magic in (
             b"7z\xbc\xaf\x27\x1c", b"Rar!\x1a\x07", b"\x28\xb5\x2f\xfd", b"\x25\xb5\x2f\xfd",
             b"\x04\x22\x4d\x18", b"\x02\x21\x4c\x18", b"\x5a\x2a\x4d\x18", b"LZIP\1",

@@ -20,7 +20,7 @@ def window(data, chosen):
     made = bytearray(lzma.compress(data, format=lzma.FORMAT_ALONE, filters=filters))
     made[1:5] = size.to_bytes(4, "little")
     if chosen.random() < 0.3:
-        made[5:13] = len(data).to_bytes(8, "little")
+        made[5:13] = chosen.choice((len(data), 1 << 40, 1 << 60)).to_bytes(8, "little")
     return bytes(made)
 
 

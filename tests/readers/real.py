@@ -98,10 +98,17 @@ def unzlib(data):
     return zlib.decompressobj().decompress(data, UNPACKED)
 
 
+def alone(data):
+    """What the reader of LZMA alone unpacks in front of a fault: it takes any size."""
+    file = lzma.LZMAFile(io.BytesIO(data), format=lzma.FORMAT_ALONE)
+    return read_or_nothing(file)
+
+
 PACKED = {
     "gzip": lambda data: gzip.GzipFile(fileobj=io.BytesIO(data)).read(UNPACKED),
     "bzip2": lambda data: bz2.BZ2File(io.BytesIO(data)).read(UNPACKED),
     "lzma": lambda data: lzma.LZMAFile(io.BytesIO(data)).read(UNPACKED),
+    "lzma alone": alone,
     "zlib": unzlib,
 }
 

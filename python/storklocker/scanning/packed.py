@@ -198,10 +198,12 @@ def _is_xz(front: bytes) -> bool:
 
 
 def _is_lzma(front: bytes) -> bool:
-    """Whether it may be LZMA alone: its properties, and the size that it announces."""
+    """Whether it may be LZMA alone: its properties, and the size that it announces. Who asks for
+    this format by name takes any size; then the zero behind it tells texts apart.
+    """
     if len(front) < _LZMA_HEADER or front[0] >= 225:
         return False
-    return front[5:13] == b"\xff" * 8 or front[12] == 0
+    return front[5:13] == b"\xff" * 8 or 0 in (front[12], front[13])
 
 
 def bzip2() -> Any:
