@@ -6,7 +6,7 @@ import zlib
 
 from .._reasons import Reason
 from .budget import Budget
-from .names import NOTHING, WIDEST, imports_at, imports_within
+from .names import NOTHING, WIDEST, imports_within, verdict_at
 from .reaching import LENGTHS
 from .readings import Found, Place
 from .source import BLOCK, Source
@@ -66,11 +66,11 @@ def _length(source: Source, budget: Budget) -> int:
     """
     front = source.read(0, _PICKLED)
     found = imports_within(front, NOTHING, WIDEST)
-    is_cut = found.verdict.reason is Reason.Truncated and len(front) < source.size
-    if is_cut and front[:1] != b"\x80":
-        found = imports_at(source, 0, budget)
-    if found.names:
+    verdict, has_imports = found.verdict, bool(found.names)
+    is_cut = verdict.reason is Reason.Truncated and len(front) < source.size
+    if is_cut and not has_imports and front[:1] != b"\x80":
+        verdict, has_imports = verdict_at(source, 0, budget)
+    if has_imports:
         return 0
     # readers take one of several objects
-    is_left_over = found.verdict.reason is Reason.LeftOver
-    return found.verdict.at + 1 if is_left_over else found.verdict.taken
+    return verdict.at + 1 if verdict.reason is Reason.LeftOver else verdict.taken

@@ -58,20 +58,23 @@ def imports_within(data: bytes, allow: AllowList, limits: Limits = WIDE) -> Impo
     return Imports(verdict, dict.fromkeys(records(room[:wanted])))
 
 
-def imports_at(source: Source, at: int, budget: Budget) -> Imports:
-    """The imports of the pickle at an offset, however long it is."""
-    size = BLOCK
+def verdict_at(source: Source, at: int, budget: Budget) -> Tuple[Verdict, bool]:
+    """The verdict on the pickle at an offset with every import permitted, however long it is, and
+    whether it imports anything.
+    """
+    settings, size = settings_of(NOTHING, WIDEST, "unknown"), BLOCK
     while True:
-        found = imports_within(source.read(at, size), NOTHING, WIDEST)
+        # (to list many imports takes longer than to find them)
+        verdict, wanted, _ = _imports(source.read(at, size), NOTHING, settings, _FIRST)
         budget.spend_time()
-        if found.verdict.reason is not Reason.Truncated or size >= source.size - at:
-            return found
+        if verdict.reason is not Reason.Truncated or size >= source.size - at:
+            return verdict, wanted > 0
         size *= 16
 
 
 def length_at(source: Source, at: int, budget: Budget) -> int:
     """The length of the pickle at an offset; 0 if no list makes it acceptable."""
-    return imports_at(source, at, budget).verdict.taken
+    return verdict_at(source, at, budget)[0].taken
 
 
 def refused_with(reason: Optional[Reason]) -> Tuple[Names, ...]:
