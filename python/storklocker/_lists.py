@@ -425,20 +425,22 @@ def settings_of(
     return packed(applied, old_strings, keeps_memo, allow._build or own)
 
 
+_NO_NAME = (1 << 64) - 1
+
+
 def records(room: bytes) -> "Iterator[Names]":
     """Decodes the pairs that the library wrote; both names of an unknown import are None."""
-    at = 0
-    while at < len(room):
-        texts: List[Optional[bytes]] = []
-        for _ in range(2):
-            length = int.from_bytes(room[at : at + 8], "little")
-            at += 8
-            if length == (1 << 64) - 1:
-                texts.append(None)
-                continue
-            texts.append(room[at : at + length])
-            at += length
-        yield (texts[0], texts[1])
+    at, end = 0, len(room)
+    while at < end:  # (a hostile pickle has very many)
+        length = int.from_bytes(room[at : at + 8], "little")
+        at += 8
+        module = None if length == _NO_NAME else room[at : at + length]
+        at += 0 if module is None else length
+        length = int.from_bytes(room[at : at + 8], "little")
+        at += 8
+        name = None if length == _NO_NAME else room[at : at + length]
+        at += 0 if name is None else length
+        yield (module, name)
 
 
 _AS_IT_IS = AllowList([])

@@ -2,8 +2,9 @@
 
 from __future__ import annotations
 
+import itertools
 import re
-from typing import BinaryIO, Dict, Iterator, List, NamedTuple, Optional, Tuple
+from typing import TYPE_CHECKING, BinaryIO, Dict, Iterator, List, NamedTuple, Optional, Tuple
 
 from .._hints import hint_of
 from .._lists import AllowList, within
@@ -20,6 +21,8 @@ from .rows import Row, row_of
 from .severity import KINDS, NOTE, REFUSED, UNREADABLE
 from .source import Source, source_of
 
+if TYPE_CHECKING:
+    from .._lists import Names
 
 _IMPORTS = re.compile(rb"([ci][^\n]*\n[^\n]*\n)*")
 
@@ -143,15 +146,18 @@ def _shown_names(
     row: Row, allow: Optional[AllowList], budget: Budget
 ) -> Tuple[Tuple[Pair, ...], Tuple[Pair, ...]]:
     """The imports, and those off the list, as far as there is room for them: the latter first."""
-    names = list(row.names)
-    off = [] if allow is None or row.refusal is None else [it for it in names if not allow._has(it)]
-    kept: Dict[Tuple[Optional[bytes], Optional[bytes]], Pair] = {}
-    for both in (*off, *names):
+    def is_off(both: "Names") -> bool:
+        return allow is not None and row.refusal is not None and not allow._has(both)
+
+    kept: Dict["Names", Pair] = {}
+    for both in itertools.chain(filter(is_off, row.names), row.names):
+        if budget.names < 1:
+            break  # a hostile file has very many
         pair = _text_of(both[0]), _text_of(both[1])
         if both not in kept and budget.spend_name(sum(len(text or "") for text in pair)):
             kept[both] = pair
-    imports = tuple(kept[both] for both in names if both in kept)
-    return imports, tuple(kept[both] for both in off if both in kept)
+    imports = tuple(kept[both] for both in row.names if both in kept)
+    return imports, tuple(kept[both] for both in row.names if both in kept and is_off(both))
 
 
 def _pair_of(both: Tuple[Optional[bytes], Optional[bytes]]) -> Pair:
