@@ -168,6 +168,14 @@ def prefixed(data, chosen):
     return chosen.choice((b"\xef\xbb\xbf", b"\xff\xfe", b"\n", b" ", b"\0", bytes(512))) + data
 
 
+def timed(data, chosen):
+    """A file of Django's cache: a time, perhaps behind anything else, and a packed value."""
+    packer = zlib.compressobj(1, zlib.DEFLATED, chosen.randrange(9, 16))
+    front = chosen.choice((b"N0" * 50, b"V" + b"a" * 99 + b"\n0", b"Va\n", b"", b"\x80\4"))
+    return front + b"I99999999999\n." + packer.compress(data) + packer.flush()
+
+
 ODD = (
-    window, streams, broken_end, headed, array, array, archive, archive, headers, headers, prefixed
+    timed, window, streams, broken_end, headed, array, array, archive, archive, headers, headers,
+    prefixed,
 )

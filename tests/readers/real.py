@@ -85,11 +85,19 @@ def encoded(data):
     pickle.loads(data, encoding="bytes")
 
 
+def cached(data):
+    """What Django's cache does: it reads a time, and the value that is packed behind it."""
+    file = io.BytesIO(data)
+    pickle.load(file)
+    pickle.loads(unzlib(file.read()))
+
+
 PICKLES = {
     "pickle": lambda data: pickle.load(io.BytesIO(data)),
     "pickle.py": written,
     "rows": rows,
     "bytes": encoded,
+    "cached": cached,
     "persistent": lambda data: Persistent(io.BytesIO(data)).load(),
 }
 
