@@ -266,6 +266,16 @@ class Honest(unittest.TestCase):
                     self.assertFalse(kinds & {"costly-keys", "changed-import", "too-much"}, kinds)
 
 
+class Texts(unittest.TestCase):
+    def test_build_behind_what_is_no_module(self):
+        """Lines of a script look like an import and a BUILD, but no module has such a name."""
+        lines = b"omplete -c it -s a\ncomplete -c it\n"
+        for module, is_found in ((lines, False), (b"os\nsystem\n", True)):
+            data = b"c" + module + b"}b.\n"
+            found = reports_of("file", io.BytesIO(data), Question(LISTED))
+            self.assertEqual(any(it.is_finding for it in found), is_found, module)
+
+
 class ManyImports(unittest.TestCase):
     def test_what_is_off_the_list_is_shown_first(self):
         """The last of more imports than a report has room for, which ends the look at names."""

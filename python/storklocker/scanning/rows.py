@@ -206,6 +206,8 @@ class Row:
             if module is not None and not is_module(module.decode("utf-8", "replace")):
                 self.names = dict.fromkeys(itertools.islice(self.names, place))
                 self.is_reached = False
+                if not place and self.costly and self.costly.verdict.reason is Reason.BuildsImport:
+                    self.costly = None  # nothing is imported that BUILD could change
                 return
 
     def _judge(self, data: bytes, found: Verdict) -> None:
