@@ -6,38 +6,40 @@ import pickle
 
 TYPE_CHECKING = False  # importing `typing` would take half the time of importing the package
 if TYPE_CHECKING:
-    from collections import namedtuple
-    from typing import Any, Dict, Iterable, Optional, Tuple
+    from typing import Any, Dict, Iterable, Optional, Tuple, Type, TypeVar
 
     from ._imports import Import
     from ._reasons import Reason
-else:  # that of `collections` compiles code for each class, which would take a tenth of it
 
-    def namedtuple(name: str, words: str) -> type:
-        """A class of tuples with named fields."""
-        fields = tuple(words.split())
-        members = {field: property(operator.itemgetter(k)) for k, field in enumerate(fields)}
-        members.update(__slots__=(), __match_args__=fields, _fields=fields)
-        return type(name, (_Fields,), members)
+    _Tuple = Tuple[Any, ...]
+    _Own = TypeVar("_Own", bound="Named")
+else:
+    _Tuple = tuple
 
 
-class _Fields(tuple):  # type: ignore[type-arg]
-    """The methods of a named tuple."""
+class Named(_Tuple):
+    """A tuple whose subclass names its fields: `class Point(Named, fields="x y")`. `namedtuple` of
+    `collections` compiles code for each class, which would take a tenth of the package's import.
+    """
 
     __slots__ = ()
     _fields: "Tuple[str, ...]"
 
-    def __new__(cls, *values: "Any") -> "Any":
-        return cls._make(values)
+    def __init_subclass__(cls, fields: str = "") -> None:
+        if fields:
+            cls._fields = tuple(fields.split())
+            setattr(cls, "__match_args__", cls._fields)
+            for place, field in enumerate(cls._fields):
+                setattr(cls, field, property(operator.itemgetter(place)))
 
     @classmethod
-    def _make(cls, values: "Iterable[Any]") -> "Any":
+    def _make(cls: "Type[_Own]", values: "Iterable[Any]") -> "_Own":
         return tuple.__new__(cls, values)
 
     def _asdict(self) -> "Dict[str, Any]":
         return dict(zip(self._fields, self))
 
-    def _replace(self, **named: "Any") -> "Any":
+    def _replace(self: "_Own", **named: "Any") -> "_Own":
         return type(self)(**{**self._asdict(), **named})
 
     __replace__ = _replace
@@ -71,7 +73,7 @@ SHOWN = 64
 """The number of bytes of a name that the text of a refusal shows."""
 
 
-class Verdict(namedtuple("Verdict", "accepted taken imports at reason number pair pickles")):
+class Verdict(Named, fields="accepted taken imports at reason number pair pickles"):
     """The answer of the checker. It is true if the pickle is accepted.
 
     `str` gives the line that the program prints.
@@ -115,7 +117,7 @@ class Verdict(namedtuple("Verdict", "accepted taken imports at reason number pai
         pair: "Optional[Tuple[str, str]]" = None,
         pickles: int = 0,
     ) -> "Verdict":
-        return super().__new__(cls, accepted, taken, imports, at, reason, number, pair, pickles)
+        return cls._make((accepted, taken, imports, at, reason, number, pair, pickles))
 
     def __bool__(self) -> bool:
         return self.accepted

@@ -2,7 +2,7 @@
 
 from __future__ import annotations
 
-from ._answers import Refused
+from ._answers import Named, Refused
 from ._limits import without_costs
 from ._lists import STANDARD, AllowList, records, settings_of, with_room
 from ._storklocker import imports as _imports
@@ -10,14 +10,11 @@ from ._storklocker import verdict
 
 TYPE_CHECKING = False
 if TYPE_CHECKING:
-    from collections import namedtuple
     from typing import Dict, Iterable, Iterator, List, Optional, Tuple
 
     from ._answers import Verdict
     from ._limits import Limits
     from ._lists import Names
-else:
-    from ._answers import namedtuple
 
 MOST_NAMES = 1 << 26
 """The most bytes of names that are reported of a pickle."""
@@ -26,7 +23,7 @@ _FEW = 10
 _NOTHING = AllowList([])
 
 
-class Import(namedtuple("Import", "module name")):
+class Import(Named, fields="module name"):
     """An import of a pickle. Both fields are None if the pickle doesn't reveal the pair."""
 
     __slots__ = ()
@@ -35,7 +32,7 @@ class Import(namedtuple("Import", "module name")):
     name: Optional[str]
 
     def __new__(cls, module: Optional[str], name: Optional[str]) -> Import:
-        return super().__new__(cls, module, name)
+        return cls._make((module, name))
 
 
 def imports(

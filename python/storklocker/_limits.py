@@ -4,12 +4,11 @@ import functools
 import operator
 import struct
 
+from ._answers import Named
+
 TYPE_CHECKING = False
 if TYPE_CHECKING:
-    from collections import namedtuple
     from typing import Any, Dict, Optional, Tuple
-else:
-    from ._answers import namedtuple
 
 UNBOUND = (1 << 32) - 1
 """The greatest memo number, and the greatest limit for large data."""
@@ -42,10 +41,7 @@ BUILDS = ("made", "any")
 
 
 class Limits(
-    namedtuple(
-        "Limits",
-        "counted stack memo passed numbers large levels weight work clash memory",
-    )
+    Named, fields="counted stack memo passed numbers large levels weight work clash memory"
 ):
     """The limits of a check. Immutable.
 
@@ -111,8 +107,7 @@ class Limits(
         memory: "Optional[int]" = None,
     ) -> "Limits":
         many, few = (UNBOUND, UNBOUND) if flag("large", large) else (16_777_216, 1_000_000)
-        return super().__new__(
-            cls,
+        values = (
             number("counted", many if counted is _USUAL else counted),
             number("stack", few if stack is _USUAL else stack),
             number("memo", few if memo is _USUAL else memo),
@@ -124,6 +119,7 @@ class Limits(
                 for name, given in zip(COSTS, (levels, weight, work, clash, memory))
             ),
         )
+        return cls._make(values)
 
     def __reduce__(self) -> "Tuple[Any, ...]":
         return (_limits_with, (self._asdict(),))
