@@ -260,7 +260,6 @@ static PyMethodDef methods[] = {
      "Where the plain instructions end that the cutter of joblib's files follows, and a frame."},
     {"respelled", respelled, METH_VARARGS,
      "The instructions with BUILD as TUPLE2 BINPERSID, or None; and where they end."},
-    {"audit_hook", audit_hook, METH_O, "The audit hook of an installed guard."},
     {"begin_uses", begin_uses, METH_NOARGS, "What `uses` keeps from one pickle to the next."},
     {"uses", uses, METH_VARARGS, "What a pickle does with names that have substitutes."},
     {"verdict", AS_C_FUNCTION(verdict), METH_FASTCALL,
@@ -286,7 +285,8 @@ static int filled(PyObject *module) {
     state->loads = loads_type();
     int is_made = state->verdict != NULL && state->row_verdict != NULL && state->pairs != NULL
         && state->loads != NULL && PyObject_SetAttrString(module, "Pairs", state->pairs) == 0
-        && PyObject_SetAttrString(module, "Loads", state->loads) == 0;
+        && PyObject_SetAttrString(module, "Loads", state->loads) == 0
+        && add_audit_hook(module) == 0;
     return is_made ? PyModule_AddStringConstant(module, "version", storklocker_version()) : -1;
 }
 

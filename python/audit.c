@@ -1,28 +1,58 @@
 #include "loads.h"
 
-/* Called with each event of the interpreter. `held` has what may be imported, and what is called
-   with any other import that a reader asks for. */
-static PyObject *audit(PyObject *held, PyObject *const *given, Py_ssize_t count) {
-    if (count == 2 && PyUnicode_Check(given[0])
+#include <stddef.h>
+#include <structmember.h>
+
+/* Its members may change while it hooks. It lives as long as the interpreter. */
+typedef struct {
+    PyObject_HEAD
+    PyObject *permitted; /* a container of the pairs that any reader may import; None: all */
+    PyObject *judge;     /* called with any other pair that a reader asks for */
+} AuditHook;
+
+static void audit_dealloc(PyObject *self) {
+    PyTypeObject *type = Py_TYPE(self);
+    Py_CLEAR(((AuditHook *)self)->permitted);
+    Py_CLEAR(((AuditHook *)self)->judge);
+    ((freefunc)PyType_GetSlot(type, Py_tp_free))(self);
+    Py_DECREF(type);
+}
+
+/* Called with each event of the interpreter. */
+static PyObject *audit(PyObject *self, PyObject *const *given, Py_ssize_t count) {
+    const AuditHook *own = (const AuditHook *)self;
+    PyObject *permitted = own->permitted;
+    if (permitted != NULL && permitted != Py_None && count == 2 && PyUnicode_Check(given[0])
         && PyUnicode_CompareWithASCIIString(given[0], "pickle.find_class") == 0) {
-        PyObject *permitted = PyList_GetItem(held, 0);
-        Py_XINCREF(permitted); /* another thread may install another guard */
-        int is_permitted = permitted != NULL ? PySequence_Contains(permitted, given[1]) : -1;
-        Py_XDECREF(permitted);
+        Py_INCREF(permitted); /* another thread may install another guard */
+        int is_permitted = PySequence_Contains(permitted, given[1]);
+        Py_DECREF(permitted);
         if (is_permitted < 0)
             return NULL;
         if (!is_permitted)
-            return PyObject_CallFunctionObjArgs(PyList_GetItem(held, 1), given[1], NULL);
+            return PyObject_CallFunctionObjArgs(own->judge, given[1], NULL);
     }
     return Py_BuildValue("");
 }
 
-PyObject *audit_hook(PyObject *Py_UNUSED(module), PyObject *held) {
-    static PyMethodDef hook = {
-        "audit", AS_C_FUNCTION(audit), METH_FASTCALL, "The audit hook of a guard."};
-    if (!PyList_Check(held) || PyList_Size(held) != 2) {
-        PyErr_SetString(PyExc_TypeError, "a list of two is needed");
-        return NULL;
-    }
-    return PyCFunction_NewEx(&hook, held, NULL);
+static PyMemberDef audit_members[] = {
+    {"permitted", T_OBJECT, offsetof(AuditHook, permitted), 0, NULL},
+    {"judge", T_OBJECT, offsetof(AuditHook, judge), 0, NULL},
+    {NULL, 0, 0, 0, NULL}};
+static PyMethodDef audit_methods[] = {
+    {"audit", AS_C_FUNCTION(audit), METH_FASTCALL, "The hook, for sys.addaudithook."},
+    {NULL, NULL, 0, NULL}};
+
+int add_audit_hook(PyObject *module) {
+    static PyType_Slot slots[] = {
+        {Py_tp_dealloc, audit_dealloc},
+        {Py_tp_members, audit_members},
+        {Py_tp_methods, audit_methods},
+        {0, NULL}};
+    static PyType_Spec spec = {
+        "storklocker._storklocker.AuditHook", sizeof(AuditHook), 0, Py_TPFLAGS_DEFAULT, slots};
+    PyObject *made = PyType_FromSpec(&spec);
+    int is = made != NULL ? PyObject_SetAttrString(module, "AuditHook", made) : -1;
+    Py_XDECREF(made);
+    return is;
 }

@@ -27,8 +27,7 @@ PyObject *loads_type(void);
    after an error. */
 int set_loads(PyObject *guard, PyObject *list, PyObject *reader, int is_substituting);
 
-/* The audit hook of the guard that is installed. Takes a list, whose items may change: a container
-   of the pairs that any reader may import, and a function that judges the other pairs. */
-PyObject *audit_hook(PyObject *module, PyObject *held);
+/* Adds the class of the audit hook of installed guards to the module. Returns -1 after an error. */
+int add_audit_hook(PyObject *module);
 
 #endif

@@ -1,4 +1,4 @@
-from typing import Any, Callable, Dict, Iterable, List, Optional, Tuple, Type, TypeVar
+from typing import Any, Callable, Container, Dict, Iterable, List, Optional, Tuple, Type, TypeVar
 
 from ._answers import RowVerdict, Verdict
 
@@ -22,6 +22,11 @@ class Loads:
         buffers: Optional[Iterable[Any]] = None,
     ) -> Any: ...
 
+class AuditHook:
+    permitted: Optional[Container[Tuple[str, str]]]
+    judge: Optional[Callable[[Tuple[str, str]], None]]
+    def audit(self, *event: Any) -> None: ...
+
 def begin_loads(
     guard: Loads, allow: Optional[Pairs], loads: Callable[..., Any], is_substituting: bool, /
 ) -> None: ...
@@ -29,7 +34,6 @@ def pairs_of(
     kind: Type[_P], pairs: Tuple[Tuple[bytes, bytes], ...], settings: bytes, /
 ) -> _P: ...
 def walked(data: bytes, start: int, stop: int = ..., /) -> Tuple[int, bool]: ...
-def audit_hook(held: List[Any], /) -> Callable[..., None]: ...
 def begin_uses() -> Any: ...
 def uses(
     kept: Any, data: bytes, start: int, number_of: Callable[[bytes, bytes], int], /

@@ -13,7 +13,7 @@ from .._guard import Guard
 from .._lists import AllowList
 from .._reasons import Reason
 from .._refusal import CONTEXT, Refusal
-from .._storklocker import audit_hook
+from .._storklocker import AuditHook
 from .holders import ORIGINALS, Change, others, paths_of, replace_all
 from .joblib_reader import replace_joblib
 from .reading import readers_of
@@ -84,13 +84,6 @@ def permitted_by(allow: AllowList) -> FrozenSet[Tuple[str, str]]:
     return frozenset(allow).difference(meant)
 
 
-class _Everything:
-    """What an interpreter without a guard permits."""
-
-    def __contains__(self, pair: object) -> bool:
-        return True
-
-
 _INSTALLED: List[State] = []
 
 
@@ -145,9 +138,9 @@ def _audits() -> bool:
     """Adds the audit hook, which stays for the life of the process."""
     if not hasattr(sys, "addaudithook"):
         return False
-    if len(_HELD) == 1:
-        _HELD.append(_judge)
-        sys.addaudithook(audit_hook(_HELD))
+    if _HOOK.judge is None:
+        _HOOK.judge = _judge
+        sys.addaudithook(_HOOK.audit)
     return True
 
 
@@ -161,18 +154,17 @@ def _judge(words: Tuple[Any, ...]) -> None:
 
 
 def _permit() -> None:
+    """Gives the audit hook the list of the innermost guard."""
     if not _INSTALLED:
-        _HELD[0] = _Everything()
+        _HOOK.permitted = None
     elif _INSTALLED[-1].is_lasting:
-        _HELD[0] = _INSTALLED[-1].listed
+        _HOOK.permitted = _INSTALLED[-1].listed
     else:
-        _HELD[0] = _INSTALLED[-1]
+        _HOOK.permitted = _INSTALLED[-1]
 
 
-_HELD: List[Any] = [_Everything()]
-"""The list of the innermost guard, and once there is an audit hook, what judges other imports. The
-hook sees each event of the interpreter, so it does no more than look an import up.
-"""
+_HOOK = AuditHook()
+"""Sees each event of the interpreter, so it does no more than look an import up."""
 
 
 class _Child:
