@@ -104,7 +104,7 @@ static void write_again(struct walk *w, const struct walk *walked, uint8_t *out)
         put(w, out, w->bytes + w->at, walked->at - w->at);
 }
 
-static int is_begun(PyObject *args, PyObject **data, size_t most, struct walk *w) {
+static int parse_walk(PyObject *args, PyObject **data, size_t most, struct walk *w) {
     Py_ssize_t start, stop = PY_SSIZE_T_MAX;
     if (!PyArg_ParseTuple(args, "Sn|n", data, &start, &stop))
         return 0;
@@ -121,7 +121,7 @@ static int is_begun(PyObject *args, PyObject **data, size_t most, struct walk *w
 PyObject *walked(PyObject *Py_UNUSED(module), PyObject *args) {
     PyObject *data;
     struct walk w;
-    if (!is_begun(args, &data, SIZE_MAX, &w))
+    if (!parse_walk(args, &data, SIZE_MAX, &w))
         return NULL;
     walk(&w, NULL);
     return Py_BuildValue("nN", (Py_ssize_t)w.at, PyBool_FromLong(w.is_stopped));
@@ -131,7 +131,7 @@ PyObject *respelled(PyObject *Py_UNUSED(module), PyObject *args) {
     PyObject *data, *made;
     size_t places[PLACES];
     struct walk w, again;
-    if (!is_begun(args, &data, LARGE, &w))
+    if (!parse_walk(args, &data, LARGE, &w))
         return NULL;
     again = w;
     w.places = places;
