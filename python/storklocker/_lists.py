@@ -118,7 +118,7 @@ class AllowList(_Pairs):
         if not isinstance(text, (str, bytes, bytearray)):
             raise TypeError(f"the text of a list file must be str or bytes, not {type(text)!r}")
         data = _bytes_of(text) if isinstance(text, str) else bytes(text)
-        said: "Tuple[Any, Any]" = ({}, ())
+        said: Tuple[Any, Any] = ({}, ())
         if b"substitutes" in data:
             from ._sections import split
 

@@ -31,7 +31,7 @@ def loads(
     if limits is None and old_strings == "unknown" and fix_imports is False and build == "made":
         guard = _plain_guard(allow)
     else:
-        words: "Any" = {"limits": limits, "old_strings": old_strings, "fix_imports": fix_imports}
+        words: Any = {"limits": limits, "old_strings": old_strings, "fix_imports": fix_imports}
         guard = Guard(allow, build=build, **words)
     if encoding is None and errors is None and buffers is None:
         return guard.loads(data)

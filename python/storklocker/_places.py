@@ -108,7 +108,7 @@ class _Reader:
     def sees(self, word: str) -> bool:
         return self.text.startswith(word, self.at)
 
-    def take(self, pattern: "re.Pattern[str]") -> str:
+    def take(self, pattern: re.Pattern[str]) -> str:
         """What the pattern matches here, which is passed over."""
         found = pattern.match(self.text, self.at)
         if found is None:

@@ -9,7 +9,7 @@ from typing import Any, Iterator, Tuple
 from ._answers import Verdict
 from ._imports import Import
 
-CONTEXT: "contextvars.ContextVar[Any]" = contextvars.ContextVar(
+CONTEXT: contextvars.ContextVar[Any] = contextvars.ContextVar(
     "storklocker.context", default=None
 )
 

@@ -18,7 +18,7 @@ from ._guard import Guard
 from ._refusal import Refusal
 
 
-_all: "weakref.WeakSet[Counts]" = weakref.WeakSet()
+_all: weakref.WeakSet[Counts] = weakref.WeakSet()
 
 
 def _renew_locks() -> None:

@@ -24,7 +24,7 @@ class Command(NamedTuple):
     words: str
     what: str
     parser: argparse.ArgumentParser
-    below: List["Command"]
+    below: List[Command]
 
 
 class Option(NamedTuple):

@@ -27,7 +27,7 @@ class Misses:
 
     def __init__(self, guard: Guard) -> None:
         self._is_heard = getattr(guard, "_hook", guard._on_refusal) is not None
-        self._times: "OrderedDict[str, float]" = OrderedDict()
+        self._times: OrderedDict[str, float] = OrderedDict()
         self._lock = threading.Lock()
 
     def tell(self, key: Any, error: Exception) -> None:

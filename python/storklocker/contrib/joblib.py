@@ -91,7 +91,7 @@ def _pickle_at(source: Source, at: int, most: int) -> bytes:
         size *= 4
 
 
-_LISTING: "weakref.WeakKeyDictionary[Guard, Guard]" = weakref.WeakKeyDictionary()
+_LISTING: weakref.WeakKeyDictionary[Guard, Guard] = weakref.WeakKeyDictionary()
 
 
 def _check(pickled: bytes, guard: Guard) -> None:

@@ -63,7 +63,7 @@ class _Connection(_Wrapper):  # type: ignore[misc]
             raise AttributeError(name)
         return getattr(self._conn, name)
 
-    def __enter__(self) -> "_Connection":
+    def __enter__(self) -> _Connection:
         return self
 
     def __exit__(self, *raised: object) -> None:

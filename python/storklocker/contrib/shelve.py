@@ -20,13 +20,13 @@ from ._rebinding import rebound
 
 
 def open(
-    path: Union[str, "os.PathLike[str]"],
+    path: Union[str, os.PathLike[str]],
     guard: Guard,
     *,
     flag: Any = "c",
     protocol: Optional[int] = None,
     writeback: bool = False,
-) -> "plain.Shelf[Any]":
+) -> plain.Shelf[Any]:
     """`shelve.open` with every value loaded through the guard. Keys are strings, not pickles."""
 
     class Unpickler:

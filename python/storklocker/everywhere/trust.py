@@ -45,7 +45,7 @@ class _Trust:
         self.is_open = True
 
 
-_TRUST: "contextvars.ContextVar[Optional[_Trust]]" = contextvars.ContextVar(
+_TRUST: contextvars.ContextVar[Optional[_Trust]] = contextvars.ContextVar(
     "storklocker.trusted", default=None
 )
 trust_now = _TRUST.get
