@@ -1,5 +1,6 @@
 """Many calls, and threads with little room."""
 
+import contextlib
 import gc
 import threading
 import unittest
@@ -27,7 +28,8 @@ def resident():
 
 
 def call(count):
-    guard = storklocker.Guard(BY_PAIRS)
+    """Checks pickles, and loads some of them. Returns how many were loaded."""
+    guard, loaded = storklocker.Guard(BY_PAIRS), 0
     for k in range(count):
         data, listed = CASES[k % len(CASES)]
         storklocker.check(data, listed)
@@ -35,10 +37,10 @@ def call(count):
             again = storklocker.AllowList(listed) | BY_PAIRS
             storklocker.check_row(data, again, limits=storklocker.Limits(stack=k))
             storklocker.AllowList.from_text("version = 1\n[imports]\na = ['b']\n")
-            try:
+            with contextlib.suppress(storklocker.Refused):
                 guard.loads(data)
-            except Exception:
-                continue
+                loaded += 1
+    return loaded
 
 
 class Endurance(unittest.TestCase):
@@ -47,7 +49,7 @@ class Endurance(unittest.TestCase):
         call(10_000)
         gc.collect()
         before = resident()
-        call(200_000)
+        self.assertGreater(call(200_000), 500)
         gc.collect()
         self.assertLess(resident() - before, 1024)
 

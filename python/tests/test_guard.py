@@ -87,16 +87,18 @@ class Loads(unittest.TestCase):
             lambda: GUARD.load(io.BytesIO(HOSTILE)),
             lambda: GUARD.Unpickler(io.BytesIO(HOSTILE)).load(),
         ]
+        refused = 0
         for number, call in enumerate(calls):
             gc.collect()
             gc.disable()
             try:
                 call()
             except Refused:
-                pass
+                refused += 1
             with self.subTest(number=number):
                 self.assertIn(gc.collect(), (0, None))  # PyPy doesn't say
             gc.enable()
+        self.assertEqual(refused, len(calls))
 
     def test_what_is_missing_under_limits_of_the_guard(self):
         limits = storklocker.Limits(stack=3)
