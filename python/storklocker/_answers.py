@@ -18,17 +18,16 @@ else:
 
 
 class Named(_Tuple):
-    """A tuple whose subclass names its fields: `class Point(Named, fields="x y")`. `namedtuple` of
-    `collections` compiles code for each class, which would take a tenth of the package's import.
+    """A tuple with the fields that its subclass names in `__match_args__`. `namedtuple` compiles
+    code for each class, which would take a tenth of the package's import.
     """
 
     __slots__ = ()
     _fields: "Tuple[str, ...]"
 
-    def __init_subclass__(cls, fields: str = "") -> None:
-        if fields:
-            cls._fields = tuple(fields.split())
-            setattr(cls, "__match_args__", cls._fields)
+    def __init_subclass__(cls) -> None:
+        if "__match_args__" in vars(cls):
+            cls._fields = vars(cls)["__match_args__"]
             for place, field in enumerate(cls._fields):
                 setattr(cls, field, property(operator.itemgetter(place)))
 
@@ -73,11 +72,13 @@ SHOWN = 64
 """The number of bytes of a name that the text of a refusal shows."""
 
 
-class Verdict(Named, fields="accepted taken imports at reason number pair pickles"):
+class Verdict(Named):
     """The answer of the checker. It is true if the pickle is accepted.
 
     `str` gives the line that the program prints.
     """
+
+    __match_args__ = ("accepted", "taken", "imports", "at", "reason", "number", "pair", "pickles")
 
     accepted: bool
     taken: int

@@ -23,10 +23,11 @@ _FEW = 10
 _NOTHING = AllowList([])
 
 
-class Import(Named, fields="module name"):
+class Import(Named):
     """An import of a pickle. Both fields are None if the pickle doesn't reveal the pair."""
 
     __slots__ = ()
+    __match_args__ = ("module", "name")
 
     module: Optional[str]
     name: Optional[str]

@@ -40,9 +40,7 @@ BUILDS = ("made", "any")
 """What BUILD may take; the index is the number in storklocker.h."""
 
 
-class Limits(
-    Named, fields="counted stack memo passed numbers large levels weight work clash memory"
-):
+class Limits(Named):
     """The limits of a check. Immutable.
 
     A limit above its greatest value means that value.
@@ -78,6 +76,10 @@ class Limits(
     """
 
     __slots__ = ()
+    __match_args__ = (
+        *("counted", "stack", "memo", "passed", "numbers", "large"),
+        *("levels", "weight", "work", "clash", "memory"),
+    )
 
     counted: int
     stack: int
