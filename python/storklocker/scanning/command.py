@@ -20,7 +20,6 @@ from .costs import KINDS
 from .dangers import import_findings, list_findings
 from .files import Files, is_url
 from .judging import Question
-from .learning import Learned
 from .lists import add_commands, list_of
 from .report import ACCEPTED, NO_PICKLE, Finding, Report, shown
 from .scan import Means, scan
@@ -286,6 +285,8 @@ def _imports(asked: argparse.Namespace) -> int:
 def _learn(asked: argparse.Namespace) -> int:
     if not (asked.paths or asked.from_log):
         raise OSError("learn takes files, or --from-log with a file")
+    from .learning import Learned  # it needs modules that take a sixth of a start
+
     learned = Learned()
     for path in asked.from_log:
         learned.add_log(path)

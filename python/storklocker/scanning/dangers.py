@@ -13,6 +13,7 @@ from typing import Container, Dict, FrozenSet, Iterable, Iterator, List, Optiona
 
 from .. import lists
 from .._lists import AllowList
+from .._meant import EVERYTHING
 from .._names import RENAMED, modules_of, renamed
 from .known import HARMLESS, Known, Row
 from .report import LONGEST, Finding, Pair, shown
@@ -66,6 +67,14 @@ def judged(module: str, name: str) -> Optional[Row]:
     """What is known of a name; None if nobody has judged it."""
     is_short = len(module) + len(name) <= _SHORT  # so that hostile ones don't fill the memory
     return _judged_before(module, name) if is_short else _judged(module, name)
+
+
+def danger_of(pair: Tuple[str, str]) -> str:
+    """Why a name is dangerous, or an empty text if it isn't known to be."""
+    row = judged(*pair)
+    if row is not None and row.severity == DANGER:
+        return f"Dangerous: {shown(row.why)}"
+    return "Dangerous: it permits everything." if pair in EVERYTHING else ""
 
 
 def is_harmful(module: str, name: str) -> bool:

@@ -6,11 +6,10 @@ import time
 from typing import Dict, Iterable, Iterator, List, Tuple
 
 from .._learning import LARGEST, Seen, read_log
-from .._meant import EVERYTHING
 from .._writing import quoted
-from .dangers import judged
+from .dangers import danger_of
 from .report import ACCEPTED, UNJUDGED, Report, shown
-from .severity import DANGER, REFUSED, UNREADABLE
+from .severity import REFUSED, UNREADABLE
 
 _SHOWN = 5
 Pair = Tuple[str, str]
@@ -75,14 +74,6 @@ class Learned:
             times = "once" if seen.times == 1 else f"{seen.times:,} times"
             words.append(f"asked {times}, {_day(seen.first)}{key} to {_day(seen.last)}")
         return ", ".join(words)
-
-
-def danger_of(pair: Pair) -> str:
-    """Why a name is dangerous, or an empty text if it isn't known to be."""
-    row = judged(*pair)
-    if row is not None and row.severity == DANGER:
-        return f"Dangerous: {shown(row.why)}"
-    return "Dangerous: it permits everything." if pair in EVERYTHING else ""
 
 
 def _day(seconds: int) -> str:

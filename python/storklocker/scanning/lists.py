@@ -14,7 +14,7 @@ from .._lists import AllowList
 from .._meant import EVERYTHING, Meant
 from .._meant import of as meant_in
 from .._writing import dotted, quoted, replace, row_of
-from .learning import danger_of
+from .dangers import danger_of
 from .report import shown
 
 Pair = Tuple[str, str]
