@@ -206,6 +206,7 @@ def packed(limits: Limits, old_strings: str, keeps_memo: bool, build: str) -> by
     )
 
 
+@functools.lru_cache(maxsize=64)
 def without_costs(settings: bytes) -> bytes:
     """The settings, with no limit on what loading costs."""
     kept = _SETTINGS.unpack(settings)[: -len(COSTS) - 2]

@@ -65,6 +65,8 @@ def _recorded(place: Place, beside: Source, parts: Set[Tuple[int, int]]) -> Foun
 
 def records_reading(place: Place) -> Found:
     """Which files torch gets to by the records in a `.metadata`. It is loaded as a pickle, too."""
+    if not place.path.lower().endswith(METADATA):
+        return False
     named = _METADATA.fullmatch(_name_of(place))
     if named is None or not length_at(place.source, 0, place.budget):
         return False

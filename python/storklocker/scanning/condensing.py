@@ -55,9 +55,9 @@ class _Rest:
 
     def counted(self) -> Iterator[Report]:
         """A report on the others, if there are any."""
-        rest = {it: self._statuses[it] for it in _ORDER if self._statuses[it]}
-        if not rest:
+        if not self._statuses:
             return
+        rest = {it: self._statuses[it] for it in _ORDER if self._statuses[it]}
         counts = ", ".join(f"{count:,} {status}" for status, count in rest.items())
         found = [Finding(it, f"{count:,} more of these") for it, count in self._kinds.items()]
         yield Report(

@@ -2,6 +2,7 @@
 
 from __future__ import annotations
 
+import functools
 from typing import TYPE_CHECKING, Dict, NamedTuple, Optional, Tuple
 
 from .._answers import Verdict
@@ -33,7 +34,12 @@ def limits_under(allow: Optional[AllowList], size: int) -> Limits:
     """
     if allow is not None:
         return WIDE if allow.limits is None else WIDEST
-    return WIDEST._replace(numbers=max(size, STANDARD.numbers))
+    return _with_numbers(max(size, STANDARD.numbers))
+
+
+@functools.lru_cache(maxsize=64)
+def _with_numbers(most: int) -> Limits:
+    return WIDEST._replace(numbers=most)
 
 
 class Imports(NamedTuple):

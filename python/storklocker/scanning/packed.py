@@ -279,12 +279,13 @@ _UNKNOWN = tuple(
         ("lzip", rb"LZIP\x01"),
     )
 )
+_ANY_UNKNOWN = re.compile(b"|".join(magic.pattern for _, magic in _UNKNOWN), re.DOTALL)
 
 
 def unknown_reading(place: Place) -> Found:
     """What is packed in a way that the standard library doesn't unpack."""
     front = place.source.front()
-    for name, magic in _UNKNOWN:
+    for name, magic in _UNKNOWN if _ANY_UNKNOWN.match(front) else ():
         if magic.match(front):
             why = "it is packed in a way that is not unpacked here"
             yield place.unread(name, "unknown-container", why)

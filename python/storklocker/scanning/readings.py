@@ -12,6 +12,7 @@ for bytes without a pickle. It returns whether its reader takes the file at all.
 
 from __future__ import annotations
 
+import re
 from typing import Callable, Generator, List, NamedTuple, Optional, Union
 
 from .budget import DEPTH, Budget, TooMuch
@@ -109,11 +110,15 @@ _ONLY = {
 
 def is_text(front: bytes) -> bool:
     """Whether these first bytes of a file are printable text."""
+    if _CONTROL.search(front, 0, _SOON):
+        return False
     text = front.decode("utf-8", "ignore").translate(_WHITE)
     return text.isprintable() and 2 * len(text) >= len(front)
 
 
 _WHITE = {ord(white): " " for white in "\n\r\t\f"}
+_CONTROL, _SOON = re.compile(rb"[\0-\x08\x0b\x0e-\x1f\x7f]"), 256
+"""What no text has, which pickles of protocol 2 and later have soon. Decoding takes longer."""
 
 
 def examine(place: Place) -> Found:

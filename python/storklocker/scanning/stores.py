@@ -52,18 +52,20 @@ _LONGEST = 1024
 _NEAR = 64
 """How many bytes in front of a trail are tried as the beginning of its pickle."""
 _STEP, _FIRST, _MOST, _FOOTER = 1 << 16, 1 << 12, 1 << 20, 1 << 20
-_MAGICS: Dict[str, List[Tuple[int, bytes]]] = {
-    "HDF5": [(at, b"\x89HDF\r\n\x1a\n") for at in (0, *(512 << power for power in range(48)))],
-    "GDBM": [
-        (0, struct.pack(f"{order}I", number))
-        for number in (0x13579ACD, 0x13579ACE, 0x13579ACF, 0x13579AD0, 0x13579AD1)
-        for order in "<>"
-    ],
-    "LMDB": [(16, b"\xde\xc0\xef\xbe")],
-    "Arrow": [(0, b"ARROW1"), (0, b"FEA1")],
-    "Parquet": [(0, b"PAR1")],
+_HDF5 = b"\x89HDF\r\n\x1a\n"
+_GDBM = tuple(
+    struct.pack(f"{order}I", number)
+    for number in (0x13579ACD, 0x13579ACE, 0x13579ACF, 0x13579AD0, 0x13579AD1)
+    for order in "<>"
+)
+_MAGICS: Dict[str, List[Tuple[int, Tuple[bytes, ...]]]] = {
+    "HDF5": [(at, (_HDF5,)) for at in (0, *(512 << power for power in range(48)))],
+    "GDBM": [(0, _GDBM)],
+    "LMDB": [(16, (b"\xde\xc0\xef\xbe",))],
+    "Arrow": [(0, (b"ARROW1", b"FEA1"))],
+    "Parquet": [(0, (b"PAR1",))],
 }
-"""Where each format has which bytes."""
+"""Where each format has one of which bytes."""
 _SCHEMA = re.compile(rb"ARROW:schema.{0,16}?([A-Za-z0-9+/]{64,}={0,2})", re.DOTALL)
 """Where a Parquet file has the schema of Arrow, which may hold pickles."""
 
@@ -132,13 +134,13 @@ def _start_of(trail: Trail, place: Place) -> int:
     return first
 
 
-def _has_one(source: Source, magics: List[Tuple[int, bytes]]) -> bool:
+def _has_one(source: Source, magics: List[Tuple[int, Tuple[bytes, ...]]]) -> bool:
     """Whether the source has some of these bytes at their places."""
     front = source.front()
-    for at, magic in magics:
+    for at, those in magics:
         if at >= source.size:  # as all that follow
             break
-        if front.startswith(magic, at) or at >= BLOCK and source.read(at, len(magic)) == magic:
+        if front.startswith(those, at) or at >= BLOCK and source.read(at, len(those[0])) in those:
             return True
     return False
 
