@@ -2,16 +2,19 @@
 """Times `storklocker scan` over folders of pickles, and `pickletools.genops`.
 
 It prints files and bytes per second with 1, 2 and 4 jobs, compares the CPU time with that of
-`genops` in as many processes, and gives the peak memory of the largest process.
+`genops` in as many processes, and gives the peak memory of the largest process. Last, it compares a
+scan of many small files with `pickle.loads` of what is in them.
 """
 import argparse
 import concurrent.futures
 import datetime
+import gc
 import os
 import pathlib
 import pickle
 import pickletools
 import resource
+import statistics
 import subprocess
 import sys
 import tempfile
@@ -21,6 +24,8 @@ from typing import Dict, List, Tuple
 PYTHON = pathlib.Path(__file__).resolve().parent.parent / "python"
 TARGET, BOUND = 20, 5
 """Speedup over `pickletools.genops`; below the bound it is a regression."""
+SMALL, RECORDS, TURNS = 3_000, 118, 7
+"""Files of 4 kB, and how often each reader has its turn."""
 LIST = 'version = 1\n[imports]\ndatetime = ["datetime"]\n'
 
 
@@ -69,6 +74,28 @@ def beside(folder: pathlib.Path, jobs: int, most: int) -> float:
         return sum(pool.map(listed, files)) / len(files)
 
 
+def loaded(folder: pathlib.Path) -> float:
+    """The CPU time of loading the bytes of all files, without garbage collector."""
+    held = [path.read_bytes() for path in folder.iterdir()]
+    gc.disable()
+    began = time.process_time()
+    for data in held:
+        pickle.loads(data)
+    took = time.process_time() - began
+    gc.enable()
+    return took
+
+
+def compare_with_loads(folder: pathlib.Path, allow: pathlib.Path) -> None:
+    """Prints how many times as long as loading them a scan of small files takes."""
+    size = fill(folder, SMALL, pickle.dumps(rows(RECORDS), 4)) // SMALL
+    turns = [(scanned(folder, allow, 1)[1], loaded(folder)) for _ in range(TURNS)]
+    times = statistics.median(scan / loads for scan, loads in turns)
+    scan, loads = (min(took) for took in zip(*turns))
+    print(f"\n{SMALL:,} files of {size:,} bytes: {scan:.3f} s, `pickle.loads` {loads:.3f} s,")
+    print(f"{times:.1f} times as long.")
+
+
 def main() -> int:
     words = argparse.ArgumentParser(description=__doc__.splitlines()[0])
     words.add_argument("--small", type=int, default=10_000, help="number of files of 1 KB (10,000)")
@@ -99,6 +126,7 @@ def main() -> int:
                     f"| {ratio:.1f} | {peak / 1e6:.0f} |",
                     flush=True,
                 )
+        compare_with_loads(top / "small", allow)
     print(f"\nThe target is {TARGET} times `genops`, the bound {BOUND} times, on files of 10 MB.")
     return 0 if least >= BOUND else 1
 

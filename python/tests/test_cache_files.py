@@ -4,14 +4,19 @@ import io
 import os
 import pathlib
 import pickle
+import random
 import struct
 import tempfile
 import time
 import unittest
+import unittest.mock
 import zlib
 
 from common import needs
 from storklocker import AllowList
+from storklocker.scanning import readings
+from storklocker.scanning.caches import packed_behind
+from storklocker.scanning.source import in_memory
 from test_readings import EVIL, RUNS, reports
 
 
@@ -109,6 +114,29 @@ class CacheFiles(unittest.TestCase):
             found = reports(data, AllowList([]))
             self.assertFalse(any(it.is_finding for it in found), data)
             self.assertNotIn("cachelib", {it.kind for it in found})
+
+
+class Soon(unittest.TestCase):
+    """What the first bytes say soon is what all of them say."""
+
+    def test_texts(self):
+        chosen = random.Random(7)
+        kinds = (b"a \n\t", b"a\r\f\x85", "\x85\xa0é".encode(), bytes(range(256)))
+        fronts = [bytes(chosen.choices(kind, k=8)) for kind in kinds for _ in range(500)]
+        fronts += [b"a" * at + bytes([code]) for at in (0, 255, 256) for code in range(256)]
+        said = [readings.is_text(front) for front in fronts]
+        with unittest.mock.patch.object(readings, "_SOON", 0):
+            self.assertEqual(said, [readings.is_text(front) for front in fronts])
+        self.assertEqual({*said}, {False, True})
+
+    def test_packed_values(self):
+        for value in (1, "a" * 99, 2.5, None):
+            front = pickle.dumps(value, 4)
+            for code in range(256):
+                found = packed_behind(in_memory(io.BytesIO(front + b"x%c." % code)))
+                is_packed = (ord("x") << 8 | code) % 31 == 0 and len(front) <= 64
+                self.assertEqual(found, len(front) * is_packed)
+            self.assertEqual(packed_behind(in_memory(io.BytesIO(front + b"x"))), 0)
 
 
 if __name__ == "__main__":
