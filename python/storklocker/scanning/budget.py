@@ -17,7 +17,7 @@ more than `UNPACKED` bytes.
 """
 NAMES, NAME_BYTES = 500, 1 << 15
 """The most names of a file that are reported, and their bytes, beside those for its size."""
-SECONDS = 1.5
+SECONDS = 1.25
 """The processor time for a file, beside that for its size."""
 
 _ROW, _ROW_RATIO = 1 << 23, 16
