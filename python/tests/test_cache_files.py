@@ -15,8 +15,6 @@ import zlib
 from common import needs
 from storklocker import AllowList
 from storklocker.scanning import readings
-from storklocker.scanning.caches import packed_behind
-from storklocker.scanning.source import in_memory
 from test_readings import EVIL, RUNS, reports
 
 
@@ -128,15 +126,6 @@ class Soon(unittest.TestCase):
         with unittest.mock.patch.object(readings, "_SOON", 0):
             self.assertEqual(said, [readings.is_text(front) for front in fronts])
         self.assertEqual({*said}, {False, True})
-
-    def test_packed_values(self):
-        for value in (1, "a" * 99, 2.5, None):
-            front = pickle.dumps(value, 4)
-            for code in range(256):
-                found = packed_behind(in_memory(io.BytesIO(front + b"x%c." % code)))
-                is_packed = (ord("x") << 8 | code) % 31 == 0 and len(front) <= 64
-                self.assertEqual(found, len(front) * is_packed)
-            self.assertEqual(packed_behind(in_memory(io.BytesIO(front + b"x"))), 0)
 
 
 if __name__ == "__main__":
