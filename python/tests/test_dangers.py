@@ -47,7 +47,7 @@ ASKED = """
     subprocess.Popen.__init__ zipfile.ZipFile.__init__ io.FileIO.__init__
     codecs.__builtins__ builtins.object.__subclasses__ asyncio.unix_events.subprocess.Popen
     six.exec_ six.moves.builtins.exec six.moves.cPickle.loads future.moves.subprocess.Popen
-    joblib.numpy_pickle.NDArrayWrapper joblib.numpy_pickle_compat.ZNDArrayWrapper
+    joblib.numpy_pickle.NDArrayWrapper.read joblib.numpy_pickle_compat.ZNDArrayWrapper.read
 """.split()
 HARMLESS = """
     __builtin__.set builtins.set copyreg._reconstructor copy_reg._reconstructor _codecs.encode

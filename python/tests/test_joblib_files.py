@@ -159,7 +159,7 @@ class OtherFiles(unittest.TestCase):
                     joblib.load(path)
                 ran.rmdir()
                 (found,) = reports_of("file", io.BytesIO(data), Question())
-                self.assertEqual([it.kind for it in found.findings], ["dangerous-import"])
+                self.assertEqual([it.kind for it in found.findings], ["risky-import"])
 
 
 class Hastened(unittest.TestCase):
