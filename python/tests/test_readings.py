@@ -108,6 +108,11 @@ def alone(data, **properties):
     return lzma.compress(data, format=lzma.FORMAT_ALONE, filters=filters)
 
 
+def windowed(data):
+    """LZMA alone with a window that readers of any format don't take: they pass it over."""
+    return data[:1] + b"\x46\0\x80\0" + data[5:]
+
+
 def broken_at_its_end(pack):
     """A packed pickle in front of bytes whose last ones are damaged: readers stop at STOP."""
     noise = random.Random(1).getrandbits(8 * 30_000).to_bytes(30_000, "little")
@@ -182,6 +187,7 @@ HOSTILE = {
     "xz behind lzma": alone(b"") + lzma.compress(EVIL),
     "lzma behind xz": lzma.compress(b"(") + alone(b"0" + RUNS),
     "the first xz alone": lzma.compress(b"cposixX") + bytes(4) + lzma.compress(b" is a text\n"),
+    "xz before lzma of an odd window": lzma.compress(b"cposixX") + windowed(alone(b" is a text\n")),
     "the first lzma alone": alone(b"cposixX") + bytes(4) + alone(b" is a text\n"),
     "lzma of another window": alone(b"") + b"\0\0\x80" + bytes(15) + alone(EVIL),
     "the first zlib alone": zlib.compress(b"cposixX") + zlib.compress(b" is a text\n"),

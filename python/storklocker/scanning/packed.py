@@ -169,7 +169,10 @@ def _unpacked(place: Place, at: int, form: _Format) -> Tuple[Source, str, int]:
             return in_memory(out), f"{source.size - at:,} bytes follow what is packed", gap
         if at > found.end:
             fault = "zeros stand between what is packed: readers differ"
-        if at > found.end or not form.is_certain:
+        is_same = form.is_at(source.read(at, 32))
+        if form.is_certain and not is_same:
+            fault = "something else is packed behind it: readers differ"
+        if at > found.end or not (form.is_certain and is_same):
             gap = out.tell() if gap <= 0 else gap
 
 
