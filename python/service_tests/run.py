@@ -15,7 +15,7 @@ import time
 from pathlib import Path
 
 HERE = Path(__file__).resolve().parent
-SECONDS = 900
+SECONDS = 1800
 # They mostly wait for their servers.
 TOGETHER = 2
 
