@@ -1,8 +1,8 @@
 #!/usr/bin/env python3
 """Loads pickles that are designed to cost their reader time, memory or its stack.
 
-Each that a guard with the default limits accepts is loaded in a process of its own, with limits.
-The status is 1 if a load takes more than 1.5 seconds, or 250 bytes of memory for a byte of the
+Each that a guard with the default limits accepts is loaded by it, in a process of its own, with
+limits. The status is 1 if that takes more than a second, or 250 bytes of memory for a byte of the
 pickle. Keys made to collide are bounded by `clash` alone: they are checked with `clash=30_000`.
 With --bare, what is refused is loaded too: the process is killed after some seconds, or crashes.
 """
@@ -15,16 +15,18 @@ from typing import Dict, List, Set, Tuple
 
 from storklocker import AllowList, Limits, check
 
-SECONDS, MEMORY, LEAST = 1.5, 250, 10**6
+SECONDS, MEMORY, LEAST = 1.0, 250, 10**6
 PRIME = 2**61 - 1  # the modulus of the hashes of numbers
 TURN, FIRST, OTHER = 2870177450012600261, 11400714785074694791, 14029467366897019727
 MASK = 2**64 - 1
 
 LOADS = """
 import pickle, resource, sys, time
+from storklocker import AllowList, Guard, Limits
 data, own = sys.stdin.buffer.read(), resource.RUSAGE_SELF
+loads = {"bare": pickle.loads, "guarded": Guard(AllowList([])).loads}[sys.argv[1]]
 peak, start = resource.getrusage(own).ru_maxrss, time.process_time()
-kept = pickle.loads(data)
+kept = loads(data)
 took = time.process_time() - start
 print(f"{took:.3f} {resource.getrusage(own).ru_maxrss - peak}")
 """
@@ -111,21 +113,21 @@ COLLIDING: Dict[str, bytes] = {
 }
 
 
-def loaded(data: bytes) -> str:
-    """What a process says that loads a pickle: seconds, and KiB of memory; or its status. Of three
-    such processes, the first by this.
+def loaded(data: bytes, way: str) -> str:
+    """What a process says that loads a pickle, "bare" or "guarded": seconds, and KiB of memory; or
+    its status. Of three such processes, the first by this.
     """
-    return min(once_loaded(data) for _ in range(3))
+    return min(once_loaded(data, way) for _ in range(3))
 
 
-def once_loaded(data: bytes, seconds: int = 5) -> str:
+def once_loaded(data: bytes, way: str, seconds: int = 5) -> str:
 
     def limit() -> None:
         resource.setrlimit(resource.RLIMIT_CPU, (seconds, seconds + 1))
         resource.setrlimit(resource.RLIMIT_AS, (4 << 30, 4 << 30))
         resource.setrlimit(resource.RLIMIT_CORE, (0, 0))
 
-    words = [sys.executable, "-c", LOADS]
+    words = [sys.executable, "-c", LOADS, way]
     ran = subprocess.run(words, input=data, capture_output=True, preexec_fn=limit)
     return ran.stdout.decode().strip() if ran.returncode == 0 else f"status {ran.returncode}"
 
@@ -142,7 +144,8 @@ def main() -> int:
     for shapes, limits in ((SHAPES, Limits()), (COLLIDING, Limits(clash=30_000))):
         for name, data in shapes.items():
             verdict = check(data, AllowList([]), limits=limits)
-            line = loaded(data) if verdict or asked.bare else ""
+            way = "guarded" if verdict else "bare"
+            line = loaded(data, way) if verdict or asked.bare else ""
             is_bad = bool(verdict) and (line.startswith("status") or not is_within(data, line))
             failed += is_bad
             print(f"{name:32}{len(data):9}  {verdict!s:32}  {line}{'  TOO MUCH' * is_bad}")

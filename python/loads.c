@@ -3,6 +3,9 @@
 
 #include <stddef.h>
 
+/* The size from which on a pickle may have so many containers that collections take long. */
+enum { LONG = 1 << 14 };
+
 typedef PyObject *fast_function(
     PyObject *self, PyObject *const *given, Py_ssize_t count, PyObject *names);
 
@@ -13,17 +16,21 @@ typedef struct {
     PyObject *names;  /* ("fix_imports",) */
     fast_function *function; /* what the reader calls, if it is such a function of C */
     PyObject *receiver;      /* its first argument, borrowed from the reader */
+    PyObject *collector;     /* the module `gc` if it collects while a reader reads, or null */
     int is_substituting;     /* whether names of the list are loaded through substitutes */
 } Loads;
 
+/* The second number of the version, of which the first is 3. */
+static long version(void) {
+    static long known = 0;
+    if (known == 0)
+        known = PyLong_AsLong(PySys_GetObject("hexversion")) >> 16 & 0xFF;
+    return known;
+}
+
 /* Whether instances say that they refer to their type. Before 3.9 their subclass says it. */
 static int is_type_visited(void) {
-    static int known = -1;
-    if (known < 0) {
-        const char *version = Py_GetVersion();
-        known = version[0] != '3' || version[1] != '.' || version[2] != '8';
-    }
-    return known;
+    return version() >= 9;
 }
 
 static int loads_traverse(PyObject *self, visitproc visit, void *arg) {
@@ -46,6 +53,7 @@ static void loads_dealloc(PyObject *self) {
     Py_CLEAR(own->list);
     Py_CLEAR(own->reader);
     Py_CLEAR(own->names);
+    Py_CLEAR(own->collector);
     ((freefunc)PyType_GetSlot(type, Py_tp_free))(self);
     Py_DECREF(type);
 }
@@ -59,6 +67,8 @@ static void find_function(Loads *own) {
         && PyCFunction_GetFlags(reader) == (METH_FASTCALL | METH_KEYWORDS)) {
         own->function = (fast_function *)(void (*)(void))PyCFunction_GetFunction(reader);
         own->receiver = PyCFunction_GetSelf(reader);
+        own->collector = version() < 12 ? PyImport_ImportModule("gc") : NULL;
+        PyErr_Clear();
     }
 #endif
 }
@@ -110,6 +120,30 @@ static PyObject *loaded(const Loads *own, PyObject *data) {
         : called(own->reader, given, 1, own->names);
 }
 
+/* Calls a function of `gc`, and returns whether the answer is true. An error is cleared. */
+static int ask(PyObject *collector, const char *function) {
+    PyObject *made = PyObject_CallMethod(collector, function, NULL);
+    int is_true = made != NULL && PyObject_IsTrue(made) == 1;
+    Py_XDECREF(made);
+    PyErr_Clear();
+    return is_true;
+}
+
+/* Like `loaded`, for a pickle that imports nothing: reading it runs no Python code, so no other
+   thread runs before it ends. Until then no garbage is collected. From 3.12 on that is so anyway;
+   before, 700 new containers call the collector, which takes longer than making them. */
+static PyObject *loaded_at_once(const Loads *own, PyObject *data) {
+    PyObject *type, *value, *trace;
+    if (own->collector == NULL || PyBytes_Size(data) < LONG || !ask(own->collector, "isenabled"))
+        return loaded(own, data);
+    ask(own->collector, "disable");
+    PyObject *made = loaded(own, data);
+    PyErr_Fetch(&type, &value, &trace);
+    ask(own->collector, "enable");
+    PyErr_Restore(type, value, trace);
+    return made;
+}
+
 static PyObject *loads(PyObject *self, PyObject *const *given, Py_ssize_t count, PyObject *names) {
     const Loads *own = (const Loads *)self;
     PyObject *list = own->list;
@@ -127,7 +161,7 @@ static PyObject *loads(PyObject *self, PyObject *const *given, Py_ssize_t count,
     if (no == Py_None && is_substituting && imports > 0)
         made = PyObject_CallMethod(self, "_loads_accepted", "O", given[0]);
     else if (no == Py_None) /* what imports nothing can't call anything */
-        made = loaded(own, given[0]);
+        made = imports > 0 ? loaded(own, given[0]) : loaded_at_once(own, given[0]);
     else if (no != NULL)
         made = PyObject_CallMethod(self, "_loads_refused", "OO", given[0], no);
     Py_XDECREF(no);
@@ -139,7 +173,8 @@ static PyMethodDef loads_methods[] = {
      "loads($self, data, /, *, fix_imports=None, encoding=None, errors=None, buffers=None)\n--\n\n"
      "The object of the pickle in `data`, which must contain nothing else.\n\n"
      "`data` is bytes or a buffer, which is copied first. Raises Refused, MoreBytes if more bytes\n"
-     "follow the pickle, and otherwise what `pickle.loads` raises."},
+     "follow the pickle, and otherwise what `pickle.loads` raises. While a large pickle is read that\n"
+     "imports nothing, no garbage is collected."},
     {NULL, NULL, 0, NULL}};
 
 PyObject *loads_type(void) {

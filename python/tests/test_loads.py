@@ -209,6 +209,39 @@ class Memory(unittest.TestCase):
         gc.collect()
         self.assertIsNone(end())
 
+    @of_cpython
+    def test_no_collection_comes_while_plain_data_is_read(self):
+        sets = b"](" + b"\x8f" * 20_000 + b"e."  # before 3.12, `pickle.loads` collects at every 700
+        unhashable = b"](" + b"\x8f" * 20_000 + b"e0}]Ns."
+        calls = {"bare": lambda: pickle.loads(sets), "guarded": lambda: GUARD.loads(sets)}
+        calls["failing"] = lambda: outcome(GUARD.loads, unhashable)
+        calls["imports"] = lambda: GUARD.loads(b"ccollections\ndeque\n0" + sets)
+        told, counts = [], {}
+        gc.callbacks.append(lambda phase, named: told.append(phase))
+        try:
+            for name, call in calls.items():
+                gc.collect()
+                del told[:]
+                kept = call()
+                counts[name] = told.count("start")
+                self.assertTrue(gc.isenabled())
+                del kept
+        finally:
+            gc.callbacks.pop()
+        is_later = sys.version_info >= (3, 12)
+        self.assertEqual([counts["bare"] > 9, counts["imports"] > 9], [not is_later] * 2)
+        self.assertLessEqual(max(counts["guarded"], counts["failing"]), 1)
+        self.assertIs(outcome(GUARD.loads, unhashable), TypeError)
+
+    @of_cpython
+    def test_collections_that_are_off_stay_off(self):
+        gc.disable()
+        try:
+            self.assertEqual(GUARD.loads(LARGE), pickle.loads(LARGE))
+            self.assertFalse(gc.isenabled())
+        finally:
+            gc.enable()
+
     def test_a_guard_that_begins_again_while_it_loads(self):
         guard, wrong, is_over = Guard(AllowList(LISTED)), [], threading.Event()
 
