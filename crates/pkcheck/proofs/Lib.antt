@@ -1,3 +1,4 @@
+-- The lemmas of the check, from stack and memo up to whole runs and rows of pickles.
 pub mod BinarySearch
 pub mod Coverage
 pub mod StepParts

@@ -1,3 +1,4 @@
+-- Each turn carries on what is known along a row of pickles, and each exit gives its answer.
 use Rattle.std.proofs.Common.{rules, [], drop, length, refl, sym, ap, ◌∙◌}
 use Rattle.std.proofs.Math.Seq.{drop-length}
 use Rattle.std.proofs.lemmas.Result.{err_from_is_err_and}

@@ -1,3 +1,4 @@
+-- Before each turn the reader is open and the row goes well; each turn takes at least a byte.
 use Rattle.std.proofs.Common.{◌≡◌, ◌-◌}
 use Rattle.pkread.specs.Core.{Open}
 use Rattle.pkread.specs.ReaderCalls.{state}

@@ -1,3 +1,4 @@
+-- A pair that two operands name refers to texts of the table, because both operands do.
 use Rattle.std.proofs.Common.{subst}
 use Rattle.pkcheck.specs.Private.Noted.{AreNumbered}
 use Rattle.pkcheck.proofs.import.asked_by.Goals as goal

@@ -1,3 +1,4 @@
+-- No bytes begin with two sequences, so of two lists at their front one begins the other.
 use Rattle.pkcheck.proofs.Wholes.RefusedBehind.{one_begins}
 use Rattle.pkcheck.proofs.laws.one_begins.Goals as goal
 

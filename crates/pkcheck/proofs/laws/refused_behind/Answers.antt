@@ -1,3 +1,4 @@
+-- Instructions without a fault are accepted, so what is refused lies behind all of them.
 use Rattle.pkcheck.proofs.Wholes.RefusedBehind.{refused_behind}
 use Rattle.pkcheck.proofs.laws.refused_behind.Goals as goal
 

@@ -1,3 +1,4 @@
+-- With no fault but limits, a no has a limit, an allocation or a failed read as its reason.
 use Rattle.pkcheck.proofs.Wholes.Exclusive.{refused_for_limits}
 use Rattle.pkcheck.proofs.laws.refused_for_limits.Goals as goal
 

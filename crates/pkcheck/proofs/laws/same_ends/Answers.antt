@@ -1,3 +1,4 @@
+-- `SameEnd` clause by clause: reflexive, symmetric, transitive, and what it carries over.
 use Rattle.pkcheck.proofs.Wholes.Ends.{listed_carries_over, same_across, same_as_itself}
 use Rattle.pkcheck.proofs.Wholes.Ends.{same_either_way, same_events, well_carries_over}
 use Rattle.pkcheck.proofs.Wholes.Ends.{well_is_free}

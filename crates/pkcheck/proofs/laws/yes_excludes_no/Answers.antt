@@ -1,3 +1,4 @@
+-- A yes and a no read the same instructions, and none of them both has a fault and has none.
 use Rattle.pkcheck.proofs.Wholes.Exclusive.{yes_excludes_no}
 use Rattle.pkcheck.proofs.laws.yes_excludes_no.Goals as goal
 

@@ -1,3 +1,4 @@
+-- Two checks of a row read the same pickles, so neither refuses one that the other accepts.
 use Rattle.pkcheck.proofs.Wholes.ExclusiveRows.{yes_of_row_excludes_no}
 use Rattle.pkcheck.proofs.laws.yes_of_row_excludes_no.Goals as goal
 

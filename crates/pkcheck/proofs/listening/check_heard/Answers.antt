@@ -1,3 +1,4 @@
+-- With payloads held each report is of a whole instruction, which is what a listener hears.
 use Rattle.std.proofs.Common.{[], ◌++◌}
 use Rattle.pkcheck.specs.Heard.{refused_instruction}
 use Rattle.pkcheck.specs.Private.WholeReports.{wholes}

@@ -1,3 +1,4 @@
+-- What was compared so far is equal, so what is left of both lists decides.
 use Rattle.std.proofs.Common.{◌≡◌}
 use Rattle.pkcheck.proofs.imports.Imports.same.Given as goal
 

@@ -1,3 +1,4 @@
+-- The copies so far, followed by the imports still to come, are the imports in order.
 use Rattle.std.proofs.Common.{◌≡◌, ◌++◌, map}
 use Rattle.pkcheck.specs.Import.{asked_shown}
 use Rattle.pkcheck.proofs.imports.Imports.to_vec.Given as goal

@@ -1,3 +1,4 @@
+-- Equality of imports is decided by comparing their lists, one import beside the other.
 use Rattle.std.proofs.Common.{Bool, true, false, MatchBool, refl}
 use Rattle.std.specs.Prelude.{Decides}
 use Rattle.std.proofs.lemmas.Bool.Decides.{same_from_decides}

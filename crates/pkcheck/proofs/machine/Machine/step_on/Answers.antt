@@ -1,3 +1,4 @@
+-- What `advance` ensures of each arm gives the parts of the contract of a step.
 use Rattle.std.proofs.Common.{◌∙◌, Some, ap, option_map, sym}
 use Rattle.pkops.specs.Inst.{instruction_of}
 use Rattle.pkcheck.specs.Knowledge.{Knowledge}

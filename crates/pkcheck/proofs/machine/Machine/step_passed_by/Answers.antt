@@ -1,3 +1,4 @@
+-- A skipped payload makes bytes or a bytearray whatever it holds, so one step stands for all.
 use Rattle.std.proofs.Common.{◌≤◌, None, Some, option_map, length, ap, subst, sym, ◌∙◌}
 use Rattle.pkcheck.specs.Effects.{effect_of}
 use Rattle.pkcheck.specs.Import.{asked_shown, permit_of}

@@ -1,3 +1,4 @@
+-- Each turn copies one entry, and the names written for earlier copies stay where they are.
 use Rattle.std.proofs.Common.{length}
 use Rattle.pkcheck.specs.declared.machine.ledger.Entry.TheVariants as entry
 use Rattle.pkcheck.proofs.Copies.{copied_more, entry_at, grows_more}

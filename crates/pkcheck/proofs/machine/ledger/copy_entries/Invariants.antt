@@ -1,3 +1,4 @@
+-- The entries copied so far refer to written names, and ask for what their originals ask for.
 use Rattle.pkcheck.proofs.Copies.{CopiedSoFar}
 use Rattle.pkcheck.proofs.machine.ledger.copy_entries.Given as goal
 

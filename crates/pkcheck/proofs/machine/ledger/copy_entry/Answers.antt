@@ -1,3 +1,4 @@
+-- Copying a spelled pair writes two names and changes no note of a copied text.
 use Rattle.std.proofs.Common.{refl}
 use Rattle.pkcheck.proofs.Copies.{copies_grown}
 use Rattle.pkcheck.proofs.machine.ledger.copy_entry.Goals as goal

@@ -1,3 +1,4 @@
+-- A text noted as copied is found under its note; any other is written once and noted.
 use Rattle.std.proofs.Common.{◌∙◌, None, refl, rules, sym}
 use Rattle.std.proofs.lemmas.List.{get_or_default}
 use Rattle.pkcheck.proofs.Copies.{copies_more}

@@ -1,3 +1,4 @@
+-- A spelled pair becomes two written names, which its entry finds whatever the texts are.
 use Rattle.pkcheck.proofs.machine.ledger.enter.Goals as goal
 
 pub returns-in_ok-write_pair-in-Written-clause-ok :

@@ -1,3 +1,4 @@
+-- Without room, a number that the tree doesn't have is refused as too large.
 use Rattle.std.proofs.Common.{refl, inl}
 use Rattle.pkcheck.proofs.Cells.{has_none}
 use Rattle.pkcheck.proofs.machine.memo.put.Goals as goal

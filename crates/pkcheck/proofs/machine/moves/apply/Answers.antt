@@ -1,3 +1,4 @@
+-- A push refused for want of room is a fault of MARK, and likewise of DUP.
 use Rattle.std.proofs.Common.{refl}
 use Rattle.pkcheck.specs.declared.effect.Move.TheVariants.{PushesMark, Duplicates}
 use Rattle.pkcheck.specs.Shape.{Mark}

@@ -1,3 +1,4 @@
+-- DUP pushes the top that it has read, so its only fault behind that is a full stack.
 use Rattle.pkcheck.proofs.StepParts.Errs.{err_on}
 use Rattle.pkcheck.proofs.StepParts.Moves.{grown, duplicated}
 use Rattle.pkcheck.proofs.machine.moves.duplicate.Goals as goal

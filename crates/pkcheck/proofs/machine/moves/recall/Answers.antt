@@ -1,3 +1,4 @@
+-- A fetch fails where the memo lacks the number or the stack lacks room, and nowhere else.
 use Rattle.std.proofs.Common.{inl, sym, refl}
 use Rattle.pkcheck.specs.Shape.{NoMemo}
 use Rattle.pkcheck.proofs.StepParts.Errs.{err_on}

@@ -1,3 +1,4 @@
+-- A memo without room for the top of the stack is a fault of the move that stores it.
 use Rattle.pkcheck.proofs.StepParts.Errs.{err_on}
 use Rattle.pkcheck.proofs.StepParts.Moves.{stuffed, stored_is}
 use Rattle.pkcheck.proofs.machine.moves.remember.Goals as goal

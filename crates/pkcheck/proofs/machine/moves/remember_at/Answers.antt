@@ -1,3 +1,4 @@
+-- A number above the limit is a fault only if there is an object on top to be stored.
 use Rattle.std.proofs.Common.{◌<◌, inl, inr, refl, arith}
 use Rattle.pkcheck.proofs.StepParts.Moves.{stored_is}
 use Rattle.pkcheck.proofs.machine.moves.remember_at.Goals as goal

@@ -1,3 +1,4 @@
+-- A Python 2 string in ASCII is UTF-8, and decodes to its own bytes.
 use Rattle.std.proofs.Common.{sym, ◌∙◌}
 use Rattle.pkcheck.proofs.Numbered.{ascii_numbered, ascii_utf8}
 use Rattle.pkcheck.proofs.machine.new_text.is_old_text.Goals as goal

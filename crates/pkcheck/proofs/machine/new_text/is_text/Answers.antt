@@ -1,3 +1,4 @@
+-- A UNICODE line without escapes is the text that it names.
 use Rattle.std.proofs.Common.{[], sym, ap, ◌∙◌}
 use Rattle.std.specs.Prelude.{encode_utf8_all, unwrap_or}
 use Rattle.pkops.specs.OldBytes.{old_bytes}

@@ -1,3 +1,4 @@
+-- What a line decodes to is a string, so its bytes are UTF-8.
 use Rattle.std.proofs.lemmas.Str.{IsUtf8-string_bytes}
 use Rattle.pkcheck.proofs.machine.new_text.name_line_slowly.Goals as goal
 

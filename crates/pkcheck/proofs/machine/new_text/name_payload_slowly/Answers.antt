@@ -1,3 +1,4 @@
+-- A payload decodes to a string, whose bytes may enter the table of texts as UTF-8.
 use Rattle.std.proofs.lemmas.Str.{IsUtf8-string_bytes}
 use Rattle.pkcheck.proofs.machine.new_text.name_payload_slowly.Goals as goal
 

@@ -1,3 +1,4 @@
+-- The number pushed is that of the text appended to the table; all else is as it was.
 use Rattle.std.proofs.Common.{[], ◌∷◌, arith, length-append, refl}
 use Rattle.pkcheck.proofs.ResolvedEntries.{text_seen, text_sees}
 use Rattle.pkcheck.proofs.machine.new_text.name_text.Goals as goal

@@ -1,3 +1,4 @@
+-- Each action does what its opcode's effect says, and fails with a fault of that effect.
 use Rattle.std.proofs.Common.{◌≡◌, None, Some, arith, refl}
 use Rattle.std.proofs.lemmas.Result.{err_from_is_err_and}
 use Rattle.pkops.specs.Inst.{instruction_of}

@@ -1,3 +1,4 @@
+-- A copy with the same opcode and argument is the same instruction.
 use Rattle.std.proofs.Common.{◌≡◌, ◌∙◌, sym, ap₂}
 use Rattle.std.proofs.lemmas.Result.{err_from_is_err_and}
 use Rattle.pkops.specs.Inst.{instruction_of}

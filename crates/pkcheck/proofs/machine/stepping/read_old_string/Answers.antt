@@ -1,3 +1,4 @@
+-- A Python 2 string pushes any object, its bytes or its text, as the setting says.
 use Rattle.std.proofs.Common.{◌∙◌, None, Some, arith, inl, refl, sym, true, false}
 use Rattle.std.proofs.lemmas.Grind.{common_steps}
 use Rattle.std.proofs.lemmas.Result.{err_from_is_err_and}

@@ -1,3 +1,4 @@
+-- Each turn appends the character that one byte numbers, in UTF-8.
 use Rattle.std.proofs.Common.{◌∙◌, ◌++◌, ap, arith}
 use Rattle.std.specs.Prelude.{encode_utf8, string_bytes}
 use Rattle.pkcheck.proofs.Numbered.{numbered_more}

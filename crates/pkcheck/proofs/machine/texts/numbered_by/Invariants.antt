@@ -1,3 +1,4 @@
+-- The string is the UTF-8 of the characters numbered by the bytes passed.
 use Rattle.std.proofs.Common.{◌≡◌, take}
 use Rattle.std.specs.Prelude.{encode_utf8_all, string_bytes}
 use Rattle.pkcheck.proofs.machine.texts.numbered_by.Given as goal

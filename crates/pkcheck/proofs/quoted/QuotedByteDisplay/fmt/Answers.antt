@@ -1,3 +1,4 @@
+-- A byte that may not stand as it is becomes a backslash, an x and two hexadecimal digits.
 use Rattle.std.proofs.Common.{◌≡◌, ◌<◌, Bool, false, ap, codes, if◌then◌else◌, List, ℕ, ◌++◌, ◌∷◌}
 use Rattle.std.proofs.Common.{[], ◌∙◌, rules}
 use Rattle.std.proofs.lemmas.Fmt.{hex_byte}

@@ -1,3 +1,4 @@
+-- Behind the opening quote stand the bytes passed so far, each as it is printed in quotes.
 use Rattle.std.proofs.Common.{take}
 use Rattle.std.specs.List.{flat_map}
 use Rattle.std.specs.Fmt.{HasWritten, IsPlainFormatter}

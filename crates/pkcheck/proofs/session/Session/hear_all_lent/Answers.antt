@@ -1,3 +1,4 @@
+-- Each turn tells of one more lent instruction and judges it, up to a refusal or a failure.
 use Rattle.std.proofs.Common.{append-nil, arith, length, refl, ap, subst, sym, ◌∙◌, ◌-◌, ◌+◌, ◌++◌}
 use Rattle.std.proofs.Common.{◌≡◌, ◌≤◌, ℕ, [], ◌∷◌}
 use Rattle.std.proofs.lemmas.List.{length-append, length-drop}

@@ -1,3 +1,4 @@
+-- What lies before the rest was told and accepted in turn, and each turn shortens the rest.
 use Rattle.std.proofs.Common.{◌≡◌, List, length}
 use Rattle.pkcheck.specs.Import.{permit_of}
 use Rattle.pkcheck.specs.Private.Lent.{HearsMore}

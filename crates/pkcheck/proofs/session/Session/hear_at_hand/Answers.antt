@@ -1,3 +1,4 @@
+-- The reader takes what was told: the accepted instructions, and the one that ended the check.
 use Rattle.std.proofs.Common.{◌+◌, ap, append-nil, arith, inl, inr, refl, subst, sym, ◌∙◌}
 use Rattle.pkread.specs.AtHand.{beyond}
 use Rattle.pkread.specs.ReaderCalls.{state}

@@ -1,3 +1,4 @@
+-- Of a skipped payload only opcode and length are told, and whatever has them is judged alike.
 use Rattle.std.proofs.Common.{◌≡◌, ◌∷◌, ◌-◌, ◌∙◌, [], Ok, ap, inl, inr, subst, sym}
 use Rattle.pkops.specs.Inst.{instruction_of}
 use Rattle.pkread.specs.Heads.{StepsHead, StepsHeadFrom}

@@ -1,3 +1,4 @@
+-- An instruction read with its payload is told whole, and then judged by frame and machine.
 use Rattle.std.proofs.Common.{◌≡◌, Ok, inr, subst}
 use Rattle.pkread.specs.ReaderCalls.{Steps, StepsFrom, state}
 use Rattle.pkread.specs.declared.Next.TheVariants as next

@@ -1,3 +1,4 @@
+-- Frame rules and machine look at opcode and length alone, so any such instruction goes alike.
 use Rattle.std.proofs.Common.{◌≡◌, ◌∙◌, Some, ap, inr, subst, sym}
 use Rattle.std.proofs.lemmas.Result.{err_from_is_err_and}
 use Rattle.pkread.specs.Framing.{counted}

@@ -1,3 +1,4 @@
+-- A move acts on entries as on what they stand for, and keeps their text numbers in the table.
 use Rattle.std.proofs.Common.{length}
 use Rattle.pkops.specs.Inst.{instruction_of}
 use Rattle.pkops.specs.Operands.{memo_number}

@@ -1,3 +1,4 @@
+-- Entries stand for equally many objects and marks, so a second one is left over at STOP.
 use Rattle.std.proofs.Common.{arith}
 use Rattle.pkcheck.specs.Private.Slots.{remembered, seen}
 use Rattle.pkcheck.proofs.StepParts.GoesOn.{stop_left}

@@ -1,3 +1,4 @@
+-- The table of texts only grows, so what stack and memo said of older texts stays true.
 use Rattle.std.proofs.Common.{Some}
 use Rattle.pkops.specs.Inst.{instruction_of}
 use Rattle.pkcheck.specs.Runs.{Text, text}

@@ -1,3 +1,4 @@
+-- What entries stand for has just the marks that the entries have.
 use Rattle.std.proofs.Common.{◌∙◌}
 use Rattle.pkcheck.proofs.ResolvedEntries.{marks_seen}
 use Rattle.pkcheck.proofs.machine.held.Held.marks.Goals as goal

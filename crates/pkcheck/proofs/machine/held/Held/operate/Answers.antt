@@ -1,3 +1,4 @@
+-- An operation without an import changes the stack alone; the memo refers to texts as before.
 use Rattle.std.proofs.lemmas.Result.{err_from_is_err_and}
 use Rattle.pkcheck.specs.Private.Slots.{remembered}
 use Rattle.pkcheck.proofs.machine.held.Held.operate.Goals as goal

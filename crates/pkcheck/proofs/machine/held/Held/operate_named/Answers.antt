@@ -1,3 +1,4 @@
+-- An import adds no text, so the memo means the same before and after the operation.
 use Rattle.std.proofs.Common.{IfErr, IfOk, subst}
 use Rattle.pkcheck.specs.Effects.{effect_of}
 use Rattle.pkcheck.specs.Private.Steps.{IsStepFault}

@@ -1,3 +1,4 @@
+-- A text at the end moves no earlier one, so listed imports name the same pairs.
 use Rattle.std.proofs.Common.{[], ◌∷◌}
 use Rattle.pkcheck.proofs.StepParts.Errs.{ok_on, on_each}
 use Rattle.pkcheck.proofs.NotedImports.{are_grown, asked_grown}

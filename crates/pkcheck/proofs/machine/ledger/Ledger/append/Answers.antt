@@ -1,3 +1,4 @@
+-- Copied imports refer to written names only, so they can stand behind those already listed.
 use Rattle.std.proofs.Common.{◌++◌, ◌∙◌, ap, map}
 use Rattle.pkcheck.specs.Private.Noted.{entry_asked}
 use Rattle.pkcheck.proofs.Copies.{are_behind, asked_behind}

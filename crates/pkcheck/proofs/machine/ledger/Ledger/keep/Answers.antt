@@ -1,3 +1,4 @@
+-- Cutting the entries cuts the imports that they stand for, and those kept stay well numbered.
 use Rattle.std.proofs.Common.{length, sym}
 use Rattle.std.proofs.lemmas.List.{take-map}
 use Rattle.pkcheck.specs.Private.Noted.{entry_asked}

@@ -1,3 +1,4 @@
+-- An entry at the end asks for one more pair; a refused allocation leaves the pairs as they were.
 use Rattle.std.proofs.Common.{[], ◌∷◌, ◌++◌, ◌∙◌, length, refl, subst, sym}
 use Rattle.std.proofs.lemmas.Result.{err_from_is_err_and}
 use Rattle.pkcheck.specs.Private.Noted.{IsNamedIf, Noted, entry_asked}

@@ -1,3 +1,4 @@
+-- Rotated to the left and then cut, the entries are those behind the first `count`.
 use Rattle.std.proofs.Common.{rules, ◌≡◌, ◌-◌, ap, drop, length, sym, ◌∙◌}
 use Rattle.std.proofs.lemmas.List.{drop-map}
 use Rattle.pkcheck.specs.Private.Noted.{entry_asked}

@@ -1,3 +1,4 @@
+-- An empty memo has three empty parts, so its row may begin at any number.
 use Rattle.std.proofs.Common.{◌∙◌, inr, refl, arith}
 use Rattle.pkcheck.proofs.Cells.{no_cells}
 use Rattle.pkcheck.proofs.machine.memo.Memo.begin.Goals as goal

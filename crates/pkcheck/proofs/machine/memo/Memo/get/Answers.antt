@@ -1,3 +1,4 @@
+-- A number is looked up in one part: below the row, at its place in the row, or behind it.
 use Rattle.std.proofs.Common.{◌∙◌, ◌-◌, arith}
 use Rattle.pkcheck.proofs.Cells.{at_low, at_row, at_rest}
 use Rattle.pkcheck.proofs.machine.memo.Memo.get.Goals as goal

@@ -1,3 +1,4 @@
+-- The entries of the three parts together are those of the memo, so their counts add up.
 use Rattle.std.proofs.Common.{◌≡◌, ◌+◌, ◌++◌, length, arith}
 use Rattle.pkcheck.specs.Private.Slots.{numbered}
 use Rattle.pkcheck.proofs.Cells.{length_cells}

@@ -1,3 +1,4 @@
+-- The next number in order goes at the end of the row, while no entry lies behind the row.
 use Rattle.std.proofs.Common.{◌≡◌, [], ◌∷◌, ◌++◌, ap, inl, length, refl, rules, arith}
 use Rattle.std.proofs.Common.{length-append}
 use Rattle.pkcheck.proofs.Cells.{length_cells, more_end, put_end}

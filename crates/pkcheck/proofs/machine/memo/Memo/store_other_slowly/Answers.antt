@@ -1,3 +1,4 @@
+-- An entry goes below the row, into it or behind it, and each part keeps to its numbers.
 use Rattle.std.proofs.Common.{◌∙◌, ◌+◌, ◌-◌, ◌<◌, ◌^◌, ap, inl, inr, length, sym, arith}
 use Rattle.std.proofs.lemmas.Bool.{ltb-false}
 use Rattle.std.proofs.Math.ListN.{set, length-set}

@@ -1,3 +1,4 @@
+-- A first operand that stays is an object, so ending with it leaves the marks below it.
 use Rattle.std.proofs.Common.{◌∙◌, ap, sym}
 use Rattle.pkcheck.specs.Private.Places.{above, below}
 use Rattle.pkcheck.specs.Shape.{marks_of}

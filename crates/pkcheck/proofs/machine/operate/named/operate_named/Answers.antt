@@ -1,3 +1,4 @@
+-- The row of an opcode is its effect, and the instruction's lines spell the pair it names.
 use Rattle.pkcheck.proofs.machine.operate.named.operate_named.Goals as goal
 
 pub returns : goal.returns

@@ -1,3 +1,4 @@
+-- Faults in order: a receiver of a wrong class, an operand that is no text, a forbidden pair.
 use Rattle.std.proofs.Common.{◌∙◌, Some, inl, inr, length, map, refl, sym}
 use Rattle.std.proofs.lemmas.Result.{err_from_is_err_and}
 use Rattle.pkcheck.specs.Knowledge.{WrongClass, NotText}

@@ -1,3 +1,4 @@
+-- An import that fails at any stage, even at a full stack, leaves stack and imports as before.
 use Rattle.std.proofs.Common.{◌∙◌, ap, inl, inr, option_map, refl, None}
 use Rattle.std.proofs.lemmas.Result.{err_from_is_err_and}
 use Rattle.pkops.specs.declared.Op.TheVariants as op

@@ -1,3 +1,4 @@
+-- With so many objects on top and a fitting receiver, keeping the lowest is the whole effect.
 use Rattle.std.proofs.Common.{sym}
 use Rattle.pkops.specs.declared.Op.TheVariants as op
 use Rattle.pkops.specs.Spelling.{Nothing, instruction}

@@ -1,3 +1,4 @@
+-- TUPLE1, TUPLE2 and REDUCE replace one or two objects as their rows of the table say.
 use Rattle.std.proofs.Common.{refl, arith}
 use Rattle.pkops.specs.declared.Op.TheVariants as op
 use Rattle.pkops.specs.Spelling.{Nothing, instruction}

@@ -1,3 +1,4 @@
+-- An effect that imports nothing is given by what it takes and what it leaves.
 use Rattle.pkcheck.specs.Effects.{effect_of}
 use Rattle.pkcheck.proofs.StepParts.Operations.{unnamed_is}
 use Rattle.pkcheck.proofs.machine.operate.nameless.operate.Goals as goal

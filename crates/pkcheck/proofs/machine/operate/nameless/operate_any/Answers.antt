@@ -1,3 +1,4 @@
+-- Each arm names its opcode, so it has the effect that it would have by the table.
 use Rattle.pkcheck.proofs.machine.operate.nameless.operate_any.Goals as goal
 
 pub returns-in-Append : goal.returns-in-Append

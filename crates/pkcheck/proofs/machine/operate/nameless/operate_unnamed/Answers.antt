@@ -1,3 +1,4 @@
+-- A quick way that declines has changed nothing, so the next one starts from the same stack.
 use Rattle.pkcheck.proofs.StepParts.Replaced.{has_operated}
 use Rattle.pkcheck.proofs.machine.operate.nameless.operate_unnamed.Goals as goal
 

@@ -1,3 +1,4 @@
+-- Missing operands, a receiver of a wrong class and a full stack are faults of the operation.
 use Rattle.std.proofs.Common.{◌∙◌, [], None, ap, inl, refl, sym}
 use Rattle.std.proofs.lemmas.Result.{err_from_is_err_and}
 use Rattle.pkops.specs.declared.Op.TheVariants as op

@@ -1,3 +1,4 @@
+-- A policy that is a list permits no unknown pair.
 use Rattle.std.proofs.Common.{◌≡◌, Err, false, inl, refl, sym, ◌∙◌}
 use Rattle.std.specs.Prelude.{None, Some, is_none}
 use Rattle.pkcheck.specs.Import.{permit_of}

@@ -1,3 +1,4 @@
+-- The receiver is the first operand, whose class decides; without operands nothing is wrong.
 use Rattle.std.proofs.Common.{◌∙◌}
 use Rattle.pkcheck.proofs.StepParts.Judged.{wrong_head, wrong_none}
 use Rattle.pkcheck.proofs.machine.operate.receiver.receiver_fault.Goals as goal

@@ -1,3 +1,4 @@
+-- The code of a class is its number plus one, class by class.
 use denote.Enum.Declared.{tag_of}
 use Rattle.std.proofs.Common.{◌≡◌, ◌+◌, refl}
 use Rattle.pkcheck.specs.Private.Packed.{unpacked}

@@ -1,3 +1,4 @@
+-- A place in use is below the count, so one more than it doesn't overflow.
 use Rattle.std.proofs.Common.{◌≡◌, ◌<◌, length, take, ap, arith}
 use Rattle.std.proofs.lemmas.List.{length-take-le}
 use Rattle.pkcheck.proofs.machine.pile.Pile.end_with.Goals as goal

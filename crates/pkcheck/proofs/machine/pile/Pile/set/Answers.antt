@@ -1,3 +1,4 @@
+-- Setting an entry in use and then cutting off the unused ones is the same as the reverse.
 use Rattle.std.proofs.Common.{◌≡◌, length, take, ap, arith}
 use Rattle.std.proofs.Math.Seq.{take-set-lt}
 use Rattle.std.proofs.lemmas.List.{length-take-le}

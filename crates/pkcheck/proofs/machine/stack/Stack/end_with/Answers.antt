@@ -1,3 +1,4 @@
+-- The marks up to the end are the first of the noted places, as many as the caller counted.
 use Rattle.std.proofs.Common.{◌≡◌, ◌+◌, ◌∙◌, length, take, ap, sym, arith}
 use Rattle.pkcheck.specs.Private.Places.{below}
 use Rattle.pkcheck.specs.Private.Slots.{bars}

@@ -1,3 +1,4 @@
+-- Operands begin on the stack at the place where they begin among its slots.
 use Rattle.std.proofs.Common.{◌≡◌, ◌<◌, ◌∙◌, ◌≤◌, ◌+◌, ◌++◌, length, subst, arith}
 use Rattle.pkcheck.specs.Shape.{front, marks_of}
 use Rattle.pkcheck.specs.Private.Places.{above, below}

@@ -1,3 +1,4 @@
+-- Two or three objects on top of the slots are as many items on top of the stack.
 use Rattle.pkcheck.proofs.Places.{objects_from}
 use Rattle.pkcheck.proofs.StepParts.Errs.{some_by}
 use Rattle.pkcheck.proofs.machine.stack.Stack.find_few.Goals as goal

@@ -1,3 +1,4 @@
+-- The stack has one mark for each noted place.
 use Rattle.std.proofs.Common.{◌∙◌, ap, length}
 use Rattle.pkcheck.proofs.Bars.{marks_shown}
 use Rattle.pkcheck.proofs.machine.stack.Stack.marks.Goals as goal

@@ -1,3 +1,4 @@
+-- From a place on, the objects among the slots are those above it on the stack.
 use Rattle.std.proofs.Common.{◌≡◌, subst, sym}
 use Rattle.pkcheck.specs.Private.Places.{above}
 use Rattle.pkcheck.proofs.Places.{above_shown, place_within}

@@ -1,3 +1,4 @@
+-- Cut at the topmost mark, the slots show what lies below the slice.
 use Rattle.std.proofs.Common.{◌≡◌, ◌∙◌, [], Ok, drop, take, subst, sym, ap}
 use Rattle.pkcheck.specs.Shape.{slice}
 use Rattle.pkcheck.specs.Private.Slots.{shown, values_of}

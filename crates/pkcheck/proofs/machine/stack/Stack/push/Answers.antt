@@ -1,3 +1,4 @@
+-- A pushed object leaves the places of the marks as they are.
 use Rattle.std.proofs.Common.{◌∙◌, sym}
 use Rattle.pkcheck.proofs.Bars.{bars_pushed}
 use Rattle.pkcheck.proofs.machine.stack.Stack.push.Goals as goal

@@ -1,3 +1,4 @@
+-- A pushed mark stands at the old height, which joins the places of the earlier marks.
 use Rattle.std.proofs.Common.{◌∙◌, sym, ap, length, [], ◌∷◌, ◌++◌}
 use Rattle.pkcheck.proofs.Bars.{bars_marked}
 use Rattle.pkcheck.proofs.machine.stack.Stack.push_mark.Goals as goal

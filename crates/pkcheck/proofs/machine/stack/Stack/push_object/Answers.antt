@@ -1,3 +1,4 @@
+-- The places of the marks stay right with an object put on top, or with none for lack of memory.
 use Rattle.std.proofs.Common.{◌∙◌, sym}
 use Rattle.pkcheck.proofs.Bars.{bars_pushed}
 use Rattle.pkcheck.proofs.machine.stack.Stack.push_object.Goals as goal

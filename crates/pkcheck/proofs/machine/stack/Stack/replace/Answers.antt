@@ -1,3 +1,4 @@
+-- With nothing above the place, replacing is pushing, for which the limit leaves room.
 use Rattle.std.proofs.Common.{length, ap, arith}
 use Rattle.pkcheck.proofs.Places.{below_all}
 use Rattle.pkcheck.proofs.StepParts.Errs.{ok_by}

@@ -1,3 +1,4 @@
+-- An object set at a place has below it the marks that the caller counted, and none above.
 use Rattle.std.proofs.Common.{◌≡◌, ◌∙◌, ◌∷◌, [], length, take, ap, sym, arith}
 use Rattle.pkcheck.specs.declared.machine.stack.slots.Slot.TheVariants.{Object}
 use Rattle.pkcheck.specs.Private.Places.{below}

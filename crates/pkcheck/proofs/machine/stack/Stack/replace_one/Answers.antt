@@ -1,3 +1,4 @@
+-- An object on top is no mark, so every mark of the stack lies below it.
 use Rattle.std.proofs.Common.{◌∙◌, arith}
 use Rattle.pkcheck.proofs.Places.{objects_from}
 use Rattle.pkcheck.proofs.machine.stack.Stack.replace_one.Goals as goal

@@ -1,3 +1,4 @@
+-- With two objects on top, every mark of the stack lies below the lower one.
 use Rattle.std.proofs.Common.{◌∙◌, arith}
 use Rattle.pkcheck.proofs.Places.{objects_from}
 use Rattle.pkcheck.proofs.machine.stack.Stack.replace_two.Goals as goal

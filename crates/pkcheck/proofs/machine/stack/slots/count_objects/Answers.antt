@@ -1,3 +1,4 @@
+-- An object raises the count by one, a mark doesn't.
 use Rattle.std.proofs.Common.{◌∙◌, arith, sym}
 use Rattle.pkcheck.proofs.Settled.{count_bar, count_object}
 use Rattle.pkcheck.proofs.machine.stack.slots.count_objects.Goals as goal

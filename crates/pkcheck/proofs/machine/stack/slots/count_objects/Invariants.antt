@@ -1,3 +1,4 @@
+-- The count is the number of objects among the slots passed so far.
 use Rattle.std.proofs.Common.{◌≡◌, ◌≤◌, length, take}
 use Rattle.pkcheck.specs.Private.Slots.{values_of}
 use Rattle.pkcheck.proofs.machine.stack.slots.count_objects.Given as goal

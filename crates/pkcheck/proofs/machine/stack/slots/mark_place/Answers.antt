@@ -1,3 +1,4 @@
+-- A slice begins at the last noted place, the topmost mark; without one there is no slice.
 use Rattle.pkcheck.proofs.Bars.{last_some, last_none, no_slice, slice_at, slice_count, marks_slice}
 use Rattle.pkcheck.proofs.machine.stack.slots.mark_place.Goals as goal
 

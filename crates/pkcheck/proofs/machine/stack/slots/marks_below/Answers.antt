@@ -1,3 +1,4 @@
+-- The places below a height, which come first, are those of the marks of a stack cut there.
 use Rattle.std.proofs.Common.{arith}
 use Rattle.pkcheck.proofs.Bars.{cut_below}
 use Rattle.pkcheck.proofs.machine.stack.slots.marks_below.Goals as goal

@@ -1,3 +1,4 @@
+-- Every place from the current index on is at or above the height.
 use Rattle.std.proofs.Common.{◌≤◌, ◌<◌, ℕ, length, get_or}
 use Rattle.pkcheck.proofs.machine.stack.slots.marks_below.Given as goal
 

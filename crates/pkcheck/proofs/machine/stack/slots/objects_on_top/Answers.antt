@@ -1,3 +1,4 @@
+-- All slots above the topmost mark are objects, and a larger count of items isn't on top.
 use Rattle.std.proofs.Common.{◌≡◌, ◌-◌, length, suc, arith}
 use Rattle.pkcheck.proofs.Bars.{last_some, last_none, items_marked, items_few}
 use Rattle.pkcheck.proofs.machine.stack.slots.objects_on_top.Goals as goal

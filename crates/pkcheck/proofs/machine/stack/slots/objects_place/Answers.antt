@@ -1,3 +1,4 @@
+-- Only objects lie above the topmost mark, so a comparison of counts finds where they begin.
 use Rattle.std.proofs.Common.{◌-◌, length, arith}
 use Rattle.pkcheck.proofs.Bars.{items_at, marks_kept, objects_above}
 use Rattle.pkcheck.proofs.Shown.{starts_well}

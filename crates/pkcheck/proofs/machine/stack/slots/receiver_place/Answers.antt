@@ -1,3 +1,4 @@
+-- The slot below the topmost mark is the receiver, unless it is a mark or isn't there.
 use Rattle.std.proofs.Common.{◌-◌, [], refl, arith, drop}
 use Rattle.pkcheck.specs.Shape.{NoItem}
 use Rattle.pkcheck.specs.Private.Slots.{shown, values_of}

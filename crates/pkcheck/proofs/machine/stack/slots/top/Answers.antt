@@ -1,3 +1,4 @@
+-- The last slot is the top of the stack, and a mark there is no item.
 use Rattle.std.proofs.Common.{rules}
 use Rattle.pkcheck.proofs.Topmost.{top_mark, top_object}
 use Rattle.pkcheck.proofs.machine.stack.slots.top.Goals as goal

@@ -1,3 +1,4 @@
+-- A text lies between the end of the one before it and its own end, and is UTF-8 there.
 use Rattle.std.proofs.Common.{◌∙◌, [], ap, arith, get_or, length}
 use Rattle.pkcheck.proofs.JoinedTexts.{how_many, lies_by, none_past}
 use Rattle.pkcheck.proofs.machine.texts.Texts.get.Goals as goal

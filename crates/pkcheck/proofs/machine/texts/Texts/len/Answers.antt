@@ -1,3 +1,4 @@
+-- The buffer has one end for each text.
 use Rattle.std.proofs.Common.{ap, arith, length}
 use Rattle.pkcheck.proofs.JoinedTexts.{how_many}
 use Rattle.pkcheck.proofs.machine.texts.Texts.len.Goals as goal

@@ -1,3 +1,4 @@
+-- Bytes at the back and one more end make one more text; the earlier ones keep their ends.
 use Rattle.std.proofs.Common.{◌∷◌, [], ◌++◌, ◌∙◌, ap, arith}
 use Rattle.std.specs.Prelude.{length}
 use Rattle.pkcheck.specs.Private.Joined.{AreJoined, cut}

@@ -1,3 +1,4 @@
+-- If the lowest slot holds an object, it is the first operand.
 use Rattle.std.proofs.Common.{◌≡◌, Some, subst, sym, rules}
 use Rattle.std.specs.List.{slice_get}
 use Rattle.pkcheck.proofs.Settled.{object_at}

@@ -1,3 +1,4 @@
+-- The slot at which the count of objects reaches the index holds the operand with that index.
 use Rattle.std.proofs.Common.{◌≡◌, ◌∙◌, ◌≤◌, Some, None, length, take, subst, sym, arith}
 use Rattle.std.specs.List.{slice_get}
 use Rattle.std.proofs.lemmas.List.{take_all}

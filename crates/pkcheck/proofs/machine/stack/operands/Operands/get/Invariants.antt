@@ -1,3 +1,4 @@
+-- The count is that of the objects among the slots passed, and at most the index.
 use Rattle.std.proofs.Common.{◌≡◌, ◌≤◌, length, take}
 use Rattle.pkcheck.specs.Private.Slots.{values_of}
 use Rattle.pkcheck.proofs.machine.stack.operands.Operands.get.Given as goal

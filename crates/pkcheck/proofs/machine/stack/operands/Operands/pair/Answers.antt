@@ -1,3 +1,4 @@
+-- Of two operands in all, those at 0 and 1 are the whole list.
 use Rattle.std.proofs.Common.{◌≡◌, ◌∙◌, length, subst, sym}
 use Rattle.pkcheck.proofs.Settled.{both}
 use Rattle.pkcheck.proofs.machine.stack.operands.Operands.pair.Goals as goal
