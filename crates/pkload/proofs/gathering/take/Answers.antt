@@ -1,3 +1,4 @@
+-- For operands that are a number of objects, taking just that many is the whole rule.
 use Rattle.std.proofs.Common.{[], arith}
 use Rattle.std.proofs.lemmas.Result.{on_ok_weaker}
 use Rattle.pkload.proofs.Taking.{count_items}

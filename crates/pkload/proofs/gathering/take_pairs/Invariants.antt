@@ -1,3 +1,4 @@
+-- Keys and values go in pairs; light keys are only counted until the mark, others added at once.
 use Rattle.std.proofs.Common.{◌≡◌, ◌+◌, ◌≤◌, true, [], List, length}
 use Rattle.pkcheck.specs.Shape.{is_even, slice}
 use Rattle.pkload.specs.Heft.{Heft}

@@ -1,3 +1,4 @@
+-- The operands so far are those of the slice that left the stack, and are tallied as they are.
 use Rattle.std.proofs.Common.{◌≡◌, ◌≤◌, [], List, length}
 use Rattle.pkcheck.specs.Shape.{slice}
 use Rattle.pkload.specs.Heft.{Heft}

@@ -1,3 +1,4 @@
+-- Two checks of the same bytes bill the same instructions: bytes have one sequence in front.
 use Rattle.pkload.proofs.OneEnd.{one_end}
 use Rattle.pkload.proofs.laws.one_end.Goals as goal
 

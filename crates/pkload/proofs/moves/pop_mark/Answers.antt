@@ -1,3 +1,4 @@
+-- Taking a slice into operands that tally nothing is popping it with its mark.
 use Rattle.std.proofs.Common.{Ok, ap}
 use Rattle.std.proofs.lemmas.Result.{on_ok_weaker}
 use Rattle.pkcheck.specs.Shape.{and_then}

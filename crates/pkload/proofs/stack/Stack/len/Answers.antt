@@ -1,3 +1,4 @@
+-- Each code shows one entry, so there are as many entries as codes.
 use Rattle.std.proofs.Common.{[], arith}
 use Rattle.pkload.proofs.Slots.{length_shown}
 use Rattle.pkload.proofs.stack.Stack.len.Goals as goal

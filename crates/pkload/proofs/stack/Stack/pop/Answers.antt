@@ -1,3 +1,4 @@
+-- The last code is that of the topmost entry, and the codes left show the entries below it.
 use Rattle.pkload.proofs.Slots.{popped}
 use Rattle.pkload.proofs.stack.Stack.pop.Goals as goal
 

@@ -1,3 +1,4 @@
+-- An object's code in the last place shows that object above the same entries.
 use Rattle.std.proofs.Common.{◌-◌, ◌∙◌, [], ap, arith}
 use Rattle.pkload.proofs.Slots.{replaced}
 use Rattle.pkload.specs.Private.Shown.{shown}

@@ -1,3 +1,4 @@
+-- A last code that isn't that of a mark shows the object on top.
 use Rattle.std.proofs.Common.{◌-◌, ap, arith, get_or}
 use Rattle.pkload.proofs.Slots.{object_on_top}
 use Rattle.pkload.proofs.stack.Stack.top.Goals as goal
