@@ -1,3 +1,4 @@
+-- The lemmas of reading: frames, reasons, bytes taken, calls of a reader, loops over calls.
 pub mod Framing
 pub mod Reasons
 pub mod Bytes

@@ -1,3 +1,4 @@
+-- A plain opcode takes any argument and is admitted, so nothing has to be looked at.
 use Rattle.pkread.proofs.Bytes.Plain.{fine}
 use Rattle.pkread.proofs.admission.judged.Goals as goal
 

@@ -1,3 +1,4 @@
+-- An argument against its rule is faulty, and so is a good instruction that has an objection.
 use Rattle.std.proofs.Common.{subst}
 use Rattle.pkops.specs.Contents.{IsGood}
 use Rattle.pkops.specs.Spelling.{Argument, instruction, shown_arg}

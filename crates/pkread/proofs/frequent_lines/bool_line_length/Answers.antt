@@ -1,3 +1,4 @@
+-- The lines 00 and 01 obey the rule of INT, and are four bytes with code and line feed.
 use Rattle.std.proofs.Common.{refl}
 use Rattle.pkread.proofs.Bytes.FrequentLines.{bool_line}
 use Rattle.pkread.proofs.frequent_lines.bool_line_length.Goals as goal

@@ -1,3 +1,4 @@
+-- The code tells GET, PUT, INT and UNICODE apart, and each has a line of its own rule.
 use Rattle.std.proofs.Common.{arith, inl, inr, refl}
 use Rattle.pkops.specs.declared.Op.TheVariants as op
 use Rattle.pkread.proofs.Bytes.FrequentLines.{line_of}

@@ -1,3 +1,4 @@
+-- Digits of a number up to a line feed, behind the code, are the line of a memo number.
 use Rattle.std.proofs.Common.{arith}
 use Rattle.pkread.proofs.Bytes.FrequentLines.{memo_line}
 use Rattle.pkread.proofs.frequent_lines.memo_line_length.Goals as goal

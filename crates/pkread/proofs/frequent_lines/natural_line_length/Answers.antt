@@ -1,3 +1,4 @@
+-- A number without leading zeros, up to a line feed, is a line of INT.
 use Rattle.std.proofs.Common.{arith}
 use Rattle.pkread.proofs.Bytes.FrequentLines.{natural_line}
 use Rattle.pkread.proofs.frequent_lines.natural_line_length.Goals as goal

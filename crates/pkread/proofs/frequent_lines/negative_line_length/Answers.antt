@@ -1,3 +1,4 @@
+-- A minus before digits that don't begin with a zero makes a line of INT.
 use Rattle.std.proofs.Common.{arith}
 use Rattle.pkread.proofs.Bytes.FrequentLines.{negative_line}
 use Rattle.pkread.proofs.frequent_lines.negative_line_length.Goals as goal

@@ -1,3 +1,4 @@
+-- Digits that end at a line feed, without a needless zero in front, are a number.
 use Rattle.std.proofs.Common.{refl, sym}
 use Rattle.pkread.proofs.Bytes.FrequentLines.{number_front}
 use Rattle.pkread.proofs.frequent_lines.number_length.Goals as goal

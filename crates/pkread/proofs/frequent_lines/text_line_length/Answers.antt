@@ -1,3 +1,4 @@
+-- Plain bytes up to a line feed spell themselves, so they are a line of UNICODE.
 use Rattle.std.proofs.Common.{arith, sym}
 use Rattle.pkread.proofs.Bytes.FrequentLines.{text_line}
 use Rattle.pkread.proofs.frequent_lines.text_line_length.Goals as goal

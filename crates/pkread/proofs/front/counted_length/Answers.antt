@@ -1,3 +1,4 @@
+-- Count and payload lie within the bytes and the limit, so the instruction is there as a whole.
 use Rattle.std.proofs.Common.{ℕ, ◌+◌, ◌-◌, refl, subst, arith, drop, take}
 use Rattle.std.specs.Str.{IsUtf8}
 use Rattle.pkread.proofs.Bytes.Front.{counted_front}

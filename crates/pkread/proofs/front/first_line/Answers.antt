@@ -1,3 +1,4 @@
+-- Only GLOBAL and INST have two lines; any other opcode has a split of 0.
 use Rattle.std.proofs.Common.{refl}
 use Rattle.pkread.proofs.Bytes.FrontLines.{split_is}
 use Rattle.pkread.proofs.front.first_line.Goals as goal

@@ -1,3 +1,4 @@
+-- The first line feed behind the code ends the first line.
 use Rattle.std.proofs.Common.{◌∙◌, ap}
 use Rattle.std.specs.Prelude.{unwrap_or}
 use Rattle.pkread.proofs.Bytes.FrontLines.{feed_behind}

@@ -1,3 +1,4 @@
+-- An opcode of fixed length is in front as soon as that many bytes are there.
 use Rattle.std.proofs.Common.{◌≡◌, arith}
 use Rattle.pkread.specs.Private.Arms.{HasFixedLength}
 use Rattle.pkread.proofs.Bytes.Front.{fixed_front}

@@ -1,3 +1,4 @@
+-- The bytes up to the length found spell the instruction, and are lent as such.
 use Rattle.pkread.proofs.Calls.AtHand.{is_lent}
 use Rattle.pkread.proofs.front.lend.Goals as goal
 

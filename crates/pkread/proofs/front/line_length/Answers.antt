@@ -1,3 +1,4 @@
+-- The bytes up to the first line feed, if they are few enough and good, are the line in front.
 use Rattle.std.proofs.Common.{◌-◌, drop, refl, sym, take}
 use Rattle.pkread.proofs.Bytes.FrontLines.{front_suits, line_front}
 use Rattle.pkread.proofs.front.line_length.Goals as goal

@@ -1,3 +1,4 @@
+-- Two line feeds end two lines, which with their code are the instruction in front.
 use Rattle.std.proofs.Common.{◌-◌, drop, refl, sym, take}
 use Rattle.pkread.proofs.Bytes.FrontLines.{pair_front, pair_suits}
 use Rattle.pkread.proofs.front.pair_length.Goals as goal

@@ -1,3 +1,4 @@
+-- A PROTO is two bytes, and admitted if its protocol is one of those known.
 use Rattle.pkread.proofs.Bytes.Front.{proto_front}
 use Rattle.pkread.proofs.front.proto_length.Goals as goal
 

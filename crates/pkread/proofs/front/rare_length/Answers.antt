@@ -1,3 +1,4 @@
+-- A code belongs to one opcode, so the length by that opcode's layout is the one in front.
 use Rattle.std.proofs.Common.{◌∙◌, sym, subst}
 use Rattle.pkops.specs.declared.Op.{Op}
 use Rattle.pkread.specs.Private.Arms.{IsInFront}

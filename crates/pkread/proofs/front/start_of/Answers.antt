@@ -1,3 +1,4 @@
+-- By computing the table: a code with a length has the opcode whose code it is.
 use Rattle.std.proofs.Common.{refl}
 use Rattle.pkread.proofs.Bytes.Starts.{is_of}
 use Rattle.pkread.proofs.front.start_of.Goals as goal

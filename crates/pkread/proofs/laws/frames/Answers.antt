@@ -1,3 +1,4 @@
+-- Frames go on with what counting accepts, hold over all of it, and break at what it refuses.
 use Rattle.pkread.proofs.Framing.SoFar.{frames_break, frames_go_on, frames_hold}
 use Rattle.pkread.proofs.laws.frames.Goals as goal
 

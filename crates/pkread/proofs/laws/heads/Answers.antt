@@ -1,3 +1,4 @@
+-- Each outcome of `next_head` keeps what a loop knows: held, lent, skipped, ended or refused.
 use Rattle.pkread.proofs.Calls.AtHand.{taking_twice}
 use Rattle.pkread.proofs.Loops.Run.{end_of_heads, head_is_read, lent_is_read, passed_is_read}
 use Rattle.pkread.proofs.Loops.Run.{reading_begins, refusal_of_heads}

@@ -1,3 +1,4 @@
+-- Each outcome of `next` keeps what a loop knows: given, lent, ended at STOP or refused.
 use Rattle.pkread.proofs.Calls.AtHand.{taking_twice}
 use Rattle.pkread.proofs.Loops.Run.{end_is_read, lent_is_read, next_is_read, reading_begins}
 use Rattle.pkread.proofs.Loops.Run.{refusal_is_read}

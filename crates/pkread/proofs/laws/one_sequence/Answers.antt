@@ -1,3 +1,4 @@
+-- As no spelling begins another, bytes have one instruction at their front, and one sequence.
 use Rattle.pkread.proofs.Loops.OneSequence.{one_front, one_sequence, sequence_goes_on}
 use Rattle.pkread.proofs.laws.one_sequence.Goals as goal
 

@@ -1,3 +1,4 @@
+-- Reading goes on behind a STOP with one byte ahead, and bytes taken in turn are taken together.
 use Rattle.pkread.proofs.Calls.Again.{no_byte_is_refused}
 use Rattle.pkread.proofs.Bytes.Takes.{Takes-more}
 use Rattle.pkread.proofs.Loops.Run.{reading_goes_on}

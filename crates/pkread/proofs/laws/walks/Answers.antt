@@ -1,3 +1,4 @@
+-- Each item of `genops` goes one instruction further, ends behind STOP, or is the refusal.
 use Rattle.pkread.proofs.Loops.Walked.{end_is_walked, item_is_walked, refusal_is_walked}
 use Rattle.pkread.proofs.Loops.Walked.{walk_begins}
 use Rattle.pkread.proofs.laws.walks.Goals as goal

@@ -1,3 +1,4 @@
+-- As many bytes are passed over as are wanted, or all that there are.
 use Rattle.std.proofs.Common.{◌≤◌, length, take, sym, arith}
 use Rattle.std.proofs.lemmas.List.{length-take-le, take-append-drop}
 use Rattle.pkread.proofs.Bytes.Taken.{AreBytes-take}

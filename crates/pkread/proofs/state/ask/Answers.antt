@@ -1,3 +1,4 @@
+-- A byte that didn't come is refused for the reason why, unless the source is at its end.
 use Rattle.pkread.proofs.Calls.Again.{answers_none}
 use Rattle.pkread.proofs.state.ask.Goals as goal
 

@@ -1,3 +1,4 @@
+-- If bytes are held, the first of them is the first of the store.
 use Rattle.std.proofs.Common.{◌∙◌, sym, ap}
 use Rattle.pkread.proofs.Bytes.Taken.{first_held}
 use Rattle.pkread.proofs.buffer.Buffer.first.Goals as goal

@@ -1,3 +1,4 @@
+-- Of a field pulled into an array, the bytes that came are appended to those held.
 use Rattle.std.proofs.Common.{◌≡◌, ◌<◌, length, arith, ap}
 use Rattle.pkread.proofs.Bytes.Taken.{field_reads}
 use Rattle.pkread.proofs.buffer.Buffer.read_field.Goals as goal

@@ -1,3 +1,4 @@
+-- A code without an argument is a whole instruction, which nothing has to judge.
 use Rattle.std.proofs.Common.{sym, ◌∙◌}
 use Rattle.pkread.proofs.Bytes.Behind.{nothing_grows}
 use Rattle.pkread.proofs.Bytes.Judged.{plain_finds}

@@ -1,3 +1,4 @@
+-- A payload of the counted length ends the instruction, which is good if it is plain or UTF-8.
 use Rattle.std.proofs.Common.{sym, ◌∙◌, arith}
 use Rattle.std.proofs.lemmas.Result.{err_from_is_err_and}
 use Rattle.pkread.proofs.Bytes.Behind.{payload_grows, payload_stops}

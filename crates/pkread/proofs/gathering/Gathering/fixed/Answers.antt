@@ -1,3 +1,4 @@
+-- A field of N bytes behind its code is the whole argument, which is then judged.
 use Rattle.std.proofs.lemmas.Result.{err_from_is_err_and}
 use Rattle.pkread.proofs.Bytes.Behind.{field_grows, field_stops}
 use Rattle.pkread.proofs.Bytes.Judged.{all_judged}

@@ -1,3 +1,4 @@
+-- What the parts found is a whole instruction or one reason, and no more is held than the longest.
 use Rattle.std.proofs.Common.{refl}
 use Rattle.pkread.proofs.Bytes.Judged.{bounded, whole_taken}
 use Rattle.pkread.proofs.gathering.Gathering.gather.Goals as goal

@@ -1,3 +1,4 @@
+-- What is found behind a code that was taken is found from before the code on.
 use Rattle.pkread.proofs.Bytes.Judged.{found_more}
 use Rattle.pkread.proofs.gathering.Gathering.gather_parts.Goals as goal
 

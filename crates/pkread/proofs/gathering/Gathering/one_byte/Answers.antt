@@ -1,3 +1,4 @@
+-- One byte behind its code is a field of one, and the whole argument.
 use Rattle.std.proofs.Common.{◌≡◌, refl}
 use Rattle.std.proofs.lemmas.Result.{err_from_is_err_and}
 use Rattle.pkops.specs.KnownLayout.{field_len, IsFixed}

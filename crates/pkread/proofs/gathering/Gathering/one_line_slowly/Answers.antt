@@ -1,3 +1,4 @@
+-- A line that ended in time is the argument, and its content rule says whether it is good.
 use Rattle.std.proofs.lemmas.Result.{err_from_is_err_and}
 use Rattle.pkread.proofs.Bytes.LinesBehind.{one_stops}
 use Rattle.pkread.proofs.Bytes.Texts.{line_finds, line_in, line_stops, line_suits}

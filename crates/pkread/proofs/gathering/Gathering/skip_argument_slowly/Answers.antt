@@ -1,3 +1,4 @@
+-- A count in the buffer and so many bytes passed over are an argument that is skipped.
 use Rattle.std.proofs.lemmas.Result.{err_from_is_err_and}
 use Rattle.pkread.specs.Private.Progress.{intake}
 use Rattle.pkread.proofs.Bytes.Skipped.{payload_skips, payload_stops_skipping}

@@ -1,3 +1,4 @@
+-- A payload ends at once if it is empty, after one block if that holds it, or after the rest.
 use Rattle.std.proofs.Common.{ap, refl}
 use Rattle.pkread.specs.Private.Progress.{intake}
 use Rattle.pkread.proofs.Bytes.Skipped.{block_over, skips_block, skips_none, skips_rest}

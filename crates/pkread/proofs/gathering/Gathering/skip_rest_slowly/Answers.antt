@@ -1,3 +1,4 @@
+-- Each block read is cut off again, so the bytes held stay those before the payload.
 use Rattle.std.proofs.Common.{◌++◌, length, take, ap, ◌∙◌, arith, length-append}
 use Rattle.std.proofs.lemmas.List.{take_at}
 use Rattle.std.proofs.lemmas.Result.{err_from_is_err_and}

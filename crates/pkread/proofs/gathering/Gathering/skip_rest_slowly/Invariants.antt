@@ -1,3 +1,4 @@
+-- Bytes passed over and bytes left make up the payload, of which nothing is held.
 use Rattle.std.proofs.Common.{◌≡◌, ◌+◌, ◌++◌, length, List, ℕ}
 use Rattle.pkread.specs.Private.Progress.{intake}
 use Rattle.pkread.specs.Private.SkippedBytes.{RisesLittle, holding}

@@ -1,3 +1,4 @@
+-- A failed read took nothing, so all the bytes asked for are still lacking.
 use Rattle.std.proofs.Common.{◌-◌, ◌<◌, arith, refl}
 use Rattle.std.proofs.lemmas.Result.{err_from_is_err_and}
 use Rattle.pkread.proofs.Bytes.Taken.{lacks_all}

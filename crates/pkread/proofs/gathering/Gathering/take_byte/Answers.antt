@@ -1,3 +1,4 @@
+-- If no byte can be read, one byte is what the instruction lacks.
 use Rattle.std.proofs.Common.{◌-◌, ◌<◌, arith, refl}
 use Rattle.std.proofs.lemmas.Result.{err_from_is_err_and}
 use Rattle.pkread.proofs.Bytes.Taken.{lacks_all}

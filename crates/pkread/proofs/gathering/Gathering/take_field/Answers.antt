@@ -1,3 +1,4 @@
+-- If the first read of a field fails, the instruction lacks the whole field.
 use Rattle.std.proofs.Common.{◌-◌, ◌<◌, arith, refl}
 use Rattle.std.proofs.lemmas.Result.{err_from_is_err_and}
 use Rattle.pkread.proofs.Bytes.Taken.{lacks_all}

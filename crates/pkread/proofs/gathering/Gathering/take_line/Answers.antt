@@ -1,3 +1,4 @@
+-- A byte that isn't a line feed makes the line longer, and too long once none is left.
 use Rattle.std.proofs.Common.{◌≢◌, ◌++◌, ◌∷◌, [], inr, ◌∙◌, arith, length-append}
 use Rattle.pkread.proofs.Bytes.Taken.{endless_more, took_both}
 use Rattle.pkread.proofs.gathering.Gathering.take_line.Goals as goal

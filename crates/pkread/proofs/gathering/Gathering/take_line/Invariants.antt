@@ -1,3 +1,4 @@
+-- No byte so far is a line feed, and with the bytes still allowed they make the greatest length.
 use Rattle.std.proofs.Common.{◌≡◌, ◌≢◌, ◌+◌, length, List, ℕ}
 use Rattle.std.specs.List.{AllByRecursion}
 use Rattle.pkread.specs.Private.Progress.{KeepsRest, intake}

@@ -1,3 +1,4 @@
+-- Without a byte there is no code, and a byte that is no opcode's code is refused as unknown.
 use Rattle.std.proofs.Common.{refl}
 use Rattle.std.proofs.lemmas.Result.{err_from_is_err_and}
 use Rattle.pkread.proofs.Bytes.Judged.{code_stops, unknown_stops}

@@ -1,3 +1,4 @@
+-- A read that fails after some blocks lacks just the bytes that are left.
 use Rattle.std.proofs.lemmas.Result.{err_from_is_err_and}
 use Rattle.pkread.proofs.Bytes.Taken.{lacks_after}
 use Rattle.pkread.proofs.gathering.Gathering.take_rest_slowly.Goals as goal

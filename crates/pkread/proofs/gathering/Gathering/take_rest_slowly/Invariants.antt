@@ -1,3 +1,4 @@
+-- The bytes of the blocks so far and those left are as many as were asked for.
 use Rattle.std.proofs.Common.{◌≡◌, ◌+◌, length, List, ℕ}
 use Rattle.pkread.specs.Private.Progress.{KeepsRest, intake}
 use Rattle.pkread.specs.Private.Reads.{Took}

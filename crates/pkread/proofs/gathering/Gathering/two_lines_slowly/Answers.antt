@@ -1,3 +1,4 @@
+-- The second line begins behind the first one's feed, and either may be what is refused.
 use Rattle.std.proofs.Common.{refl}
 use Rattle.std.proofs.lemmas.Result.{err_from_is_err_and}
 use Rattle.pkread.proofs.Bytes.Judged.{all_find, all_stop}

@@ -1,3 +1,4 @@
+-- The bytes dropped from the source are as many as are counted, so the state moves beyond them.
 use Rattle.pkread.proofs.Calls.AtHand.{is_beyond}
 use Rattle.pkread.proofs.reader.Reader+R.advance.Goals as goal
 

@@ -1,3 +1,4 @@
+-- A byte that came after STOP opens the reader anew; at the end of the source it stays ended.
 use Rattle.std.proofs.Common.{refl}
 use Rattle.pkread.proofs.Calls.Again.{is_ended_so, steps_again}
 use Rattle.pkread.proofs.reader.Reader+R.again.Goals as goal

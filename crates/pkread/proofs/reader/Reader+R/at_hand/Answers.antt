@@ -1,3 +1,4 @@
+-- What the source shows are its next bytes, and cut to the room left they can all be taken.
 use Rattle.std.proofs.Common.{refl, subst, arith}
 use Rattle.pkread.specs.Pull.{BeginsWith}
 use Rattle.pkread.specs.ReaderCalls.{source_of, state}

@@ -1,3 +1,4 @@
+-- What an open reader collects is the next instruction or its refusal, a step of its state.
 use Rattle.std.proofs.Common.{◌≡◌, [], refl, subst}
 use Rattle.std.proofs.lemmas.Result.{err_from_is_err_and}
 use Rattle.pkread.specs.Core.{Open}

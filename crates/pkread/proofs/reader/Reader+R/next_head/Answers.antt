@@ -1,3 +1,4 @@
+-- An instruction held, a payload skipped and a refusal are each a step of an open reader.
 use Rattle.std.proofs.Common.{◌≡◌, [], refl, subst}
 use Rattle.std.proofs.lemmas.Result.{err_from_is_err_and}
 use Rattle.pkread.specs.Core.{Open}

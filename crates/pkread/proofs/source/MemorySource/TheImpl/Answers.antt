@@ -1,3 +1,4 @@
+-- A slice shows all that it has left, and what is taken goes from its front.
 use Rattle.std.proofs.Common.{refl, sym, ap, ◌∙◌, arith, append-nil, [], length, Some}
 use Rattle.pkread.proofs.source.MemorySource.TheImpl.Goals as goal
 

@@ -1,3 +1,4 @@
+-- The bytes still to be pulled are at hand, those pulled are gone, and no read has failed.
 use Rattle.std.proofs.Common.{◌≡◌, ◌≤◌, ◌-◌, drop, option_map}
 use Rattle.pkread.proofs.source.Source.advance.Given as goal
 

@@ -1,3 +1,4 @@
+-- Of every head that was gathered something is held, so the reader can give it.
 use Rattle.std.proofs.Common.{refl}
 use Rattle.pkread.proofs.Calls.NextHead.{some_held}
 use Rattle.pkread.proofs.state.Core.collect_head.Goals as goal

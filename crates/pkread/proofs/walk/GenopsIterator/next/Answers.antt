@@ -1,3 +1,4 @@
+-- An admitted instruction in front is the next item, and a fault in front is the last one.
 use Rattle.std.proofs.Common.{ap, ◌∙◌}
 use Rattle.pkread.proofs.Calls.WalkNext.{gives_item, refuses_item}
 use Rattle.pkread.specs.Genops.{is_stop}
