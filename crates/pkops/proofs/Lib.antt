@@ -1,3 +1,4 @@
+-- The lemmas of one instruction: exact readers, beginnings, what is unique, and rules of contents.
 pub mod ExactReaders
 pub mod Begun
 pub mod OneOfEach

@@ -1,3 +1,4 @@
+-- By computing the table: each code has the opcode that it is the code of, or none.
 use Rattle.std.proofs.Common.{refl}
 use Rattle.pkops.proofs.OneOfEach.OneCode.{is_of, is_none}
 use Rattle.pkops.proofs.codes.op_of_byte.Goals as goal

@@ -1,3 +1,4 @@
+-- The computed test of contents decides the rule, either way.
 use Rattle.pkops.specs.Spelling.{shown_arg}
 use Rattle.pkops.proofs.ContentsRules.Decided.{decided}
 use Rattle.pkops.proofs.contents.keeps.Goals as goal

@@ -1,3 +1,4 @@
+-- The computed test of UTF-8 says yes to a payload exactly if it is UTF-8.
 use Rattle.std.proofs.Common.{◌≡◌, Bool, List, MatchBool, false, inl, inr, sym, true, ℕ}
 use Rattle.std.proofs.lemmas.Bool.{cases_Bool}
 use Rattle.std.proofs.lemmas.Str.{is_utf8-from_IsUtf8, IsUtf8-from_is_utf8}

@@ -1,3 +1,4 @@
+-- The derived comparison of opcodes says yes exactly where they are equal.
 use denote.Enum.Bare.{sameb, same_true, same_false}
 use Rattle.std.proofs.Common.{◌≡◌, ◌≢◌, Bool, true, false, MatchBool, sym}
 use Rattle.pkops.specs.contracts.op.Op.{the_type}

@@ -1,3 +1,4 @@
+-- What begins an instruction, what a field completes, and what a count and its payload do.
 use Rattle.pkops.proofs.Begun.Counts.{begun_is_counted}
 use Rattle.pkops.proofs.Begun.Fronts.{fronts_begin}
 use Rattle.pkops.proofs.Begun.Growth.{count_large, count_negative, field_begun, field_lies}

@@ -1,3 +1,4 @@
+-- A line of ASCII without a backslash is UTF-8, and UNICODE names it as it stands.
 use Rattle.std.proofs.lemmas.Str.{IsUtf8-from_ascii}
 use Rattle.pkops.proofs.ContentsRules.EscapesPlain.{plain_ascii}
 use Rattle.pkops.proofs.Instructions.TextNamed.{plain_named}

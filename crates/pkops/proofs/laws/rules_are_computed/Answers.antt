@@ -1,3 +1,4 @@
+-- A rule of contents and its test follow from each other.
 use Rattle.pkops.proofs.ContentsRules.Decided.{keeps_is, passes_of}
 use Rattle.pkops.proofs.laws.rules_are_computed.Goals as goal
 

@@ -1,3 +1,4 @@
+-- Of a line with one digit, the number is that digit's value.
 use Rattle.std.proofs.Common.{◌∙◌}
 use Rattle.pkops.proofs.ContentsRules.Numerals.{one_digit}
 use Rattle.pkops.proofs.lending.line_number_behind.Goals as goal

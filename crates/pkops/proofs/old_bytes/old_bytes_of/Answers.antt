@@ -1,3 +1,4 @@
+-- Bytes that were decoded are those of the string; where none were, the instruction has none.
 use Rattle.std.proofs.lemmas.Result.{IfOk-weaker}
 use Rattle.pkops.specs.Inst.{instruction_of}
 use Rattle.pkops.proofs.Instructions.OldBytesNamed.{answered}

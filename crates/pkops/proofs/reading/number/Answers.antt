@@ -1,3 +1,4 @@
+-- A little-endian number of some bytes is below 256 to the power of their count.
 use Rattle.std.proofs.Common.{arith}
 use Rattle.byteorder.specs.Numbers.{little_from-lt}
 use Rattle.pkops.proofs.reading.number.Goals as goal

@@ -1,3 +1,4 @@
+-- However reading an argument ends, the scan says so: more, a fault, or a whole instruction.
 use Rattle.std.proofs.Common.{◌≡◌, [], ap, arith}
 use Rattle.std.proofs.lemmas.List.{nil_from_length}
 use Rattle.std.specs.Option.{option_map}

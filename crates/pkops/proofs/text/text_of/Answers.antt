@@ -1,3 +1,4 @@
+-- Text that was decoded is the one named; where none was, the instruction names none.
 use Rattle.std.specs.Prelude.{string_bytes}
 use Rattle.std.proofs.lemmas.Result.{IfOk-weaker}
 use Rattle.pkops.specs.Inst.{instruction_of}

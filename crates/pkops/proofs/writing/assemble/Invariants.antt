@@ -1,3 +1,4 @@
+-- The spellings written so far and those of the instructions left are those of all.
 use Rattle.std.proofs.Common.{◌≡◌, ◌++◌, drop}
 use Rattle.std.specs.List.{flat_map}
 use Rattle.pkops.specs.Inst.{instruction_of}

@@ -1,3 +1,4 @@
+-- Each byte is one step of reading escapes, and a character that it ends goes to the text.
 use Rattle.std.proofs.Common.{Some, sym, ap, ◌∙◌, arith}
 use Rattle.std.specs.Prelude.{string_bytes}
 use Rattle.std.proofs.lemmas.List.{append-nil}

@@ -1,3 +1,4 @@
+-- The text so far, with what the rest of the line names, is what the whole line names.
 use Rattle.std.proofs.Common.{◌≡◌, drop}
 use Rattle.std.specs.Prelude.{string_bytes, encode_utf8_all}
 use Rattle.std.specs.Option.{option_map}

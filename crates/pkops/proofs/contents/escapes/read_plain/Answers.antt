@@ -1,3 +1,4 @@
+-- A plain line is ASCII and so UTF-8, and never fails to be read.
 use Rattle.std.proofs.lemmas.Str.{IsUtf8-from_ascii}
 use Rattle.pkops.proofs.ContentsRules.EscapesPlain.{plain_ascii}
 use Rattle.pkops.proofs.contents.escapes.read_plain.Goals as goal

@@ -1,3 +1,4 @@
+-- A line that spells itself names the very bytes that it has.
 use Rattle.std.proofs.Common.{sym, ◌∙◌}
 use Rattle.std.proofs.lemmas.Result.{IfOk-weaker}
 use Rattle.pkops.proofs.ContentsRules.EscapesPlain.{plain_text}

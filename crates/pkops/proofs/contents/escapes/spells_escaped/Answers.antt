@@ -1,3 +1,4 @@
+-- A byte that no step allows, or an end inside an escape, shows that the line names no text.
 use Rattle.std.proofs.Common.{sym, ap, ◌∙◌, arith}
 use Rattle.std.specs.Prelude.{is_some}
 use Rattle.pkops.proofs.ContentsRules.EscapeLoop.{not_ended, stops, some_at_end, some_goes_on}

@@ -1,3 +1,4 @@
+-- From the state reached, the rest of the line names a text exactly where all of it does.
 use Rattle.std.proofs.Common.{◌≡◌, drop}
 use Rattle.std.specs.Prelude.{is_some}
 use Rattle.pkops.specs.Private.EscapeSteps.{IsPointSoFar}

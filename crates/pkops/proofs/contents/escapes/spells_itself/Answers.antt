@@ -1,3 +1,4 @@
+-- A fold over every byte finds out whether all are ASCII and none is a backslash.
 use Rattle.std.proofs.Common.{rules, tests, true, ◌&&◌, ◌∙◌}
 use Rattle.pkops.specs.Escapes.{is_plain_ascii as plain}
 use Rattle.std.proofs.lemmas.Iterator.{YieldsList-from_slice}

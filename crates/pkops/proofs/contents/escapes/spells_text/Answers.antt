@@ -1,3 +1,4 @@
+-- A line that spells itself names a text, whatever a reading byte by byte would say.
 use Rattle.std.proofs.Common.{ap, sym, ◌∙◌}
 use Rattle.std.specs.Prelude.{is_some}
 use Rattle.pkops.proofs.ContentsRules.EscapesPlain.{plain_points}

@@ -1,3 +1,4 @@
+-- What follows the digits begins at the first byte that is none, or is empty.
 use Rattle.std.proofs.Common.{sym, ◌∙◌}
 use Rattle.pkops.proofs.ContentsRules.Floats.{after_end, no_end}
 use Rattle.pkops.proofs.contents.float.after_digits.Goals as goal

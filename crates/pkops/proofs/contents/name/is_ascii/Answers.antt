@@ -1,3 +1,4 @@
+-- A fold over every byte of a long text finds out whether all are ASCII.
 use Rattle.std.proofs.Common.{rules, tests, true, ◌&&◌, ◌∙◌}
 use Rattle.std.specs.Char.{is_ascii}
 use Rattle.std.proofs.lemmas.Iterator.{YieldsList-from_slice}

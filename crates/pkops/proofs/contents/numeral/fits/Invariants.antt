@@ -1,3 +1,4 @@
+-- The number that the digits so far say is computed, and 32 bits hold it.
 use Rattle.std.proofs.Common.{◌≡◌, ◌<◌, ◌^◌, take}
 use Rattle.std.specs.Str.Parse.{digits_value}
 use Rattle.pkops.proofs.contents.numeral.fits.Given as goal

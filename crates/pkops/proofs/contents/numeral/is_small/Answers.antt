@@ -1,3 +1,4 @@
+-- Fewer than ten digits say less than 2^32.
 use Rattle.std.proofs.Common.{◌∙◌, sym}
 use Rattle.std.proofs.lemmas.Bool.{lt-ltb}
 use Rattle.pkops.proofs.ContentsRules.Numerals.{few_digits}

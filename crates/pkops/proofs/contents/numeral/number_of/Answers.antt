@@ -1,3 +1,4 @@
+-- A memo number is small, so no number that its first digits say overflows 32 bits.
 use Rattle.std.proofs.Common.{◌+◌, ◌*◌, ap, arith, refl}
 use Rattle.pkops.proofs.ContentsRules.Numerals.{one_more, one_more_small}
 use Rattle.pkops.proofs.contents.numeral.number_of.Goals as goal

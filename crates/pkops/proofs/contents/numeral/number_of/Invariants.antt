@@ -1,3 +1,4 @@
+-- The digits passed so far say the number computed.
 use Rattle.std.proofs.Common.{◌≡◌, take}
 use Rattle.std.specs.Str.Parse.{digits_value}
 use Rattle.pkops.proofs.contents.numeral.number_of.Given as goal

@@ -1,3 +1,4 @@
+-- A byte that no step allows, or an end inside an escape, shows that these are no items.
 use Rattle.std.proofs.Common.{sym, ap, ◌∙◌, arith}
 use Rattle.std.specs.Prelude.{is_some}
 use Rattle.pkops.proofs.ContentsRules.OldStrings.{some_is}

@@ -1,3 +1,4 @@
+-- From the place reached, the bytes left are items exactly where all of them are.
 use Rattle.std.proofs.Common.{◌≡◌, drop}
 use Rattle.std.specs.Prelude.{is_some}
 use Rattle.pkops.specs.RuleTests.{are_items}

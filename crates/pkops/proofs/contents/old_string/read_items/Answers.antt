@@ -1,3 +1,4 @@
+-- Each byte is one step of reading items, and the byte that an item spells is appended.
 use Rattle.std.proofs.Common.{Some, sym, ap, ◌∙◌, arith}
 use Rattle.std.proofs.lemmas.List.{append-nil}
 use Rattle.pkops.proofs.ContentsRules.OldStrings.{joined_is}

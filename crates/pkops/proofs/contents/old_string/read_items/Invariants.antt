@@ -1,3 +1,4 @@
+-- The bytes read, followed by what the rest spells, are those that the quotes enclose.
 use Rattle.std.proofs.Common.{◌≡◌, drop}
 use Rattle.pkops.specs.OldBytes.{bytes_between}
 use Rattle.pkops.specs.Private.Places.{HoldsDigit}

@@ -1,3 +1,4 @@
+-- Bytes that are all ASCII are UTF-8, so no closer look is needed.
 use Rattle.std.proofs.Common.{sym}
 use Rattle.std.proofs.lemmas.Str.{IsUtf8-from_ascii}
 use Rattle.pkops.proofs.ContentsRules.Names.{ascii_is}

@@ -1,3 +1,4 @@
+-- The bytes of a spelled instruction hold the argument that it has, behind its code.
 use Rattle.std.proofs.Common.{◌∙◌, sym}
 use Rattle.pkops.proofs.Instructions.Good.{had_good}
 use Rattle.pkops.proofs.Instructions.BehindCode.{form_held, form_lies}

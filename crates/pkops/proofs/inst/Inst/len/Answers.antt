@@ -1,3 +1,4 @@
+-- The argument of a good instruction suits its layout, as the length of an argument requires.
 use Rattle.std.proofs.Common.{subst}
 use Rattle.pkops.specs.Behind.{argument_in}
 use Rattle.pkops.specs.Spelling.{Suits, layout_at}

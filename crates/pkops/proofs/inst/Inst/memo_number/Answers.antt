@@ -1,3 +1,4 @@
+-- The memo number is said by the argument, wherever that lies, and lies behind the code.
 use Rattle.std.proofs.Common.{◌≡◌, ◌∙◌, ap, refl, subst, sym}
 use Rattle.pkops.specs.Behind.{argument_in}
 use Rattle.pkops.specs.Contents.{IsGood}

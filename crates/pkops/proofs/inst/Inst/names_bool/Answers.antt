@@ -1,3 +1,4 @@
+-- A spelled INT makes a bool exactly if the line behind its code is one of the two.
 use Rattle.std.proofs.Common.{◌∙◌, ap, subst, sym}
 use Rattle.pkops.specs.declared.op.Op.TheVariants as op
 use Rattle.pkops.specs.Behind.{argument_in}

@@ -1,3 +1,4 @@
+-- Only good instructions can be made, so each one that there is is good.
 use Rattle.pkops.proofs.Instructions.Good.{had_good}
 use Rattle.pkops.proofs.inst.Inst.op.Goals as goal
 

@@ -1,3 +1,4 @@
+-- The two lines of a good instruction are names and so UTF-8, and both can be shown as text.
 use Rattle.pkops.proofs.Instructions.Good.{had_good}
 use Rattle.pkops.specs.Inst.{instruction_of}
 use Rattle.pkops.proofs.ContentsRules.Names.{are_text}

@@ -1,3 +1,4 @@
+-- Of two instructions with the same opcode, the arguments decide whether they are the same.
 use Rattle.std.proofs.Common.{◌≡◌, ◌≢◌, Bool, true, false, MatchBool}
 use Rattle.pkops.specs.Spelling.{Argument, Instruction}
 use Rattle.pkops.specs.Inst.{instruction_of}

@@ -1,3 +1,4 @@
+-- Bytes hold one argument at a split, so the instruction they spell is good and theirs.
 use Rattle.std.proofs.Common.{◌∙◌, sym, ap, subst}
 use Rattle.std.proofs.lemmas.Grind.{merely}
 use Rattle.pkops.specs.Contents.{IsGood}
