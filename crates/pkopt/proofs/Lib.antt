@@ -1,3 +1,4 @@
+-- The lemmas of the optimizer: memo writes, the slim form, its runs, its frame, and its pieces.
 pub mod MemoWrites
 pub mod SlimForm
 pub mod BothRuns

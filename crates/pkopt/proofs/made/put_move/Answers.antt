@@ -1,3 +1,4 @@
+-- Of sixteen bytes moved as one, any first few lie in the store where they should.
 use Rattle.std.proofs.Common.{◌≡◌, ◌≤◌, ◌+◌, ◌++◌, ℕ, ◌-◌, List, length, take, drop, ap, sym}
 use Rattle.std.proofs.Common.{◌∙◌, arith}
 use Rattle.std.proofs.lemmas.List.{length-take-le, take-take}

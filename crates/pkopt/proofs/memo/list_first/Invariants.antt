@@ -1,3 +1,4 @@
+-- The first writes are listed up to the one at hand.
 use Rattle.std.proofs.Common.{◌≡◌}
 use Rattle.pkopt.specs.Private.Memories.{first_writes}
 use Rattle.pkopt.proofs.memo.list_first.Given as goal

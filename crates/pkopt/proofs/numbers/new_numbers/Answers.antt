@@ -1,3 +1,4 @@
+-- The writes kept are those that some read reads, and numbering them gives the new numbers.
 use Rattle.std.proofs.Common.{sym, subst}
 use Rattle.pkopt.specs.Private.Passes.{AreKept}
 use Rattle.pkopt.proofs.MemoWrites.WritesKept.{if_ok_map}

@@ -1,3 +1,4 @@
+-- A write that stays gets the next number, one that goes gets none, and none is past the limit.
 use Rattle.std.proofs.Common.{◌≡◌, ◌+◌, ◌∙◌, arith, rules, sym, ap, subst, true, false, length}
 use Rattle.std.proofs.Common.{None, set, Option, ℕ, replicate, get_or}
 use Rattle.std.proofs.lemmas.List.{length-set, length-replicate}

@@ -1,3 +1,4 @@
+-- The writes passed have their numbers, and the next one is at most the limit.
 use Rattle.std.proofs.Common.{◌≡◌, ◌≤◌, ℕ, List, Option, length}
 use Rattle.pkopt.specs.Private.Passes.{AreKept}
 use Rattle.pkopt.proofs.MemoWrites.WritesKept.{NumbersTo}

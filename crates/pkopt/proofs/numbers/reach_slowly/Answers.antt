@@ -1,3 +1,4 @@
+-- An unset mark behind the last changes no write's mark, as those behind the list count as unset.
 use Rattle.std.proofs.Common.{ap, ◌∙◌, List, Bool, get_or, false}
 use Rattle.pkopt.proofs.MemoWrites.WritesKept.{unset_more}
 use Rattle.pkopt.proofs.numbers.reach_slowly.Goals as goal

@@ -1,3 +1,4 @@
+-- Each write is marked as it was at first, and the list is longer by one each turn.
 use Rattle.std.proofs.Common.{◌≡◌, ◌+◌, ◌-◌, ℕ, get_or, length, false}
 use Rattle.pkopt.proofs.numbers.reach_slowly.Given as goal
 

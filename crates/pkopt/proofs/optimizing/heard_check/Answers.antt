@@ -1,3 +1,4 @@
+-- What the trace heard of an accepted pickle are all its instructions.
 use Rattle.pkopt.proofs.Optimized.{is_traced}
 use Rattle.pkopt.proofs.optimizing.heard_check.Goals as goal
 

@@ -1,3 +1,4 @@
+-- A plan for the pickle gives its optimized form, unless a write that stays is past the limit.
 use Rattle.std.proofs.Common.{◌≡◌, Some, None, List, inl, inr, sym, ap, subst, ◌∙◌}
 use Rattle.pkopt.specs.Answer.{Optimizes, pickle}
 use Rattle.pkopt.specs.declared.place.Part.{Part}

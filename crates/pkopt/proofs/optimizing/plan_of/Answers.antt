@@ -1,3 +1,4 @@
+-- 32 bits hold the limit on memo entries, so it is cast without loss.
 use Rattle.std.proofs.Common.{arith, ◌≤◌}
 use Rattle.pkopt.proofs.optimizing.plan_of.Goals as goal
 

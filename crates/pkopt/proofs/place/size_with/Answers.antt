@@ -1,3 +1,4 @@
+-- BINGET has two bytes, LONG_BINPUT five and MEMOIZE one, whatever number they name.
 use Rattle.std.proofs.Common.{sym, ◌∙◌}
 use Rattle.pkops.specs.Inst.{instruction_of}
 use Rattle.pkopt.proofs.MemoWrites.Lengths.{binget_length, long_binput_length, memoize_length}

@@ -1,3 +1,4 @@
+-- One digit is the numeral of a number below 10, and two digits that of one below 100.
 use Rattle.std.proofs.Common.{◌≡◌, ℕ, List, [], ◌∷◌, ◌++◌, ◌∙◌, ◌/◌, ◌%◌, ◌+◌, ap, sym, subst}
 use Rattle.std.proofs.Common.{arith}
 use Rattle.std.specs.Fmt.{decimal}

@@ -1,3 +1,4 @@
+-- Code, digits and line feed, given one after the other, are given as one line.
 use Rattle.std.proofs.Common.{ℕ, List, [], ◌∷◌, ◌++◌, subst, ◌∙◌}
 use Rattle.pkops.specs.Table.{code_of}
 use Rattle.pkopt.proofs.Pieces.{on_ok}

@@ -1,3 +1,4 @@
+-- Each part ends within 64 bits, because the last one does.
 use Rattle.std.proofs.Common.{arith, ap, subst, sym, ◌∙◌, ◌^◌, ◌<◌}
 use Rattle.pkopt.specs.declared.place.Part.{Part}
 use Rattle.pkopt.specs.Private.Places.{end_of, place_behind}

@@ -1,3 +1,4 @@
+-- Searching the parts left, with the counts so far, finds what searching all from 0 finds.
 use Rattle.std.proofs.Common.{◌≡◌, ◌<◌, ◌≤◌, ◌^◌, drop}
 use Rattle.pkopt.specs.Private.Places.{end_behind, places_behind}
 use Rattle.pkopt.specs.Private.Produced.{first_past}

@@ -1,3 +1,4 @@
+-- Each part ends within the bytes taken, so what the pass gives of it lies there.
 use Rattle.std.proofs.Common.{arith, sym, subst, ap, ◌∙◌, ◌<◌, ◌+◌, ◌++◌, ℕ, List, drop}
 use Rattle.pkopt.specs.declared.place.Part.{Part}
 use Rattle.pkopt.specs.declared.place.Place.{Place}

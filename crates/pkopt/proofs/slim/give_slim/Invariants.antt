@@ -1,3 +1,4 @@
+-- What the sink took, followed by what the parts left produce, is what all produce.
 use Rattle.std.proofs.Common.{◌≡◌, ◌<◌, ◌≤◌, ◌+◌, ◌++◌, List, ℕ, drop}
 use Rattle.pkopt.specs.Private.Places.{end_behind, places_behind}
 use Rattle.pkopt.specs.Private.Produced.{at_start, produced}

@@ -1,3 +1,4 @@
+-- A byte numbers a write below 256, and so far the list of marks reaches at once.
 use Rattle.std.proofs.Common.{arith, refl, sym, subst, true, ◌+◌, List, ℕ}
 use Rattle.std.proofs.lemmas.List.{length-set, take_all}
 use Rattle.pkopt.specs.Private.Passes.{KeepsMore}

@@ -1,3 +1,4 @@
+-- The marks are those of the early sources passed, in a list with one for each value of a byte.
 use Rattle.std.proofs.Common.{◌<◌, length, take}
 use Rattle.pkopt.specs.Private.Passes.{KeepsMore}
 use Rattle.pkopt.specs.Private.Sourced.{in_bytes}

@@ -1,3 +1,4 @@
+-- A source marks its write once the list reaches it, and a read without a source marks none.
 use Rattle.std.proofs.Common.{arith, sym, subst, ◌∙◌, ◌+◌, List, Option, ℕ}
 use Rattle.std.proofs.lemmas.List.{take_all}
 use Rattle.pkopt.specs.Private.Passes.{KeepsMore}

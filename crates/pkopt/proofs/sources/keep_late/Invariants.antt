@@ -1,3 +1,4 @@
+-- The marks are those from before and those of the late sources passed.
 use Rattle.std.proofs.Common.{take}
 use Rattle.pkopt.specs.Private.Passes.{KeepsMore}
 use Rattle.pkopt.proofs.sources.keep_late.Given as goal

@@ -1,3 +1,4 @@
+-- While no source is late, one that fits into a byte goes behind the early ones.
 use Rattle.std.proofs.Common.{◌≡◌, ap, ◌∙◌, ◌++◌, List, ℕ, length}
 use Rattle.std.proofs.Common.{rules}
 use Rattle.std.proofs.lemmas.List.{nil_from_length}

@@ -1,3 +1,4 @@
+-- The slim form measures the same whether it was made or is given part by part.
 use Rattle.std.proofs.Common.{◌∙◌, List, ℕ, subst}
 use Rattle.pkopt.specs.Private.Sinks.{Measures}
 use Rattle.pkopt.proofs.OneFrame.Fronts.{measured}

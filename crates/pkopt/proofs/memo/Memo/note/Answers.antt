@@ -1,3 +1,4 @@
+-- While writes are in order, the next number in order needs no list: the count goes on.
 use Rattle.std.proofs.Common.{◌≡◌, ◌-◌, ◌≤◌, rules}
 use Rattle.pkopt.proofs.MemoWrites.Rows.{goes_on}
 use Rattle.pkopt.proofs.memo.Memo.note.Goals as goal

@@ -1,3 +1,4 @@
+-- A number below the row, or not next to it, is noted among the rest.
 use Rattle.std.proofs.Common.{ap, length, arith, inl, inr}
 use Rattle.pkopt.proofs.MemoWrites.Noted.{noted_in_rest}
 use Rattle.pkopt.proofs.MemoWrites.Rows.{noted_listed, row_listed}

@@ -1,3 +1,4 @@
+-- In a row from 0 on, the count of entries is the next number in order.
 use Rattle.std.proofs.Common.{◌≡◌, rules}
 use Rattle.std.specs.Prelude.{◌≢◌}
 use Rattle.pkopt.proofs.MemoWrites.Rows.{goes_on_next}

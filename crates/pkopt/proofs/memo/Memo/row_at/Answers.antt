@@ -1,3 +1,4 @@
+-- While writes are in order, the place of a number tells its last write.
 use Rattle.std.proofs.Common.{sym, ap, length, get_or, ◌∙◌, List, ℕ, arith}
 use Rattle.pkopt.proofs.MemoWrites.Rows.{first_at, first_count, row_in_order}
 use Rattle.pkopt.proofs.memo.Memo.row_at.Goals as goal

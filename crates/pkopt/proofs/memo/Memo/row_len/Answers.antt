@@ -1,3 +1,4 @@
+-- While writes are in order, the row has as many numbers as there were writes.
 use Rattle.std.proofs.Common.{sym, ap, length, ◌∙◌}
 use Rattle.pkopt.proofs.MemoWrites.Rows.{first_count, row_in_order}
 use Rattle.pkopt.proofs.memo.Memo.row_len.Goals as goal

@@ -1,3 +1,4 @@
+-- A number within a row in order was last written by the write at its place.
 use Rattle.std.proofs.Common.{◌-◌, ◌≤◌, ◌<◌, ℕ, Some, ap, sym, ◌∙◌, rules}
 use Rattle.pkopt.proofs.MemoWrites.Rows.{held_in_order}
 use Rattle.pkopt.proofs.memo.Memo.write_in_order.Goals as goal

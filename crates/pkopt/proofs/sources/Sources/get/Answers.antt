@@ -1,3 +1,4 @@
+-- A read among the early ones has its source in a byte, and any other behind them.
 use Rattle.std.proofs.Common.{◌≡◌, ap, sym, ◌∙◌, ◌-◌, List, None, Option, ℕ, Some, arith, get_or}
 use Rattle.std.proofs.Common.{length}
 use Rattle.pkopt.specs.Private.Sourced.{Sourced}

@@ -1,3 +1,4 @@
+-- Marking first what early reads read and then what late ones do marks all that is read.
 use Rattle.std.proofs.Common.{subst, List, Option, ℕ}
 use Rattle.pkopt.specs.Private.Passes.{AreKept, KeepsMore}
 use Rattle.pkopt.specs.Private.Sourced.{Sourced, in_bytes}

@@ -1,3 +1,4 @@
+-- The parts recorded and the bytes left are the bytes to pass; memo and sources are as they were.
 use Rattle.std.proofs.Common.{◌≡◌, ◌+◌}
 use Rattle.pkopt.specs.Private.Passes.{Skips}
 use Rattle.pkopt.proofs.trace.Trace.pass.Given as goal

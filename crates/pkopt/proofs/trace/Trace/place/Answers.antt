@@ -1,3 +1,4 @@
+-- A part with the gap before it marks the instruction at its offset, and notes a FRAME.
 use Rattle.std.proofs.Common.{◌≡◌, ◌+◌, ◌++◌, ◌∷◌, [], ◌||◌, List, ap, sym, ◌∙◌, rules}
 use Rattle.pkopt.specs.declared.place.Part.{Part}
 use Rattle.pkopt.specs.declared.place.Place.{Place}

@@ -1,3 +1,4 @@
+-- A part of bytes that stay adds no place, and no FRAME.
 use Rattle.std.proofs.Common.{◌≡◌, ◌+◌, ◌++◌, ◌∷◌, [], ap, sym, ◌∙◌, refl, rules}
 use Rattle.pkops.specs.declared.Op.TheVariants.{Stop}
 use Rattle.pkopt.specs.declared.place.Part.{Part}

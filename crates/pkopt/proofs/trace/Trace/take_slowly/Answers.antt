@@ -1,3 +1,4 @@
+-- Recording a place changes nothing that the step of the opcode looks at.
 use Rattle.pkopt.proofs.MemoWrites.Followed.{step_from}
 use Rattle.pkopt.proofs.trace.Trace.take_slowly.Goals as goal
 

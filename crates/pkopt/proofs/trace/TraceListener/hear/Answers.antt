@@ -1,3 +1,4 @@
+-- Every arm records the place and the step of an instruction that may change.
 use Rattle.std.proofs.Common.{sym, ap, ◌∙◌}
 use Rattle.pkops.specs.Inst.{instruction_of}
 use Rattle.pkopt.specs.Private.Places.{stays_as_is}

@@ -1,3 +1,4 @@
+-- The measure of the slim form gives the front and the length, with no sum past 64 bits.
 use Rattle.std.proofs.Common.{◌≡◌, ◌∙◌, ◌-◌, List, [], ap, arith, cond, refl, subst}
 use Rattle.std.specs.Prelude.{IfSome}
 use Rattle.pkopt.specs.declared.place.Part.{Part}
