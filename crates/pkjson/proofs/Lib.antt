@@ -1,3 +1,4 @@
+-- The lemmas of the export: values and texts, settled objects, plain runs, dict keys, integers.
 pub mod Values
 pub mod Parts
 pub mod Kept

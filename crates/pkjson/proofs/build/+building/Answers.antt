@@ -1,3 +1,4 @@
+-- A value is built of the values of what the object holds, each of one level less.
 use Rattle.std.proofs.Common.{rules}
 use Rattle.std.proofs.Common.{get_or}
 use Rattle.pkjson.specs.Private.Fits.{Fits}

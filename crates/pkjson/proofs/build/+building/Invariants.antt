@@ -1,3 +1,4 @@
+-- Each call has fewer levels left, and the values built are those of what was passed.
 use Rattle.std.proofs.Common.{◌+◌, ◌*◌, take}
 use Rattle.serde_json.specs.View.{items_view, members_view}
 use Rattle.pkjson.specs.Unfolds.{UnfoldItems, UnfoldMembers}

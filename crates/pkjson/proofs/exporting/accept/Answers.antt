@@ -1,3 +1,4 @@
+-- With payloads held, a yes or no of the check is the one that the export goes by.
 use Rattle.std.proofs.Common.{ap, Some}
 use Rattle.pkjson.proofs.Runs.RunToStop.{accepted_as, refused_as}
 use Rattle.pkjson.proofs.exporting.accept.Goals as goal

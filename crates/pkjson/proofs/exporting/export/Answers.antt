@@ -1,3 +1,4 @@
+-- Replayed objects are closed, so the result has a value within the limits or a reason not to.
 use Rattle.std.proofs.Common.{subst, sym, ◌<◌, length}
 use Rattle.pkjson.specs.Private.Seen.{kept_all}
 use Rattle.pkjson.specs.Private.Settled.{AreGivenBelow}

@@ -1,3 +1,4 @@
+-- The text of the settled result is that of the pickle's value, and so is a refusal of it.
 use Rattle.std.proofs.Common.{subst, sym, ◌<◌, length}
 use Rattle.pkjson.specs.Private.Seen.{kept_all}
 use Rattle.pkjson.specs.Private.Settled.{AreGivenBelow}

@@ -1,3 +1,4 @@
+-- The text is appended to what the writer had, and a refusal appends nothing.
 use Rattle.pkjson.proofs.Runs.Answered.{refusal_told, text_appended}
 use Rattle.pkjson.proofs.exporting.export_to.Goals as goal
 

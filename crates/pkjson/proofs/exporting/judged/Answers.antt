@@ -1,3 +1,4 @@
+-- An object's weight tells whether it is too deep, has too many values, or has a value.
 use Rattle.std.proofs.Common.{refl, ◌∙◌}
 use Rattle.pkjson.proofs.Parts.WeightAnswers.{blank_trusted, all_deeper, too_many, has_value}
 use Rattle.pkjson.proofs.exporting.judged.Goals as goal

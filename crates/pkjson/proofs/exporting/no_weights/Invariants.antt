@@ -1,3 +1,4 @@
+-- Each place so far has a missing weight.
 use Rattle.std.proofs.Common.{◌≡◌, replicate}
 use Rattle.pkjson.specs.Private.Weighs.{no_weight}
 use Rattle.pkjson.proofs.exporting.no_weights.Given as goal

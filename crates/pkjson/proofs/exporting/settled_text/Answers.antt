@@ -1,3 +1,4 @@
+-- Settled objects hold what the objects kept hold, so the text written is the text of these.
 use Rattle.std.proofs.Common.{sym, subst, ◌<◌}
 use Rattle.pkjson.specs.Private.Nodes.{nodes_of}
 use Rattle.pkjson.specs.Private.Seen.{kept_all}

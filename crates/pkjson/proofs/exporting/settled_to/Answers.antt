@@ -1,3 +1,4 @@
+-- What is answered of settled objects holds of those kept, as both unfold alike.
 use Rattle.std.proofs.Common.{sym, subst, ◌<◌}
 use Rattle.pkjson.specs.Private.Nodes.{nodes_of}
 use Rattle.pkjson.specs.Private.Seen.{kept_all}

@@ -1,3 +1,4 @@
+-- Settled objects are closed, ordered and as many as there were, and have the same values.
 use Rattle.std.proofs.Common.{sym, subst, ◌<◌}
 use Rattle.pkjson.specs.Private.Nodes.{nodes_of}
 use Rattle.pkjson.specs.Private.Seen.{kept_all}

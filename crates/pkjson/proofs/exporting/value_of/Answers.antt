@@ -1,3 +1,4 @@
+-- An object with a value within the limits fits the levels in which it is built.
 use Rattle.pkjson.proofs.Parts.WeightAnswers.{value_fits, value_is}
 use Rattle.pkjson.proofs.exporting.value_of.Goals as goal
 

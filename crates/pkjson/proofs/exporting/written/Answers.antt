@@ -1,3 +1,4 @@
+-- An object with a value within the limits fits the levels of its text, which is that value's.
 use Rattle.pkjson.proofs.Parts.WeightAnswers.{value_fits, text_is}
 use Rattle.pkjson.proofs.exporting.written.Goals as goal
 

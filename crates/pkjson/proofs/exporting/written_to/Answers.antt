@@ -1,3 +1,4 @@
+-- Writing an object with a value within the limits appends the text of that value.
 use Rattle.pkjson.proofs.Parts.WeightAnswers.{text_written, value_fits}
 use Rattle.pkjson.proofs.exporting.written_to.Goals as goal
 

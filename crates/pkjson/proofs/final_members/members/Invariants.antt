@@ -1,3 +1,4 @@
+-- The members copied and those still to come are all of the map, in its order.
 use Rattle.std.proofs.Common.{◌≡◌, ◌++◌}
 use Rattle.pkjson.proofs.final_members.members.Given as goal
 

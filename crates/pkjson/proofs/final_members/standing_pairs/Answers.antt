@@ -1,3 +1,4 @@
+-- A pair put into the map replaces the value of its key, as a later member replaces an earlier.
 use Rattle.std.proofs.Common.{arith, sym, ◌∙◌, ap, drop, ◌+◌, get_or, ◌<◌, length}
 use Rattle.std.proofs.lemmas.List.Elements.{All-get_or}
 use Rattle.std.specs.Ordering.{nat_cmp}

@@ -1,3 +1,4 @@
+-- The map so far and the pairs left leave the same members standing as all pairs do.
 use Rattle.std.proofs.Common.{◌≡◌, ◌≤◌, ◌<◌, ◌-◌, All, [], length, drop}
 use Rattle.pkjson.specs.Private.Arena.{kind_at}
 use Rattle.pkjson.specs.Contents.{paired, standing}

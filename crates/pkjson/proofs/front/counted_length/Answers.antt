@@ -1,3 +1,4 @@
+-- Code, count and payload make the length, whichever opcode has a count of this width.
 use Rattle.std.proofs.Common.{arith}
 use Rattle.pkjson.proofs.Runs.Fronts.{counted_length}
 use Rattle.pkjson.proofs.front.counted_length.Goals as goal

@@ -1,3 +1,4 @@
+-- Code, line and line feed make the length, whichever opcode has one line.
 use Rattle.std.proofs.Common.{sym, ap, ◌∙◌}
 use Rattle.std.specs.Prelude.{◌==◌, position}
 use Rattle.pkjson.proofs.Entries.{all_after}

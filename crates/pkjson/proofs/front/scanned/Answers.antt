@@ -1,3 +1,4 @@
+-- A scan has no other answer, so where it finds nothing whole there is nothing in front.
 use Rattle.std.proofs.Common.{ap, ◌∙◌}
 use Rattle.pkops.specs.Answer.{Whole, shown_scan}
 use Rattle.pkjson.proofs.Runs.RunToStop.{front_answers, whole_same, whole_more, whole_bad}

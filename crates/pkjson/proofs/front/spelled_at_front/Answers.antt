@@ -1,3 +1,4 @@
+-- An accepted pickle's argument is good, so the length alone settles the instruction in front.
 use Rattle.pkjson.proofs.Runs.Fronts.{may_spell, front_spelled}
 use Rattle.pkjson.proofs.front.spelled_at_front.Goals as goal
 

@@ -1,3 +1,4 @@
+-- An opcode with a field of fixed width is as long as its code and that field.
 use Rattle.pkjson.proofs.Runs.Fronts.{fixed_length, none, u1, u2, u4, i4}
 use Rattle.pkjson.proofs.front.spelled_length.Goals as goal
 

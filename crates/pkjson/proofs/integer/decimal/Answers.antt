@@ -1,3 +1,4 @@
+-- Above a tenth of 2^63, one more digit makes the number greater than 2^63.
 use Rattle.std.proofs.Common.{arith, inr, subst, sym, ◌<◌, ◌^◌}
 use Rattle.pkjson.proofs.MachineIntegers.{decimal_large}
 use Rattle.pkjson.proofs.integer.decimal.Goals as goal

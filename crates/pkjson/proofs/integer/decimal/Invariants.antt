@@ -1,3 +1,4 @@
+-- The number of all digits is that of the value so far, continued by the digits left.
 use Rattle.std.proofs.Common.{◌≡◌, ◌<◌, ◌+◌, ◌^◌, drop}
 use Rattle.pkjson.specs.Integers.{decimal_after}
 use Rattle.pkjson.proofs.integer.decimal.Given as goal

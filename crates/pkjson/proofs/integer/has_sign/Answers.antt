@@ -1,3 +1,4 @@
+-- The sign bit is in the last byte of the little-endian number.
 use Rattle.std.proofs.Common.{arith, sym}
 use Rattle.pkjson.proofs.MachineIntegers.{has_sign_last}
 use Rattle.pkjson.proofs.integer.has_sign.Goals as goal

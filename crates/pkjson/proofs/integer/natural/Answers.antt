@@ -1,3 +1,4 @@
+-- From 2^55 on, one more byte makes the number at least 2^63.
 use Rattle.std.proofs.Common.{arith, inr}
 use Rattle.pkjson.proofs.MachineIntegers.{natural_part}
 use Rattle.pkjson.proofs.integer.natural.Goals as goal

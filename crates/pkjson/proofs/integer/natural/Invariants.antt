@@ -1,3 +1,4 @@
+-- The value is that of the upper bytes passed, and below 2^63.
 use Rattle.std.proofs.Common.{◌≡◌, ◌≤◌, ◌<◌, ◌^◌, drop, length}
 use Rattle.pkjson.specs.Integers.{natural}
 use Rattle.pkjson.proofs.integer.natural.Given as goal

@@ -1,3 +1,4 @@
+-- An object weighs what its items or members weigh, and one more, or is too deep for its levels.
 use Rattle.std.proofs.Common.{arith, refl, rules, ◌∙◌, subst, ◌-◌}
 use Rattle.pkjson.specs.Private.Nodes.{heap}
 use Rattle.pkjson.specs.Private.Weighs.{AreDeeper, MembersDeeper}

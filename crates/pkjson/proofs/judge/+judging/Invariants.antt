@@ -1,3 +1,4 @@
+-- The weights noted are right, and the sum is that of what was passed, within depth and cap.
 use Rattle.std.proofs.Common.{◌≡◌, ◌≤◌, ◌+◌, ◌*◌, length, take}
 use Rattle.pkjson.specs.Private.Nodes.{heap, size, named_members}
 use Rattle.pkjson.specs.Private.Weighs.{ItemsWeigh, MembersWeigh, IsTrusted}

@@ -1,3 +1,4 @@
+-- Two counts within a cap below 2^31 add up in 32 bits, and are capped again.
 use Rattle.std.proofs.Common.{arith}
 use Rattle.pkjson.proofs.judge.joined.Goals as goal
 

@@ -1,3 +1,4 @@
+-- Unfolding is unique, and there is a derivation exactly where the relation holds.
 use Rattle.pkjson.proofs.Values.Derivations.{derives, derived}
 use Rattle.pkjson.proofs.Values.OneValue.{unique}
 use Rattle.pkjson.proofs.laws.unfolding.Goals as goal

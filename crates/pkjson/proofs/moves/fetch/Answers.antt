@@ -1,3 +1,4 @@
+-- A number that the memo doesn't have is what a fetch lacks.
 use Rattle.std.proofs.Common.{sym, ap, ◌∙◌}
 use Rattle.pkcheck.specs.Shape.{NoMemo, fetched}
 use Rattle.pkjson.specs.Private.Seen.{shape_seen}

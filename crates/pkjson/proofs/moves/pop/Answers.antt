@@ -1,3 +1,4 @@
+-- Cutting off the last slot removes the topmost entry.
 use Rattle.std.proofs.Common.{◌≡◌, arith, length}
 use Rattle.pkjson.proofs.Entries.{popped_last}
 use Rattle.pkjson.specs.Private.Seen.{shape_seen}

@@ -1,3 +1,4 @@
+-- The receiver gets the numbers of the slots above it, and no other object changes.
 use Rattle.std.proofs.Common.{◌∙◌, ap, drop, ◌+◌}
 use Rattle.pkjson.proofs.Entries.{kept_set, all_after}
 use Rattle.pkjson.specs.Private.Seen.{numbers_of, kept_of}

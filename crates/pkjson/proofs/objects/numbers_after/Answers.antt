@@ -1,3 +1,4 @@
+-- Appended to the first number, those of the slots follow it.
 use Rattle.std.proofs.Common.{◌++◌, ◌∙◌, List, ℕ, ap}
 use Rattle.pkjson.specs.Private.Seen.{numbers_of}
 use Rattle.pkjson.proofs.objects.numbers_after.Goals as goal

@@ -1,3 +1,4 @@
+-- Pieces written one behind the other, with commas between, are the text of the whole.
 use Rattle.std.proofs.Common.{◌<◌, ◌-◌, ℕ, length, drop, get_or, arith}
 use Rattle.std.proofs.Common.{rules}
 use Rattle.std.specs.Prelude.{All, slice_range}

@@ -1,3 +1,4 @@
+-- What comes before the next piece is written, and each call has fewer levels or fewer parts.
 use Rattle.std.proofs.Common.{◌≤◌, ◌+◌, ◌-◌, ◌*◌, length, take}
 use Rattle.pkjson.specs.Private.Nodes.{heap, named_members}
 use Rattle.pkjson.specs.Private.Pieces.{WritesItems, WritesMembers}

@@ -1,3 +1,4 @@
+-- Of the text of an array or an object, all between its brackets is the part that is written.
 use Rattle.std.proofs.Common.{subst}
 use Rattle.std.proofs.lemmas.Result.{on_ok_weaker}
 use Rattle.pkjson.specs.Private.Nodes.{heap}

@@ -1,3 +1,4 @@
+-- All numbers paired so far are below the count.
 use Rattle.std.proofs.Common.{All, ◌<◌}
 use Rattle.pkjson.proofs.ranks.pairs_of.Given as goal
 

@@ -1,3 +1,4 @@
+-- The bounds of the search stay in order, within the list, and come closer.
 use Rattle.std.proofs.Common.{◌≤◌, ◌-◌, length}
 use Rattle.pkjson.proofs.ranks.place_of.Given as goal
 

@@ -1,3 +1,4 @@
+-- Each turn adds a note: the position at which the object's text was found, or none.
 use Rattle.std.proofs.Common.{◌∙◌, ◌∷◌, [], ap, arith, sym, subst, IfSome, length-append}
 use Rattle.pkjson.specs.Private.Arena.{kind_at}
 use Rattle.pkjson.specs.Contents.{characters}

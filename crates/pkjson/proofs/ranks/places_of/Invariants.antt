@@ -1,3 +1,4 @@
+-- Each object passed has a note, and a position noted is where its text stands.
 use Rattle.std.proofs.Common.{◌≡◌, length}
 use Rattle.pkjson.specs.Private.Ranks.{ArePlaces}
 use Rattle.pkjson.specs.Private.Seen.{kept_all}

@@ -1,3 +1,4 @@
+-- Each turn replays one plain instruction of an accepted pickle, up to its STOP.
 use Rattle.std.proofs.Common.{◌≡◌, arith, sym, ap, subst, ◌∙◌, ◌+◌, ◌-◌, length, drop, length-drop}
 use Rattle.pkops.specs.Inst.{instruction_of}
 use Rattle.pkcheck.specs.Effects.{effect_of}

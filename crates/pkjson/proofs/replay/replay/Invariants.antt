@@ -1,3 +1,4 @@
+-- The arena stands where the plain run of the pickle does before the bytes that are left.
 use Rattle.std.proofs.Common.{◌≤◌, ◌-◌, List, length}
 use Rattle.pkops.specs.Spelling.{Instruction}
 use Rattle.pkjson.specs.Export.{AcceptedAs}

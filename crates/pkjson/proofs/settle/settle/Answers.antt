@@ -1,3 +1,4 @@
+-- Each turn settles one object, whose operands are all among the objects there are.
 use Rattle.std.proofs.Common.{◌≡◌, rules, sym, subst, ◌<◌, All, length}
 use Rattle.pkjson.specs.Private.Seen.{kept_all, kept_of}
 use Rattle.pkjson.proofs.DictKeys.SettledMembers.{given_there}

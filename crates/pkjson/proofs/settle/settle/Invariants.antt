@@ -1,3 +1,4 @@
+-- The objects passed are settled, each dict with its members at its place.
 use Rattle.std.proofs.Common.{take}
 use Rattle.pkjson.specs.Private.Seen.{kept_all}
 use Rattle.pkjson.proofs.DictKeys.DictsAdded.{SettledTo}

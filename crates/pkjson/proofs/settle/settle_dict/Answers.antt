@@ -1,3 +1,4 @@
+-- A dict that was given something appends one list of members.
 use Rattle.std.proofs.Common.{sym, ◌∙◌, length}
 use Rattle.pkjson.specs.Private.Seen.{kept_all}
 use Rattle.pkjson.proofs.DictKeys.DictsAdded.{adds_some}

@@ -1,3 +1,4 @@
+-- Settling a dict is appending the members of what it was given.
 use Rattle.std.proofs.Common.{subst, sym, length, OnOk}
 use Rattle.pkjson.specs.Private.Seen.{kept_all}
 use Rattle.pkjson.specs.Private.Settled.{Adds, AddsMembers}

@@ -1,3 +1,4 @@
+-- An object's slot adds its number, and a mark's slot adds none.
 use Rattle.std.proofs.Common.{◌∷◌, ◌++◌, ◌∙◌, [], sym, ap, append-nil}
 use Rattle.pkjson.specs.declared.slots.Slot.{Slot}
 use Rattle.pkjson.specs.Private.Seen.{numbers_of}

@@ -1,3 +1,4 @@
+-- Each turn appends what one more slot adds.
 use Rattle.std.proofs.Common.{◌∙◌}
 use Rattle.pkjson.proofs.Entries.{numbers_next}
 use Rattle.pkjson.proofs.slots.add_numbers.Goals as goal

@@ -1,3 +1,4 @@
+-- Behind the numbers from before stand those of the slots passed.
 use Rattle.std.proofs.Common.{◌≡◌, ◌++◌, take}
 use Rattle.pkjson.specs.Private.Seen.{numbers_of}
 use Rattle.pkjson.proofs.slots.add_numbers.Given as goal

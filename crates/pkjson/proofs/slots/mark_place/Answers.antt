@@ -1,3 +1,4 @@
+-- On the way down an object joins the slice and a mark ends it; the bottom shows there is none.
 use Rattle.std.proofs.Common.{◌-◌, arith, ◌∙◌}
 use Rattle.pkjson.proofs.Entries.{slice_at_mark, slice_at_object, slice_at_bottom}
 use Rattle.pkjson.proofs.slots.mark_place.Goals as goal

@@ -1,3 +1,4 @@
+-- The slice of all slots is that of the lower ones, with the objects passed above them.
 use Rattle.std.proofs.Common.{◌≡◌, ◌≤◌, [], length, take, drop}
 use Rattle.pkjson.specs.Private.Seen.{seen_entries, numbers_of}
 use Rattle.pkcheck.specs.Shape.{slice}

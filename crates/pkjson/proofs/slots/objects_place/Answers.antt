@@ -1,3 +1,4 @@
+-- A mark or the bottom on the way down shows that so many objects aren't there.
 use Rattle.std.proofs.Common.{◌-◌, ◌+◌, arith, ◌∙◌}
 use Rattle.pkjson.proofs.Entries.{items_at_mark, items_at_object, items_at_bottom, items_done}
 use Rattle.pkjson.proofs.slots.objects_place.Goals as goal

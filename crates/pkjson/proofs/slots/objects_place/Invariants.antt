@@ -1,3 +1,4 @@
+-- The objects passed are the topmost items, and the lower slots must have the rest.
 use Rattle.std.proofs.Common.{◌≡◌, ◌≤◌, ◌-◌, [], length, take, drop}
 use Rattle.pkjson.specs.Private.Seen.{seen_entries, numbers_of}
 use Rattle.pkcheck.specs.Shape.{items}

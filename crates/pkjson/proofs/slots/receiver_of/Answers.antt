@@ -1,3 +1,4 @@
+-- The object right below the operands is the receiver; a mark or nothing there is a lack.
 use Rattle.std.proofs.Common.{◌≡◌, ◌-◌, ◌+◌, arith}
 use Rattle.pkjson.proofs.Entries.{receiver_at_mark, receiver_at_object, receiver_at_bottom}
 use Rattle.pkjson.proofs.Entries.{shown_take}

@@ -1,3 +1,4 @@
+-- The last slot shows the object on top, or by a mark that none is.
 use Rattle.std.proofs.Common.{arith}
 use Rattle.pkjson.proofs.Entries.{top_mark, top_object}
 use Rattle.pkjson.proofs.slots.top.Goals as goal

@@ -1,3 +1,4 @@
+-- All keys are texts exactly if those among the slots left are, counted on in turn.
 use Rattle.std.proofs.Common.{◌≡◌, true, drop}
 use Rattle.pkjson.specs.Private.Arena.{are_text_kinds}
 use Rattle.pkjson.specs.Plain.{every_other}

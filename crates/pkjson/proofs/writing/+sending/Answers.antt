@@ -1,3 +1,4 @@
+-- What an object sends is what its items or members send, enclosed and one level deeper.
 use Rattle.std.proofs.Common.{◌≡◌, ◌<◌, get_or, rules}
 use Rattle.std.proofs.Math.Logic.{∥∥₁_elim, ∥∥₁_map}
 use Rattle.std.proofs.Math.Bridge.{le_prop}

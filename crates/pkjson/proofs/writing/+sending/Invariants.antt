@@ -1,3 +1,4 @@
+-- What was passed has been sent, and each call has fewer levels left.
 use Rattle.std.proofs.Common.{◌+◌, ◌*◌}
 use Rattle.pkjson.specs.Private.Nodes.{heap}
 use Rattle.pkjson.proofs.Parts.Sent.{ItemsSoFar, MembersSoFar}

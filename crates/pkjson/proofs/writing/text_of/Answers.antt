@@ -1,3 +1,4 @@
+-- The events that the serializer got are those of the part, so its bytes are the compact text.
 use Rattle.std.proofs.lemmas.Result.{IfOk-weaker}
 use Rattle.pkjson.proofs.Parts.Sent.{compact}
 use Rattle.pkjson.proofs.writing.text_of.Goals as goal

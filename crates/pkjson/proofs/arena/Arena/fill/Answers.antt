@@ -1,3 +1,4 @@
+-- The receiver lies below its operands, and just these are given to it.
 use Rattle.std.proofs.Common.{◌≡◌, ℕ, List, [], ◌<◌, sym, ap, subst, ◌∙◌, length, Some, Ok, Result}
 use Rattle.std.proofs.Common.{refl}
 use Rattle.pkcheck.specs.Shape.{Breach, Entry, and_then}

@@ -1,3 +1,4 @@
+-- A number within the row is found at its place, and any other among the rest.
 use Rattle.std.proofs.Common.{◌∙◌, ap, Some, arith}
 use Rattle.pkjson.proofs.Kept.MemoCells.{at_row, at_rest}
 use Rattle.pkjson.proofs.memo.Memo.get.Goals as goal

@@ -1,3 +1,4 @@
+-- The entries are those of the row and those of the rest, so both counts add up.
 use Rattle.std.proofs.Common.{◌≡◌, ◌+◌, ◌++◌, length, arith}
 use Rattle.pkjson.specs.Private.Cells.{numbered_cells}
 use Rattle.pkjson.proofs.Kept.MemoCells.{length_cells}

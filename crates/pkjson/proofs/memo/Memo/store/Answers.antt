@@ -1,3 +1,4 @@
+-- Stored in the row, at its end or among the rest, a number has its object in the whole memo.
 use Rattle.std.proofs.Common.{arith, rules}
 use Rattle.pkjson.proofs.Kept.MemoCells.{put_end, put_rest, put_row}
 use Rattle.pkjson.proofs.memo.Memo.store.Goals as goal

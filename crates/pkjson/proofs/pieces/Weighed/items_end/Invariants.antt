@@ -1,3 +1,4 @@
+-- A piece of items has at least one item, and ends among them.
 use Rattle.std.proofs.Common.{◌<◌, ◌≤◌, ◌-◌, length}
 use Rattle.pkjson.proofs.pieces.Weighed.items_end.Given as goal
 

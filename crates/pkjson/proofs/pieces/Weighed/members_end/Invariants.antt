@@ -1,3 +1,4 @@
+-- The end of a piece of members lies behind its first one, and within the list.
 use Rattle.std.proofs.Common.{◌<◌, ◌≤◌, ◌-◌, length}
 use Rattle.pkjson.proofs.pieces.Weighed.members_end.Given as goal
 

@@ -1,3 +1,4 @@
+-- The members taken and those left in the map are all its values, in order of their keys.
 use Rattle.std.proofs.Common.{◌≡◌, ◌++◌}
 use Rattle.pkjson.proofs.ranks.Ranks.members.Given as goal
 

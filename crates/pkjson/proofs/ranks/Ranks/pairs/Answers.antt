@@ -1,3 +1,4 @@
+-- Positions are ordered as the texts are, so members by position are members by key.
 use Rattle.std.proofs.Common.{◌+◌, refl, length, get_or}
 use Rattle.pkjson.specs.Private.Seen.{kept_all}
 use Rattle.pkjson.proofs.DictKeys.KeyPlaces.{pairing_goes_on, pairing_ends, text_there}

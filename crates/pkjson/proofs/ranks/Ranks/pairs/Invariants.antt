@@ -1,3 +1,4 @@
+-- The map pairs the positions of the keys passed with the members that stand so far.
 use Rattle.std.proofs.Common.{◌-◌, length}
 use Rattle.pkjson.specs.Private.Seen.{kept_all}
 use Rattle.pkjson.proofs.DictKeys.KeyPlaces.{Pairing}

@@ -1,3 +1,4 @@
+-- The position noted for an object is where its text stands in the list.
 use Rattle.std.proofs.Common.{sym, subst, arith, IfSome}
 use Rattle.pkjson.specs.Private.Arena.{kind_at}
 use Rattle.pkjson.specs.Contents.{characters}

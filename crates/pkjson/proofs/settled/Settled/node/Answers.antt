@@ -1,3 +1,4 @@
+-- An object, with the place of its members, shows the node that the heap has for it.
 use Rattle.std.proofs.Common.{ap, subst, ◌∙◌}
 use Rattle.std.specs.Prelude.{slice_index}
 use Rattle.pkjson.specs.Private.Nodes.{node_of, Shows}

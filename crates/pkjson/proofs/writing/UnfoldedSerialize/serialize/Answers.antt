@@ -1,3 +1,4 @@
+-- A part carries its own conditions, so each kind of part may be sent.
 use Rattle.std.proofs.Common.{◌<◌, rules, subst}
 use Rattle.std.specs.Prelude.{All}
 use Rattle.std.proofs.Math.Logic.{∥∥₁_elim}
