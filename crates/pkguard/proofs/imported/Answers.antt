@@ -1,3 +1,4 @@
+-- With every import permitted, a refusal tells the imports before it, and has no pair.
 use Rattle.pkcheck.specs.Import.{permit_of}
 use Rattle.pkguard.proofs.Unpaired.{told_before}
 use Rattle.pkguard.proofs.imported.Goals as goal

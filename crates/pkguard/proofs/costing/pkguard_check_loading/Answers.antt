@@ -1,3 +1,4 @@
+-- Unknown settings are a fault of usage, so a no is always told of known ones.
 use Rattle.std.proofs.Common.{rules}
 use Rattle.pkguard.proofs.costing.pkguard_check_loading.Goals as goal
 use Rattle.pkguard.proofs.costing.pkguard_check_loading.Goals.{in-None, in-Some}

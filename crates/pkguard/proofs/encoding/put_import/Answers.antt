@@ -1,3 +1,4 @@
+-- A pair is written as two texts, and an unknown one as two lengths that no text has.
 use Rattle.pkguard.specs.Encoding.{eight_bytes, encoded_text, greatest_number}
 use Rattle.pkguard.proofs.Pieces.{written_both}
 use Rattle.pkguard.proofs.encoding.put_import.Goals as goal

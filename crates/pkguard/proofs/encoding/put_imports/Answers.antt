@@ -1,3 +1,4 @@
+-- Each turn writes one more import behind those written.
 use Rattle.pkcheck.specs.Import.{import_shown}
 use Rattle.pkguard.specs.Encoding.{encoded}
 use Rattle.pkguard.proofs.Pieces.{flat_map_next}

@@ -1,3 +1,4 @@
+-- The buffer begins with the encoding of the imports passed.
 use Rattle.std.proofs.Common.{take}
 use Rattle.std.specs.List.{flat_map}
 use Rattle.pkguard.specs.Encoding.{encoded}

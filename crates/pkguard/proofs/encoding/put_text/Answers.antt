@@ -1,3 +1,4 @@
+-- A text is written as its length and its bytes.
 use Rattle.std.proofs.Common.{length}
 use Rattle.pkguard.specs.Encoding.{eight_bytes}
 use Rattle.pkguard.proofs.Pieces.{written_both}

@@ -1,3 +1,4 @@
+-- Each turn writes what one more name of the module adds.
 use Rattle.std.proofs.Common.{◌++◌, sym}
 use Rattle.toml.specs.View.{view}
 use Rattle.pkguard.specs.Encoding.{encoded_all}

@@ -1,3 +1,4 @@
+-- The pairs written and those of the names left are all pairs of the module.
 use Rattle.std.proofs.Common.{◌≡◌, ◌++◌, ℕ, List, drop}
 use Rattle.toml.specs.View.{items_view}
 use Rattle.pkguard.specs.Encoding.{encoded_all}

@@ -1,3 +1,4 @@
+-- The pairs written are those of the modules passed, and only those left are missing.
 use Rattle.std.proofs.Common.{◌≡◌, ◌++◌, ℕ, List}
 use Rattle.toml.specs.View.{members_view, table_view}
 use Rattle.pkguard.specs.Encoding.{encoded_all}
