@@ -1,3 +1,4 @@
+-- Each call of the builder sets its own field of the program, and help texts set none.
 use Rattle.std.proofs.Common.{ap, true, ◌∙◌}
 use Rattle.clap.specs.Words.{App, Shape}
 use Rattle.clap.specs.Simple.{app_of_fields, on_top}

@@ -1,3 +1,4 @@
+-- Argument by argument, `check` gets the rules of its six arguments, unless memory is refused.
 use Rattle.std.proofs.Common.{◌∙◌, ap, codes}
 use Rattle.std.proofs.lemmas.Result.{IfOk-weaker}
 use Rattle.clap.specs.Simple.{app_of_fields}

@@ -1,3 +1,4 @@
+-- Help texts change no rule, so the command has that of its FILE alone.
 use Rattle.std.proofs.Common.{◌∙◌, ap}
 use Rattle.std.proofs.lemmas.Result.{IfOk-weaker}
 use Rattle.clap.specs.Simple.{app_of_fields}

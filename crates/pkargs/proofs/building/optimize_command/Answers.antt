@@ -1,3 +1,4 @@
+-- The rules of FILE and then of OUT make those of `optimize`.
 use Rattle.std.proofs.Common.{◌∙◌, ap, codes}
 use Rattle.std.proofs.lemmas.Result.{IfOk-weaker}
 use Rattle.clap.specs.Simple.{app_of_fields}

@@ -1,3 +1,4 @@
+-- Subcommand by subcommand, the program gets all five, unless memory is refused.
 use Rattle.std.proofs.Common.{◌≡◌, codes, Ok}
 use Rattle.clap.specs.Words.{App, app_of, with_subcommand}
 use Rattle.clap.specs.declared.Command.{Command}

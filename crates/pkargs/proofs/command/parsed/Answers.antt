@@ -1,3 +1,4 @@
+-- No rule ties arguments together, so matches are a job, and an error in the words means none.
 use Rattle.std.proofs.Common.{◌≡◌, sym, subst, refl, true, inr, map}
 use Rattle.std.specs.Prelude.{IfNone}
 use Rattle.std.specs.Option.{IfSome}

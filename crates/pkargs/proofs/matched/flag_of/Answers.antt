@@ -1,3 +1,4 @@
+-- A text that names no flag is that of neither value.
 use Rattle.std.proofs.Common.{◌∙◌}
 use Rattle.pkargs.proofs.NoJob.{if_none_map, some_same}
 use Rattle.pkargs.proofs.matched.flag_of.Goals as goal

@@ -1,3 +1,4 @@
+-- A word that names no setting of old strings is the word of none.
 use Rattle.std.proofs.Common.{◌∙◌}
 use Rattle.pkargs.proofs.NoJob.{if_none_map, some_same}
 use Rattle.pkargs.proofs.matched.old_of.Goals as goal

@@ -1,3 +1,4 @@
+-- Every choice of pickles gives both flags a value, so a missing one means that there is none.
 use Rattle.std.proofs.Common.{◌∙◌, ap, Some}
 use Rattle.pkargs.proofs.NoJob.{all_flag, all_shown, if_none, one_flag, one_shown}
 use Rattle.pkargs.proofs.matched.pickles_of.Goals as goal

@@ -1,3 +1,4 @@
+-- The first value that `clap` found is the first in the row of the argument.
 use Rattle.std.proofs.Common.{◌∙◌}
 use Rattle.clap.specs.Words.{found_of}
 use Rattle.clap.proofs.WalkLemmas.{first_value-rows}
