@@ -1,3 +1,4 @@
+-- The lines of the imports and then the line of the answer are what is appended.
 use Rattle.std.proofs.Common.{rules}
 use Rattle.pkprint.specs.Appended.{appends_then}
 use Rattle.pkprint.proofs.importing.imports_to.Goals as goal

@@ -1,3 +1,4 @@
+-- A line for each instruction heard and the last line together are the listing.
 use Rattle.std.proofs.Common.{rules}
 use Rattle.pkprint.specs.Private.Lists.{lists_all}
 use Rattle.pkprint.proofs.listing.dis_to.Goals as goal

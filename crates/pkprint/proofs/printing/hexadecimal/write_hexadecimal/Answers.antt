@@ -1,3 +1,4 @@
+-- The digits of a chunk are appended to those of the bytes before it.
 use Rattle.std.proofs.Common.{refl, List, [], ◌++◌, ℕ, ap, sym, ◌∙◌, append_assoc}
 use Rattle.hex.specs.Hex.{encode_with}
 use Rattle.pkprint.proofs.Lines.{encode_with-append}

@@ -1,3 +1,4 @@
+-- The bytes done and the rest are all of them, and the digits of those done are written.
 use Rattle.std.proofs.Common.{length, ◌≡◌, ℕ, List, ◌++◌}
 use Rattle.std.specs.Io.KnownBytes.{Appends}
 use Rattle.hex.specs.Hex.{encode_lower}

@@ -1,3 +1,4 @@
+-- Each turn appends the line of one more import.
 use Rattle.pkcheck.specs.Import.{import_shown}
 use Rattle.pkprint.specs.Imports.{import_line}
 use Rattle.pkprint.specs.Appended.{appends_none, appends_then}

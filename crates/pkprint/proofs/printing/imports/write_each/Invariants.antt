@@ -1,3 +1,4 @@
+-- The lines of the imports passed are written, in order.
 use Rattle.std.proofs.Common.{take}
 use Rattle.std.specs.List.{flat_map}
 use Rattle.std.specs.Io.KnownBytes.{Appends}

@@ -1,3 +1,4 @@
+-- Each mark makes the indent two spaces longer.
 use Rattle.pkprint.proofs.Lines.{indent_more}
 use Rattle.pkprint.specs.Listing.{indent}
 use Rattle.pkprint.specs.Appended.{appends_none, appends_then}

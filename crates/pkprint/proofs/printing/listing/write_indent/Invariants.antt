@@ -1,3 +1,4 @@
+-- The indent of the marks counted so far is written.
 use Rattle.std.specs.Io.KnownBytes.{Appends}
 use Rattle.pkprint.specs.Listing.{indent}
 use Rattle.pkprint.proofs.printing.listing.write_indent.Given as goal

@@ -1,3 +1,4 @@
+-- An offset laid out in five columns is the text of a position.
 use Rattle.pkprint.proofs.Positions.{position_text-is}
 use Rattle.pkprint.proofs.printing.listing.write_position.Goals as goal
 
