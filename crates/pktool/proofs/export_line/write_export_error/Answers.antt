@@ -1,3 +1,4 @@
+-- A reason without an offset is written as one fixed line.
 use Rattle.pktool.proofs.export_line.write_export_error.Goals as goal
 
 pub returns-in-TooDeep : goal.returns-in-TooDeep

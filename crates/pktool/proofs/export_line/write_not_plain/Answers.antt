@@ -1,3 +1,4 @@
+-- Offset, name of the opcode and bracket, written in turn, make one line.
 use Rattle.std.proofs.Common.{codes}
 use Rattle.std.specs.Fmt.{decimal}
 use Rattle.pkops.specs.Table.{row_of}

@@ -1,3 +1,4 @@
+-- Bytes for which there was no memory were taken from the source all the same.
 use Rattle.pktool.proofs.Exports.{takes_then}
 use Rattle.pktool.proofs.gathering.take_all.Goals as goal
 

@@ -1,3 +1,4 @@
+-- The bytes gathered so far are those that the source has given.
 use Rattle.std.proofs.Common.{◌-◌, ◌^◌, length}
 use Rattle.pkread.specs.Rows.{Takes, sight}
 use Rattle.pktool.proofs.gathering.take_all.Given as goal

@@ -1,3 +1,4 @@
+-- The line has the length taken and that of the form, which the place now holds.
 use Rattle.std.proofs.Common.{length, subst}
 use Rattle.std.specs.Io.KnownBytes.{Appends}
 use Rattle.pktool.specs.Optimized.{sizes_line}

@@ -1,3 +1,4 @@
+-- List and file are what the host has under their names, so the answer is about these.
 use Rattle.pktool.proofs.Reported.{checked}
 use Rattle.pktool.proofs.run.check_file.Goals as goal
 

@@ -1,3 +1,4 @@
+-- The source gives the content of the file, so the line is the export of that content.
 use Rattle.pktool.proofs.Exported.{exported_text}
 use Rattle.pktool.proofs.run.json_file.Goals as goal
 

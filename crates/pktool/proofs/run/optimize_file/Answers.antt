@@ -1,3 +1,4 @@
+-- The bytes read are the content of the file, so the form is that of its pickle.
 use Rattle.std.proofs.Common.{None, subst, sym}
 use Rattle.pktool.specs.Answers.{HasContent}
 use Rattle.pktool.proofs.Reported.{optimized}

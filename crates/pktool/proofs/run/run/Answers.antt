@@ -1,3 +1,4 @@
+-- A status below 2 comes with a job's answer or a text of help, written behind what was there.
 use Rattle.pktool.proofs.Reported.{job_reported, text_reported}
 use Rattle.pktool.proofs.run.run.Goals as goal
 

@@ -1,3 +1,4 @@
+-- The bytes in the block and those passed over behind it are together no more than wanted.
 use Rattle.std.proofs.Common.{arith}
 use Rattle.pktool.proofs.Passed.{passed_behind}
 use Rattle.pktool.proofs.blocks.BlocksSource.pass.Goals as goal

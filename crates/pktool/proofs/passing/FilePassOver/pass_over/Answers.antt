@@ -1,3 +1,4 @@
+-- A seek goes no further than wanted, whatever bytes the file has there.
 use Rattle.std.proofs.Common.{arith}
 use Rattle.pktool.proofs.Passed.{unknown_passed}
 use Rattle.pktool.proofs.passing.FilePassOver.pass_over.Goals as goal
