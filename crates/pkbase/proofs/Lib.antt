@@ -1,1 +1,2 @@
+-- The lemmas of the containers: entries in parts.
 pub mod Entries

@@ -1,3 +1,4 @@
+-- Below the row, within it or behind it: one part alone can have the number.
 use Rattle.std.proofs.Common.{◌∙◌, ◌-◌, Some, ap, arith}
 use Rattle.pkbase.proofs.Entries.{at_low, at_ordered, at_rest}
 use Rattle.pkbase.proofs.numbered_map.NumberedMap.get.Goals as goal

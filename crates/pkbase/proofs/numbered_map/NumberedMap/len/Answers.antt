@@ -1,3 +1,4 @@
+-- Numbers below the row are few, so the counts of the three parts add up in 64 bits.
 use Rattle.std.proofs.Common.{◌≡◌, ◌+◌, arith, length}
 use Rattle.std.proofs.lemmas.Map.Entries.{length-keys_of}
 use Rattle.std.proofs.lemmas.Map.Views.{length-le_from_below}

@@ -1,3 +1,4 @@
+-- With no entry behind the row, the number next in order goes to its end.
 use Rattle.std.proofs.Common.{rules, arith}
 use Rattle.std.proofs.lemmas.Result.{on_ok_weaker}
 use Rattle.pkbase.proofs.Entries.{put_next}

@@ -1,3 +1,4 @@
+-- A number goes to its part, and each part keeps the numbers that belong to it.
 use Rattle.std.proofs.Common.{◌-◌, ◌<◌, ◌≤◌, arith}
 use Rattle.std.proofs.lemmas.Map.Views.{All-keys-insert_entry}
 use Rattle.std.proofs.lemmas.Result.{on_ok_weaker}

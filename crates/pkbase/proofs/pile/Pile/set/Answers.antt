@@ -1,3 +1,4 @@
+-- Only entries in use are shown, so replacing one in the store replaces the one shown.
 use Rattle.std.proofs.Common.{◌≡◌, length, take, ap, arith}
 use Rattle.std.proofs.Math.Seq.{take-set-lt}
 use Rattle.std.proofs.lemmas.List.{length-take-le}
