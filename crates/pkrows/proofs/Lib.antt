@@ -1,1 +1,2 @@
+-- The one lemma that the rows need, of their own sources.
 pub mod Passed

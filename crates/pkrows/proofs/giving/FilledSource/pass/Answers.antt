@@ -1,3 +1,4 @@
+-- A source that reveals no bytes may pass over any number up to that wanted.
 use Rattle.std.proofs.Common.{arith}
 use Rattle.pkrows.proofs.Passed.{unseen_passed}
 use Rattle.pkrows.proofs.giving.FilledSource.pass.Goals as goal
