@@ -1,4 +1,3 @@
--- The lemmas of the check, from stack and memo up to whole runs and rows of pickles.
 pub mod BinarySearch
 pub mod Coverage
 pub mod StepParts

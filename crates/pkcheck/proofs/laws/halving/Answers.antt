@@ -1,4 +1,3 @@
--- The law of the binary search: it finds nothing but listed pairs, and all of a sorted array.
 use Rattle.pkcheck.proofs.BinarySearch.{halving_is_right}
 use Rattle.pkcheck.proofs.laws.halving.Goals as goal
 
