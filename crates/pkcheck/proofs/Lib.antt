@@ -1,8 +1,6 @@
-pub mod BinarySearch
 pub mod Coverage
 pub mod StepParts
 pub mod Wholes
-pub mod ListFile
 -- the fields of the machine: the stack, the memo, the texts, the imports
 pub mod Shown
 pub mod Bars

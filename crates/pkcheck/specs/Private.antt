@@ -12,7 +12,6 @@ pub mod Actions
 pub mod Judgement
 pub mod WholeReports
 pub mod Lent
-pub mod ListIndex
 pub mod NewTexts
 pub mod NextPickle
 pub mod Turns

@@ -15,6 +15,7 @@ use crate::loading::Loading;
 use crate::policy::Permit;
 use crate::row_of_pickles::{Row, YesAll};
 use crate::session::Session;
+use pklist::laws::bounded_names;
 use pkops::Limits;
 use pkread::laws::{frames, heads, nexts, rows};
 use pkread::{Reader, Source};
@@ -89,6 +90,7 @@ pub fn check_pickles<R: Source, A: Audience>(
     heads();
     frames();
     rows();
+    bounded_names();
     let mut reader = Reader::new(alloc, source, &terms.limits);
     let mut session = Session::new(alloc, &terms.limits, terms.loading.old_strings);
     let mut row = Row::new(alloc, terms.loading.memo);

@@ -7,16 +7,9 @@ ghost use Rattle.pkcheck.specs.Ends.{SameEvents, WellCarriesOver, WellIsFree};
 ghost use Rattle.pkcheck.specs.Exclusive.{OneBegins, RefusedBehind, YesExcludesNo};
 ghost use Rattle.pkcheck.specs.Exclusive.{YesOfRowExcludesNo};
 ghost use Rattle.pkcheck.specs.NewRuns.{FaultlessIsRun};
-ghost use Rattle.pkcheck.specs.Pairs.{HalvingIsRight};
 
 use pkops::laws::{growth, one_answer};
 use pkread::laws::one_sequence;
-
-/// A binary search finds only pairs that the array has, and finds all of them if the array is
-/// sorted.
-pub fn halving()
-    ensures { HalvingIsRight }
-{}
 
 /// An accepted pickle is not refused under the same policy, limits and setting, if its runs begin
 /// alike, except for a refused allocation or a failed read.

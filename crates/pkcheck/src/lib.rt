@@ -2,7 +2,6 @@
 //! answer.
 #![tactic(auto)]
 
-mod allow;
 mod audience;
 mod check_loop;
 mod checking;
@@ -15,7 +14,6 @@ mod listening;
 mod loading;
 mod machine;
 mod old_strings;
-mod pairs;
 mod policy;
 mod quoted;
 mod row_of_pickles;
@@ -23,7 +21,6 @@ mod session;
 mod turned;
 mod with_imports;
 
-pub use allow::{Allow, AllowError, CostLimits, Where};
 pub use audience::Audience;
 pub use check_loop::{Extent, RefusedPickle, Terms, check_pickles};
 pub use checking::{No, Yes, check, check_as};
@@ -34,7 +31,6 @@ pub use listening::{Listener, check_heard};
 pub use loading::{Loading, Memo};
 pub use machine::{Machine, Moved};
 pub use old_strings::OldStrings;
-pub use pairs::Pair;
 pub use policy::{Permit, Policy};
 pub use quoted::Quoted;
 pub use row_of_pickles::{NoAll, YesAll, check_all, check_all_loaded};

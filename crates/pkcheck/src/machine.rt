@@ -46,6 +46,7 @@ use crate::machine::stepping::advance;
 use crate::machine::terms::Terms;
 use crate::old_strings::OldStrings;
 use crate::policy::{Permit, Policy};
+use pklist::laws::bounded_names;
 use pkops::{Inst, Limits, Op};
 use pkread::Reason;
 use std::alloc::{AllocError, Global};
@@ -175,6 +176,7 @@ impl Machine {
         ensures texts { OnOk result (self.new.texts
             ≡ texts_then self.old.old_strings (instruction_of inst.now).op self.old.texts) }
     {
+        bounded_names();
         match advance(&mut self.held, &self.terms, inst, policy, &mut self.off) {
             Ok(moved) => {
                 stop_after(moved, &mut self.stopped);
@@ -213,6 +215,7 @@ impl Machine {
         ensures goes_on { IfOk result (λ moved. (moved ≡ Moved.On) × (self.new.stopped ≡ false)) }
         ensures imports { self.new.imports ≡ self.old.imports }
     {
+        bounded_names();
         if let Some(earlier) = self.refused {
             return Err(earlier);
         }

@@ -5,16 +5,15 @@ use Rattle.std.proofs.lemmas.List.{length-replicate}
 use Rattle.pkcheck.specs.declared.policy.Permit.{Permit}
 use Rattle.pkcheck.specs.declared.policy.Permit.TheVariants.{By, Pairs, Sorted}
 use Rattle.pkcheck.specs.declared.policy.Policy.TheVariants.{Listed, AnyImport}
-use Rattle.pkcheck.specs.Allow.{lists}
-use Rattle.pkcheck.specs.Pairs.{found, have}
+use Rattle.pklist.specs.Allow.{lists}
+use Rattle.pklist.specs.Bounded.{HasLongest, NamesAreBounded}
+use Rattle.pklist.specs.Pairs.{found, have}
 use Rattle.pkcheck.specs.Import.{permit_of}
 use Rattle.std.proofs.lemmas.List.Elements.{All-replicate}
 use Rattle.std.proofs.lemmas.Str.{IsUtf8-from_ascii}
 use Rattle.std.proofs.lemmas.Str.Ascii.{IsAscii-from_all}
-use Rattle.pkcheck.proofs.BinarySearch.{found_is_had}
 use Rattle.pkcheck.proofs.Coverage.OneTextStates.{Word}
 use Rattle.pkcheck.proofs.Coverage.ShownFaults.{IsLonger}
-use Rattle.pkcheck.proofs.ListFile.ListBound.{lists_bound, pairs_bound}
 
 -- a word of n letters
 abbrev letters : ℕ → Word
@@ -26,21 +25,15 @@ letters n =
     }
 
 -- if the names of a list have a bounded length, some text is longer
-bounded : (list : List ℕ → List ℕ → Bool) (bound : ℕ)
-    → ((m n : List ℕ) → list m n ≡ true → (length m ≤ bound) × (length n ≤ bound))
-    → (v : Word) × IsLonger (Some list) v.text
-bounded list bound below = (
+longer : (list : List ℕ → List ℕ → Bool) → HasLongest list → (v : Word) × IsLonger (Some list) v.text
+longer list (bound, below) = (
   letters (bound + 1),
   λ m n h. let g = below m n h in let r =
       length-replicate {A = ℕ} (bound + 1) 97 in (omega (arith, g.0, r), omega (arith, g.1, r)),
 )
 
-pub longest : (policy : Permit) → (v : Word) × IsLonger (permit_of policy) v.text
-longest (By (Listed list)) = let (bound, below) = lists_bound list.now in
-    bounded (lists list.now) bound below
-longest (Pairs pairs) = let (bound, below) = pairs_bound pairs.now in
-    bounded (have pairs.now) bound below
-longest (Sorted pairs) =
-    let (bound, below) = pairs_bound pairs.now in
-    bounded (found pairs.now) bound (λ m n h. below m n (found_is_had pairs.now m n h))
-longest (By AnyImport) = (letters 0, tt)
+pub longest : NamesAreBounded → (policy : Permit) → (v : Word) × IsLonger (permit_of policy) v.text
+longest bounded (By (Listed list)) = longer (lists list.now) (bounded.of_list list.now)
+longest bounded (Pairs pairs) = longer (have pairs.now) (bounded.of_array pairs.now)
+longest bounded (Sorted pairs) = longer (found pairs.now) (bounded.of_search pairs.now)
+longest bounded (By AnyImport) = (letters 0, tt)

@@ -48,7 +48,7 @@ instructions-init g c =
         };
         one = c.requires.one;
         law = g.met.A.Audience.hears_more;
-        long = longest c.args.policy.now;
+        long = longest c.bounded_names.ensures c.args.policy.now;
         here = sight g.R.Source.left g.R.Source.failures c.args.source.now;
         origin = record { at = 0; beginning = begins memo []; known = nothing_known };
         before = [];

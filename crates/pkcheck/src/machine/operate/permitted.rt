@@ -9,8 +9,8 @@ ghost use Rattle.pkcheck.specs.Private.Denials.{ruled, IsDenied, IsForMemory};
 use crate::import::{Asked, Named, pair_of};
 use crate::machine::ledger::Ledger;
 use crate::machine::operate::Denial;
-use crate::pairs;
 use crate::policy::{Permit, Policy};
+use pklist::pairs;
 use pkread::Reason;
 use std::alloc::Global;
 

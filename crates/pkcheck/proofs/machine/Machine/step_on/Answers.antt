@@ -44,7 +44,7 @@ returns-in-Ok-clause-texts c =
 pub returns-in-Err-clause-step : goal.returns-in-Err-clause-step
 returns-in-Err-clause-step c =
     let kept = c.in-Err.ensures.kept in
-    let (v, long) = longest c.args.policy.now in
+    let (v, long) = longest c.bounded_names.ensures c.args.policy.now in
     fails (permit_of c.args.policy.now) (instruction_of c.args.inst.now) c.args.self.now _
     c.in-Err.reason v long c.requires.admitted c.requires.well
     (denied (permit_of c.args.policy.now) (instruction_of c.args.inst.now) c.args.self.now _ _

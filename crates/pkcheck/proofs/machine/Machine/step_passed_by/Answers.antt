@@ -41,7 +41,7 @@ returns-in-Err-clause-step c i same =
     let e = passed_effect c.args.self.now.old_strings i
     (subst (λ o. IsTrue (is_passed o)) (sym same) c.requires.passed)
     ∙ (ap effect_of same ∙ c.class_passed.ensures c.requires.passed) in
-    let (v, long) = longest c.args.policy.now in
+    let (v, long) = longest c.bounded_names.ensures c.args.policy.now in
     fails p i c.args.self.now _ c.in-Err.reason v long
     (passed_admitted i.op i.arg
     (subst (λ o. IsTrue (is_passed o)) (sym same) c.requires.passed))

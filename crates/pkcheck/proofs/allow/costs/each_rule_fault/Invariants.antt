@@ -1,8 +1,0 @@
-use Rattle.std.proofs.Common.{◌≡◌}
-use Rattle.toml.specs.View.{members_view, table_view}
-use Rattle.pkcheck.specs.ListFile.{each_rule_fault}
-use Rattle.pkcheck.proofs.allow.costs.each_rule_fault.Given as goal
-
-abbrev pub invariant-loop-key : goal.invariant-loop-key
-invariant-loop-key l = each_rule_fault (members_view l.key-iterator)
-    ≡ each_rule_fault (table_view l.rules)

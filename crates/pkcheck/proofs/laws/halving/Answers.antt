@@ -1,5 +1,0 @@
-use Rattle.pkcheck.proofs.BinarySearch.{halving_is_right}
-use Rattle.pkcheck.proofs.laws.halving.Goals as goal
-
-pub returns : goal.returns
-returns c = halving_is_right

@@ -1,0 +1,17 @@
+//! Laws of the definitions. Each is the contract of a function that does nothing.
+
+ghost use Rattle.pklist.specs.Bounded.{NamesAreBounded};
+ghost use Rattle.pklist.specs.Pairs.{HalvingIsRight};
+
+/// A binary search finds only pairs that the array has, and finds all of them if the array is
+/// sorted.
+#[inline]
+pub fn halving()
+    ensures { HalvingIsRight }
+{}
+
+/// No list has arbitrarily long names, so some text is not among them.
+#[inline]
+pub fn bounded_names()
+    ensures { NamesAreBounded }
+{}
