@@ -2,9 +2,9 @@
 use Rattle.std.specs.Prelude.{ℕ}
 use Rattle.pkread.specs.declared.Reason.{Reason}
 use Rattle.pkread.specs.declared.Reason.TheVariants as reason
-use Rattle.pkcheck.specs.declared.AllowError.{AllowError}
-use Rattle.pkcheck.specs.declared.AllowError.TheVariants as fault
-use Rattle.pkcheck.specs.declared.Where.TheVariants as part
+use Rattle.pklist.specs.declared.AllowError.{AllowError}
+use Rattle.pklist.specs.declared.AllowError.TheVariants as fault
+use Rattle.pklist.specs.declared.Where.TheVariants as part
 use Rattle.pkload.specs.declared.Excess.{Excess}
 use Rattle.pkload.specs.declared.Excess.TheVariants as excess
 

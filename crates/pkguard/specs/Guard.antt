@@ -8,16 +8,16 @@ use Rattle.pkops.specs.Limits.{Bounds}
 use Rattle.pkread.specs.Rows.{Sight}
 use Rattle.pkread.specs.declared.Reason.{Reason}
 use Rattle.pkcheck.specs.Knowledge.{Policy, Asked, AskedPair}
-use Rattle.pkcheck.specs.Allow.{are_unsaid}
-use Rattle.pkcheck.specs.ListFile.{cost_limits_in, limits_in, list_of, lists_in}
+use Rattle.pklist.specs.Allow.{are_unsaid}
+use Rattle.pklist.specs.ListFile.{cost_limits_in, limits_in, list_of, lists_in}
 use Rattle.pkcheck.specs.Accepted.{Accepted}
 use Rattle.pkcheck.specs.Refused.{Refused}
 use Rattle.pkcheck.specs.RowOfPickles.{AcceptedRow, RefusedInRow}
 use Rattle.pkcheck.specs.RowRuns.{Afresh}
 use Rattle.pkcheck.specs.WithImports.{RefusedWithImports}
-use Rattle.pkcheck.specs.declared.AllowError.{AllowError}
-use Rattle.pkcheck.specs.declared.AllowError.TheVariants.{Syntax, OutOfMemory}
-use Rattle.pkcheck.specs.declared.CostLimits.{CostLimits}
+use Rattle.pklist.specs.declared.AllowError.{AllowError}
+use Rattle.pklist.specs.declared.AllowError.TheVariants.{Syntax, OutOfMemory}
+use Rattle.pklist.specs.declared.CostLimits.{CostLimits}
 use Rattle.pkcheck.specs.declared.Loading.{Loading}
 use Rattle.pkcheck.specs.declared.OldStrings.{OldStrings}
 use Rattle.pkguard.specs.declared.settings.Settings.{Settings}

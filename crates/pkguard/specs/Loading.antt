@@ -5,8 +5,8 @@ use Rattle.toml.specs.Data.{Members}
 use Rattle.pkops.specs.Limits.{Bounds}
 use Rattle.pkcheck.specs.Import.{asked_shown}
 use Rattle.pkcheck.specs.Knowledge.{Policy}
-use Rattle.pkcheck.specs.ListFile.{list_of}
-use Rattle.pkcheck.specs.declared.CostLimits.{CostLimits}
+use Rattle.pklist.specs.ListFile.{list_of}
+use Rattle.pklist.specs.declared.CostLimits.{CostLimits}
 use Rattle.pkcheck.specs.declared.Extent.{Extent}
 use Rattle.pkcheck.specs.declared.Extent.TheVariants.{OnePickle, ToTheEnd}
 use Rattle.pkcheck.specs.declared.Loading.{Loading}

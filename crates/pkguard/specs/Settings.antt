@@ -6,8 +6,8 @@ use Rattle.pkcheck.specs.declared.Loading.{Loading}
 use Rattle.pkcheck.specs.declared.Memo.TheVariants.{Fresh, Kept}
 use Rattle.pkcheck.specs.declared.OldStrings.{OldStrings}
 use Rattle.pkcheck.specs.declared.OldStrings.TheVariants.{Unknown, Ascii, Bytes}
-use Rattle.pkcheck.specs.declared.Pair.{Pair}
-use Rattle.pkcheck.specs.Pairs.{AreInOrder, found, have}
+use Rattle.pklist.specs.declared.Pair.{Pair}
+use Rattle.pklist.specs.Pairs.{AreInOrder, found, have}
 use Rattle.pkguard.specs.declared.settings.Settings.{Settings}
 
 -- each limit of the settings, capped by the other one

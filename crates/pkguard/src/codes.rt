@@ -3,7 +3,7 @@
 ghost use Rattle.std.specs.Prelude.{◌≡◌};
 ghost use Rattle.pkguard.specs.Codes.{excess_code, fault_code, reason_code, reason_number};
 
-use pkcheck::{AllowError, Where};
+use pklist::{AllowError, Where};
 use pkload::Excess;
 use pkread::Reason;
 

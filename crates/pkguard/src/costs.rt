@@ -4,7 +4,8 @@ ghost use Rattle.pkguard.specs.Loading.{are_served, bill_of, costs_over, extent_
 ghost use Rattle.pkguard.specs.Loading.{nothing_billed, old_strings_with, tolls_by};
 
 use crate::settings::{Settings, old_strings_in};
-use pkcheck::{CostLimits, Extent, OldStrings};
+use pkcheck::{Extent, OldStrings};
+use pklist::CostLimits;
 use pkload::{Tally, Tolls};
 
 /// Limits on what loading a pickle may cost, for C.

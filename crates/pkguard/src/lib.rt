@@ -29,8 +29,9 @@ ghost use Rattle.pkguard.specs.Settings.{listed_by, loading_by};
 
 pub use costing::{pkguard_check_loading, pkguard_list_costs};
 pub use costs::{Bill, Costs};
-use pkcheck::laws::halving;
-use pkcheck::{Loading, OldStrings, Pair, Permit, Policy, check_all_loaded, check_with_imports};
+use pkcheck::{Loading, OldStrings, Permit, Policy, check_all_loaded, check_with_imports};
+use pklist::Pair;
+use pklist::laws::halving;
 use pkops::Limits;
 use pkread::Memory;
 pub use settings::Settings;

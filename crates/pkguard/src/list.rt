@@ -1,8 +1,8 @@
 //! Reads a list file, and writes its pairs to the caller's buffer.
 ghost use Rattle.std.specs.Prelude.{◌≡◌, ◌++◌, ℕ, List, IfOk, IfErr, Ok, OnOk, codes, option_map};
 ghost use Rattle.std.specs.Str.{IsUtf8};
-ghost use Rattle.pkcheck.specs.Allow.{document_of};
-ghost use Rattle.pkcheck.specs.ListFile.{list_of};
+ghost use Rattle.pklist.specs.Allow.{document_of};
+ghost use Rattle.pklist.specs.ListFile.{list_of};
 ghost use Rattle.toml.specs.Data.{get_member};
 ghost use Rattle.toml.specs.View.{array_view, table_view, view};
 ghost use Rattle.pkguard.specs.Encoding.{encoded_all, wanted_by};
@@ -11,7 +11,8 @@ ghost use Rattle.pkguard.specs.Listed.{pair_in, pairs_among, pairs_at, pairs_in,
 ghost use Rattle.pkguard.specs.Private.Written.{IsWritten};
 
 use crate::encoding::put_import;
-use pkcheck::{Allow, AllowError, Import};
+use pkcheck::Import;
+use pklist::{Allow, AllowError};
 use std::alloc::Global;
 use std::str;
 use toml::{Table, Value};

@@ -5,7 +5,8 @@ ghost use Rattle.pkguard.specs.Listed.{are_usual, settings_with};
 ghost use Rattle.pkguard.specs.Settings.{is_served, limits_within, old_strings_in};
 ghost use Rattle.pkguard.specs.Settings.{limits_by, listed_by, loading_by, old_strings_of};
 
-use pkcheck::{Loading, Memo, OldStrings, Pair, Permit};
+use pkcheck::{Loading, Memo, OldStrings, Permit};
+use pklist::Pair;
 use pkops::Limits;
 use std::cmp;
 

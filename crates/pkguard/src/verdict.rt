@@ -6,7 +6,8 @@ ghost use Rattle.pkguard.specs.Guard.{names_placed, nothing_told, verdict_behind
 ghost use Rattle.pkguard.specs.Loading.{verdict_of_excess};
 
 use crate::codes::{excess_code, fault_code, reason_code, reason_number};
-use pkcheck::{AllowError, Asked, Imports, No};
+use pkcheck::{Asked, Imports, No};
+use pklist::AllowError;
 use pkload::Costly;
 
 /// A verdict for C. Fields that do not apply to its status are 0.

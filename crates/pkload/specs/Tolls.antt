@@ -1,6 +1,6 @@
 -- Limits on what loading may cost.
 use Rattle.std.specs.Prelude.{◌≡◌, ◌≤◌, ◌<◌, ◌⊎◌, ⊤, ℕ, true, false, unwrap_or}
-use Rattle.pkcheck.specs.declared.CostLimits.{CostLimits}
+use Rattle.pklist.specs.declared.CostLimits.{CostLimits}
 use Rattle.pkload.specs.Tally.{Implies}
 use Rattle.pkload.specs.declared.tally.Tally.{Tally}
 use Rattle.pkload.specs.declared.tolls.Tolls.{Tolls}

@@ -4,7 +4,7 @@ ghost use Rattle.std.specs.Prelude.{◌≡◌, ◌≤◌, ◌<◌, MatchOption, 
 ghost use Rattle.pkload.specs.Tolls.{Exceeds, KeepsWithin, standard, tolls_said, unlimited};
 
 use crate::tally::Tally;
-use pkcheck::CostLimits;
+use pklist::CostLimits;
 use std::fmt;
 
 /// Limits on what the keys of a pickle may cost. Depths are counted up to 1,023 and weights up to

@@ -2,7 +2,8 @@
 
 use crate::giving::Filled;
 use crate::judging::{Verdict, judge, judge_each};
-use pkcheck::{Allow, Policy};
+use pkcheck::Policy;
+use pklist::Allow;
 use pkops::Limits;
 use pkread::Reason;
 use std::test::Fail;

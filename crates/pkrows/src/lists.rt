@@ -1,6 +1,6 @@
 //! List files: what they permit, and the texts of their errors.
 
-use pkcheck::{Allow, AllowError, Where};
+use pklist::{Allow, AllowError, Where};
 use std::test::Fail;
 
 const LIST: &str = "version = 1

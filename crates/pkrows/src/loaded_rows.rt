@@ -2,7 +2,8 @@
 //! kept memo. CPython 3.11 agrees: with one `pickle.load` per pickle, and with one `Unpickler`.
 
 use crate::giving::Pieces;
-use pkcheck::{Allow, Loading, Memo, NoAll, OldStrings, Permit, Policy, YesAll, check_all_loaded};
+use pkcheck::{Loading, Memo, NoAll, OldStrings, Permit, Policy, YesAll, check_all_loaded};
+use pklist::Allow;
 use pkops::Limits;
 use pkread::Reason;
 use std::process::Abort;

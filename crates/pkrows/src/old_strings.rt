@@ -2,7 +2,8 @@
 
 use crate::giving::Pieces;
 use crate::judging::{Verdict, judge_as};
-use pkcheck::{Allow, Machine, OldStrings, Policy};
+use pkcheck::{Machine, OldStrings, Policy};
+use pklist::Allow;
 use pkops::{Limits, Scan, scan};
 use pkread::Reason;
 use std::process::Abort;

@@ -1,7 +1,8 @@
 //! Each opcode: accepted where its needs are met, and refused for each need that isn't.
 
 use crate::judging::{Verdict, judge_each};
-use pkcheck::{Allow, Policy};
+use pkcheck::Policy;
+use pklist::Allow;
 use pkops::Limits;
 use pkread::Reason;
 use std::test::Fail;

@@ -1,7 +1,8 @@
 //! The same pickle from sources that return it in pieces, fail, end early, or have more after it.
 
 use crate::judging::{Verdict, judge};
-use pkcheck::{Allow, Policy};
+use pkcheck::Policy;
+use pklist::Allow;
 use pkops::Limits;
 use pkread::{Input, Memory, ReadFailed, Reason, Source};
 use std::io;

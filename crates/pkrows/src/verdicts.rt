@@ -1,7 +1,8 @@
 //! Verdicts of `check` on worked pickles, under lists, under any import, and under small limits.
 
 use crate::judging::{Verdict, judge_each};
-use pkcheck::{Allow, Asked, Import, Policy, check};
+use pkcheck::{Asked, Import, Policy, check};
+use pklist::Allow;
 use pkops::Limits;
 use pkread::{Memory, Reason};
 use std::test::Fail;

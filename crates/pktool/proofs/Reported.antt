@@ -5,7 +5,7 @@ use Rattle.std.specs.Prelude.{◌⊎◌, length, IfOk}
 use Rattle.std.specs.Io.KnownBytes.{Appends, Keeps}
 use Rattle.pkops.specs.Limits.{standard}
 use Rattle.pkread.specs.Printed.{refusal_text}
-use Rattle.pkcheck.specs.declared.Allow.{Allow}
+use Rattle.pklist.specs.declared.Allow.{Allow}
 use Rattle.pkcheck.specs.declared.OldStrings.{OldStrings}
 use Rattle.pkargs.specs.Command.{AsksForJob, AsksForNone}
 use Rattle.pkargs.specs.declared.Job.{Job}

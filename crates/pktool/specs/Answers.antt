@@ -9,12 +9,12 @@ use Rattle.pkread.specs.Printed.{refusal_text}
 use Rattle.pkread.specs.Rows.{Sight}
 use Rattle.pkread.specs.declared.Refusal.{Refusal}
 use Rattle.pkread.specs.declared.Reason.TheVariants as reason
-use Rattle.pkcheck.specs.Allow.{are_unsaid, cost_limits_of, document_of, limits_of, lists}
+use Rattle.pklist.specs.Allow.{are_unsaid, cost_limits_of, document_of, limits_of, lists}
 use Rattle.pkcheck.specs.Answered.{IsRightAnswer}
 use Rattle.pkcheck.specs.Heard.{Heard, IsRightAndHeard}
-use Rattle.pkcheck.specs.ListFile.{list_of}
+use Rattle.pklist.specs.ListFile.{list_of}
 use Rattle.pkcheck.specs.RowOfPickles.{IsRightOfRow}
-use Rattle.pkcheck.specs.declared.Allow.{Allow}
+use Rattle.pklist.specs.declared.Allow.{Allow}
 use Rattle.pkcheck.specs.declared.Extent.{Extent}
 use Rattle.pkcheck.specs.declared.Extent.TheVariants.{OnePickle, ToTheEnd}
 use Rattle.pkcheck.specs.declared.Loading.{Loading}

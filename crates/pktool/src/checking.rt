@@ -6,7 +6,8 @@ ghost use Rattle.pktool.specs.Answers.{extent_of, loading_of};
 ghost use Rattle.pktool.specs.Ends.{Writes};
 
 use pkargs::Pickles;
-use pkcheck::{Allow, Extent, Loading, Memo, OldStrings, Permit, Policy, Terms};
+use pkcheck::{Extent, Loading, Memo, OldStrings, Permit, Policy, Terms};
+use pklist::Allow;
 use pkload::Tolls;
 use pkprint::{Billing, Outcome, check_all_loaded_to, check_loading_to, check_to};
 use pkread::Source;

@@ -1,5 +1,5 @@
 //! Why a command ends without an answer.
-use pkcheck::{AllowError, Where};
+use pklist::{AllowError, Where};
 use std::alloc::AllocError;
 use std::io;
 use std::io::{ErrorKind, Write};

@@ -6,7 +6,7 @@ ghost use Rattle.pktool.specs.Blocks.{failed_reads, unpulled};
 use crate::blocks::Blocks;
 use crate::fault::Fault;
 use crate::host::Host;
-use pkcheck::{Allow, AllowError};
+use pklist::{Allow, AllowError};
 use std::alloc::Global;
 use std::io::{ErrorKind, Read};
 use std::{io, str};
