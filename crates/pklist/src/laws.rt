@@ -10,7 +10,7 @@ pub fn halving()
     ensures { HalvingIsRight }
 {}
 
-/// No list has arbitrarily long names, so some text is not among them.
+/// The names of a list are of bounded length, so there is a text longer than all of them.
 #[inline]
 pub fn bounded_names()
     ensures { NamesAreBounded }

@@ -1,6 +1,6 @@
-//! List files: what they permit, and the texts of their errors.
+//! Lists: what list files and arrays permit, and the texts of errors.
 
-use pklist::{Allow, AllowError, Where};
+use pklist::{Allow, AllowError, Pair, Where, pairs};
 use std::test::Fail;
 
 const LIST: &str = "version = 1
@@ -27,6 +27,21 @@ fn pairs_of_a_list(rt: HostRuntime) -> Result<(), Fail> {
         assert_eq!(rt; allow.contains(module, name), wanted, "{module} {name}");
     }
     Ok(())
+}
+
+#[test]
+fn pairs_of_an_array(rt: HostRuntime) -> Result<(), Fail> {
+    let (first, second) = (pair(b"a", b"c"), pair(b"b", b"a"));
+    for (module, name, wanted) in [(b"a", b"c", true), (b"b", b"a", true), (b"a", b"a", false)] {
+        assert_eq!(rt; pairs::have(&[first, second], module, name), wanted);
+        assert_eq!(rt; pairs::have(&[second, first], module, name), wanted);
+        assert_eq!(rt; pairs::found(&[first, second], module, name), wanted);
+    }
+    Ok(())
+}
+
+fn pair<'a>(module_name: &'a [u8], name: &'a [u8]) -> Pair<'a> {
+    Pair { module_name, name }
 }
 
 #[test]
