@@ -25,7 +25,8 @@ letters n =
     }
 
 -- if the names of a list have a bounded length, some text is longer
-longer : (list : List ℕ → List ℕ → Bool) → HasLongest list → (v : Word) × IsLonger (Some list) v.text
+longer : (list : List ℕ → List ℕ → Bool) → HasLongest list
+    → (v : Word) × IsLonger (Some list) v.text
 longer list (bound, below) = (
   letters (bound + 1),
   λ m n h. let g = below m n h in let r =
