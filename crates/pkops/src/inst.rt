@@ -16,6 +16,7 @@ use crate::contents::{Rule, keeps, numeral};
 use crate::form::Form;
 use crate::layout::{Layout, is_count};
 use crate::lending::{argument_lent, is_bool_behind, memo_number_behind};
+use crate::lengths::HIGHEST_PROTOCOL;
 use crate::op::Op;
 use crate::table::kind;
 
@@ -190,7 +191,7 @@ impl<'a> Inst<'a> {
     {
         match (self.op, self.arg()) {
             (Op::Ext1 | Op::Ext2 | Op::Ext4, _) => false,
-            (Op::Proto, Arg::U1(protocol)) => protocol <= 5,
+            (Op::Proto, Arg::U1(protocol)) => protocol <= HIGHEST_PROTOCOL,
             _ => true,
         }
     }

@@ -11,6 +11,7 @@ mod inst;
 pub mod laws;
 mod layout;
 mod lending;
+pub mod lengths;
 mod limits;
 mod old_bytes;
 mod op;

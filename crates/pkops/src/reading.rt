@@ -1,6 +1,6 @@
 //! Reading an argument from the front of bytes.
 
-ghost use Rattle.std.specs.Prelude.{◌≡◌, ◌⊎◌, ◌≤◌, ◌<◌, ◌^◌, ◌==◌, ℕ, List, position, IfOk, Ok};
+ghost use Rattle.std.specs.Prelude.{◌≡◌, ◌⊎◌, ◌≤◌, ◌<◌, ◌^◌, ℕ, List, IfOk, Ok};
 ghost use Rattle.std.specs.Int.{cast_signed, w32};
 ghost use Rattle.pkops.specs.Spelling.{Argument, Number, Signed, Float, Line, Pair, Counted};
 ghost use Rattle.pkops.specs.Spelling.{shown_arg};
@@ -11,6 +11,7 @@ ghost use Rattle.pkops.specs.Private.FirstFaults.{number_at, line_at, payload_at
 use crate::arg::Arg;
 use crate::fault::Fault;
 use crate::layout::{Layout, Width, is_count};
+use crate::lengths::end_of_line;
 use byteorder::{ByteOrder, LittleEndian};
 
 /// Why no argument was read.
@@ -56,12 +57,6 @@ fn line(most: usize, from: &[u8]) -> Result<(&[u8], &[u8]), Unread>
         None if from.len() <= most => Err(Unread::Short),
         None => Err(Unread::Bad(Fault::TooLarge)),
     }
-}
-
-fn end_of_line(from: &[u8]) -> Option<usize>
-    ensures { result ≡ position (λ byte. byte == 10) from.now }
-{
-    from.iter().position(|byte| *byte == b'\n')
 }
 
 /// A payload without its count, and the bytes after it.
