@@ -12,6 +12,7 @@ ghost use Rattle.pkops.specs.declared.Rule.TheVariants as rule;
 ghost use Rattle.pkread.specs.Private.Arms.{BeginsWithNumber, HasLine, IsInFront};
 
 use pkops::laws::{one_code, rules_are_computed};
+use pkops::lengths::SEARCHED;
 
 /// The code of INT.
 const INT: u8 = 0x49;
@@ -27,9 +28,6 @@ const PUT: u8 = 0x70;
 
 /// The bytes of nine digits, which 32 bits always hold, and a line feed.
 const NUMBER: usize = 10;
-
-/// The most bytes in which a line of text is searched, and the code.
-const LINE: usize = 257;
 
 /// The number of bytes of the instruction that the bytes begin with, if it is a GET, PUT, INT or
 /// UNICODE, it is good, its number has at most nine digits, and its text has no escape; otherwise
@@ -179,7 +177,7 @@ fn text_line_length(bytes: &[u8]) -> usize
     requires some { 0 < length bytes.now }
     ensures { result ≢ 0 → HasLine rule.Escapes result bytes.now }
 {
-    let line = &bytes[1..bytes.len().min(LINE)];
+    let line = &bytes[1..bytes.len().min(SEARCHED)];
     let Some(end) = end_of_plain(line) else {
         return 0;
     };

@@ -1,13 +1,13 @@
 //! The instruction at the front of the bytes that a source has at hand.
 
-ghost use Rattle.std.specs.Prelude.{◌≡◌, ◌≢◌, ◌<◌, ◌≤◌, ◌⊎◌, ◌+◌, ◌∷◌, ◌++◌, ◌==◌, ℕ, IfSome};
-ghost use Rattle.std.specs.Prelude.{List, false, length, position, slice_index, true};
+ghost use Rattle.std.specs.Prelude.{◌≡◌, ◌≢◌, ◌<◌, ◌∷◌, ◌++◌, ℕ, IfSome, List, false, length};
+ghost use Rattle.std.specs.Prelude.{slice_index, true};
 ghost use Rattle.std.specs.Str.{IsUtf8};
 ghost use Rattle.pkops.specs.Inst.{instruction_of};
 ghost use Rattle.pkops.specs.Limits.{Bounds};
 ghost use Rattle.pkops.specs.KnownLayout.{Lies};
 ghost use Rattle.pkops.specs.Payloads.{payload_limit};
-ghost use Rattle.pkops.specs.Spelling.{Argument, IsLine, layout_at, line_feed, size_of};
+ghost use Rattle.pkops.specs.Spelling.{Argument, IsLine, layout_at, line_feed};
 ghost use Rattle.pkops.specs.declared.Layout.TheVariants as layout;
 ghost use Rattle.pkops.specs.Table.{code_of};
 ghost use Rattle.pkops.specs.declared.Op.{Op as SpecOp};
@@ -19,9 +19,8 @@ ghost use Rattle.pkread.specs.Private.Judgement.{is_plain};
 use crate::admission::{is_good, is_plain};
 use crate::frequent_lines::frequent_line_length;
 use pkops::laws::{growth, one_code};
-use pkops::{
-    Arg, Inst, Layout, Limits, Op, Width, count_behind, is_utf8, layout_of_op, op_of_byte,
-};
+use pkops::lengths::{HIGHEST_PROTOCOL, SEARCHED, counted_head, end_of_line};
+use pkops::{Arg, Inst, Layout, Limits, Op, Width, is_utf8, layout_of_op, op_of_byte};
 
 /// The code of SHORT_BINUNICODE.
 const SHORT_TEXT: u8 = 0x8c;
@@ -31,12 +30,6 @@ const SHORT_BYTES: u8 = 0x43;
 
 /// The code of BINUNICODE.
 const TEXT: u8 = 0x58;
-
-/// The highest protocol that is known.
-const HIGHEST_PROTOCOL: u8 = 5;
-
-/// The most bytes that are searched for the ends of lines.
-const LINES: usize = 257;
 
 /// An instruction at the front of some bytes. `split` is the length of the first of two lines,
 /// otherwise 0.
@@ -281,11 +274,9 @@ fn counted_length(op: Op, width: Width, bytes: &[u8], limits: &Limits) -> usize
     ensures { result ≢ 0 → IsInFront limits.now op result bytes.now }
 {
     growth();
-    let head = head_length(width);
-    if bytes.len() < head {
+    let Some((head, count)) = counted_head(width, bytes) else {
         return 0;
-    }
-    let count = count_behind(width, bytes);
+    };
     if count > limit_of(op, limits) || ((bytes.len() - head) as u64) < count {
         return 0;
     }
@@ -294,17 +285,6 @@ fn counted_length(op: Op, width: Width, bytes: &[u8], limits: &Limits) -> usize
         return 0;
     }
     length
-}
-
-/// The number of bytes in front of a payload: the code and the count.
-fn head_length(width: Width) -> usize
-    ensures { result ≡ size_of width + 1 }
-{
-    match width {
-        Width::One => 2,
-        Width::Four => 5,
-        Width::Eight => 9,
-    }
 }
 
 /// Whether a payload is good for its opcode.
@@ -323,7 +303,7 @@ fn line_length(op: Op, most: usize, bytes: &[u8]) -> usize
     requires lay { layout_at op ≡ layout.Line most }
     ensures { (limits : Bounds) → result ≢ 0 → IsInFront limits op result bytes.now }
 {
-    let line = &bytes[1..bytes.len().min(LINES)];
+    let line = &bytes[1..bytes.len().min(SEARCHED)];
     let Some(end) = end_of_line(line) else {
         return 0;
     };
@@ -340,7 +320,7 @@ fn pair_length(op: Op, most: usize, bytes: &[u8]) -> usize
     requires lay { layout_at op ≡ layout.Pair most }
     ensures { (limits : Bounds) → result ≢ 0 → IsInFront limits op result bytes.now }
 {
-    let lines = &bytes[1..bytes.len().min(LINES)];
+    let lines = &bytes[1..bytes.len().min(SEARCHED)];
     let Some(first) = end_of_line(lines) else {
         return 0;
     };
@@ -355,13 +335,6 @@ fn pair_length(op: Op, most: usize, bytes: &[u8]) -> usize
         return 0;
     }
     first + second + 3
-}
-
-/// The offset of the first line feed.
-fn end_of_line(bytes: &[u8]) -> Option<usize>
-    ensures { result ≡ position (λ byte. byte == 10) bytes.now }
-{
-    bytes.iter().position(|byte| *byte == b'\n')
 }
 
 /// The length of the first of two lines of an instruction; 0 if it hasn't two.

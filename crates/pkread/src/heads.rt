@@ -1,11 +1,10 @@
 //! Takes the bytes of one instruction from a source without holding byte payloads.
 
-ghost use Rattle.std.specs.Prelude.{◌≡◌, ◌∷◌, ◌≤◌, [], false, length, max, true};
+ghost use Rattle.std.specs.Prelude.{◌≡◌, ◌∷◌, ◌≤◌, [], length, max, true};
 ghost use Rattle.pkops.specs.Payloads.{is_passed};
 ghost use Rattle.pkops.specs.Scans.{longest};
 ghost use Rattle.pkops.specs.Spelling.{layout_at};
 ghost use Rattle.pkops.specs.Table.{code_of};
-ghost use Rattle.pkops.specs.declared.Layout.TheVariants as layout;
 ghost use Rattle.pkread.specs.Core.{AtMostOneAhead};
 ghost use Rattle.pkread.specs.Held.{most_held};
 ghost use Rattle.pkread.specs.Private.Progress.{intake, intake_start};
@@ -18,26 +17,14 @@ use crate::gathering::Gathering;
 use crate::refusal::Reason;
 use crate::source::Source;
 use pkops::laws::{growth, one_answer, one_code};
-use pkops::{Layout, Op, Width, layout_of_op};
+use pkops::lengths::count_width;
+use pkops::{Layout, Op, layout_of_op};
 
 /// What was gathered: a whole instruction, or the length of a payload that was skipped.
 #[derive(Clone, Copy, Debug)]
 pub(crate) enum Gathered {
     Skipped { op: Op, count: u64 },
     Held(Found),
-}
-
-/// The width of the count of an opcode whose payload is skipped. All of these counts are unsigned.
-#[inline]
-fn count_width(op: Op) -> Width
-    requires { is_passed op ≡ true }
-    ensures { layout_at op ≡ layout.Counted result false }
-{
-    match op {
-        Op::ShortBinBytes => Width::One,
-        Op::BinBytes => Width::Four,
-        _ => Width::Eight,
-    }
 }
 
 /// Whether the payload of an opcode is skipped. Only counted layouts have to look at the opcode;
