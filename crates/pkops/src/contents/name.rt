@@ -13,7 +13,7 @@ pub fn is_name(line: &[u8]) -> bool
 }
 
 /// The length from which on it is faster to test many bytes at a time.
-const LONG: usize = 12;
+const LONG: usize = 9;
 
 /// Whether each byte is ASCII. Of a long text it looks at every byte, whatever the first ones are,
 /// which lets the compiler test sixteen at a time.
