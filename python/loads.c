@@ -173,8 +173,8 @@ static PyMethodDef loads_methods[] = {
      "loads($self, data, /, *, fix_imports=None, encoding=None, errors=None, buffers=None)\n--\n\n"
      "The object of the pickle in `data`, which must contain nothing else.\n\n"
      "`data` is bytes or a buffer, which is copied first. Raises Refused, MoreBytes if more bytes\n"
-     "follow the pickle, and otherwise what `pickle.loads` raises. While a large pickle is read that\n"
-     "imports nothing, no garbage is collected."},
+     "follow the pickle, and otherwise what `pickle.loads` raises. While it reads a large pickle\n"
+     "that imports nothing, no garbage is collected."},
     {NULL, NULL, 0, NULL}};
 
 PyObject *loads_type(void) {

@@ -4,7 +4,8 @@ from __future__ import annotations
 
 from ._answers import Named, Refused
 from ._limits import without_costs
-from ._lists import STANDARD, AllowList, records, settings_of, with_room
+from ._lists import STANDARD, AllowList, settings_of
+from ._pairs import records, with_room
 from ._storklocker import imports as _imports
 from ._storklocker import verdict
 
@@ -14,7 +15,7 @@ if TYPE_CHECKING:
 
     from ._answers import Verdict
     from ._limits import Limits
-    from ._lists import Names
+    from ._pairs import Names
 
 MOST_NAMES = 1 << 26
 """The most bytes of names that are reported of a pickle."""

@@ -7,29 +7,23 @@ from types import MappingProxyType
 from . import _names
 from ._answers import LIST_FAULTS, ListFault
 from ._limits import BUILDS, COSTS, MOST_SAID, OLD_STRINGS, Limits, least, limits_of, packed
+from ._pairs import bytes_of, bytes_of_pair, encoded, is_pair, records, with_room
 from ._storklocker import Pairs as _Pairs
 from ._storklocker import pairs_of, read_list
 
 TYPE_CHECKING = False
 if TYPE_CHECKING:
-    from typing import Any, Callable, Iterable, Iterator, List, Mapping, Optional, Tuple
-    from typing import Type, Union
+    from typing import Any, Iterable, Iterator, List, Mapping, Optional, Tuple, Type, Union
 
     from ._meant import Meant
+    from ._pairs import Item, Names, Pair
     from ._substitute import Substitute
-
-    Pair = Tuple[str, str]
-    Item = Union[Pair, type, Callable[..., Any]]
-    Names = Tuple[Optional[bytes], Optional[bytes]]
 
 SUBSTITUTED = (
     *(("builtins", "bytes"), ("builtins", "bytearray")),
     *(("copyreg", "_reconstructor"), ("_codecs", "encode")),
 )
 """The pairs of the standard library that are always loaded through substitutes."""
-_MOST = 1 << 30
-"""The most bytes for the names in a list or in the imports of a pickle."""
-
 STANDARD = Limits()
 
 
@@ -82,7 +76,7 @@ class AllowList(_Pairs):
     ) -> "AllowList":
         own = _limits_in(limits)
         said = None if build is None else _build_in(build)
-        return cls._saying(cls._of(_encoded(pairs), own, said), substitutes, dangerous)
+        return cls._saying(cls._of(encoded(pairs), own, said), substitutes, dangerous)
 
     @classmethod
     def _saying(cls, made: "AllowList", substitutes: "Any", dangerous: "Any") -> "AllowList":
@@ -117,7 +111,7 @@ class AllowList(_Pairs):
         """
         if not isinstance(text, (str, bytes, bytearray)):
             raise TypeError(f"the text of a list file must be str or bytes, not {type(text)!r}")
-        data = _bytes_of(text) if isinstance(text, str) else bytes(text)
+        data = bytes_of(text) if isinstance(text, str) else bytes(text)
         said: Tuple[Any, Any] = ({}, ())
         if b"substitutes" in data:
             from ._sections import split
@@ -178,9 +172,9 @@ class AllowList(_Pairs):
         return len(self._pairs)
 
     def __contains__(self, pair: "Any") -> bool:
-        if not _is_pair(pair):
+        if not is_pair(pair):
             return False
-        return self._has(_bytes_of_pair(pair))
+        return self._has(bytes_of_pair(pair))
 
     def _has(self, names: "Names") -> bool:
         """Whether it contains a pair of encoded names. The names of an unknown import are None, and
@@ -244,12 +238,12 @@ class AllowList(_Pairs):
     def _for_old_names(self) -> "AllowList":
         """The pairs that CPython maps to a pair of this list, with `fix_imports`."""
         if self._fixed is None:
-            pairs = (_bytes_of_pair(old) for pair in self for old in _names.old_names(pair))
+            pairs = (bytes_of_pair(old) for pair in self for old in _names.old_names(pair))
             self._fixed = self._of(pairs, self._limits, self._build)
         return self._fixed
 
     def _without(self, lost: "List[Pair]") -> "AllowList":
-        left = set(self._pairs) - {_bytes_of_pair(pair) for pair in lost}
+        left = set(self._pairs) - {bytes_of_pair(pair) for pair in lost}
         return self._of(left, self._limits, self._build)
 
 
@@ -322,75 +316,6 @@ def within(one: "Optional[Limits]", other: "Optional[Limits]") -> "Optional[Limi
     return least(one, other)
 
 
-def _bytes_of(text: str) -> bytes:
-    """The text in UTF-8. Lone surrogates are encoded too, and no list contains them."""
-    return text.encode("utf-8", "surrogatepass")
-
-
-def _bytes_of_pair(pair: "Pair") -> "Tuple[bytes, bytes]":
-    return (_bytes_of(pair[0]), _bytes_of(pair[1]))
-
-
-def _is_pair(pair: "Any") -> bool:
-    return (
-        isinstance(pair, (tuple, list))
-        and len(pair) == 2
-        and isinstance(pair[0], str)
-        and isinstance(pair[1], str)
-    )
-
-
-def _pairs_in(given: "Any") -> "Iterator[Any]":
-    """The items of the argument, each with its description for errors."""
-    if not hasattr(given, "keys"):  # how a dict tells mappings from pairs
-        for place, pair in enumerate(given):
-            yield (f"item {place}", pair)
-        return
-    for module, names in given.items():
-        if isinstance(names, (str, bytes)) or not hasattr(names, "__iter__"):
-            raise TypeError(
-                f"the names of module {module!r} must be a list of strings, not {names!r:.80}"
-            )
-        for name in names:
-            yield (f"an entry of module {module!r}", (module, name))
-
-
-def _encoded(given: "Any") -> "Iterator[Tuple[bytes, bytes]]":
-    if isinstance(given, (str, bytes, type)) or not hasattr(given, "__iter__"):
-        raise TypeError(
-            f"an AllowList takes pairs, or a mapping of modules to names, not {given!r:.80}"
-        )
-    for words, pair in _pairs_in(given):
-        if not _is_pair(pair):
-            from ._objects import KINDS, pair_of
-
-            if not isinstance(pair, KINDS):
-                raise TypeError(
-                    f"{words} must be two strings, a module and a name, or a class or a function,"
-                    f" not {pair!r:.80}"
-                )
-            pair = pair_of(pair)
-        if not (pair[0] and pair[1]):
-            raise ValueError(f"{words} has an empty module or name: {pair!r:.80}")
-        yield (pair[0].encode(), pair[1].encode())
-
-
-def with_room(
-    call: "Callable[[int], Tuple[Any, ...]]", most: int = _MOST
-) -> "Tuple[Any, bytes]":
-    """Calls with growing room until the answer fits. Returns the answer and the bytes in the room.
-    Raises MemoryError if it doesn't fit into `most` bytes.
-    """
-    size = 4096
-    while True:
-        *said, wanted, room = call(size)
-        if wanted <= size:
-            return said, room[:wanted]
-        if wanted > most:
-            raise MemoryError(f"the names take {wanted} bytes, which is more than {most}")
-        size = wanted
-
-
 def _limits_in(given: "Optional[Limits]") -> "Optional[Limits]":
     """An argument that must be limits or None."""
     if given is not None and not isinstance(given, Limits):
@@ -423,24 +348,6 @@ def settings_of(
     own = _build_in(build)
     applied = within(limits, allow._limits) or STANDARD
     return packed(applied, old_strings, keeps_memo, allow._build or own)
-
-
-_NO_NAME = (1 << 64) - 1
-
-
-def records(room: bytes) -> "Iterator[Names]":
-    """Decodes the pairs that the library wrote; both names of an unknown import are None."""
-    at, end = 0, len(room)
-    while at < end:  # (a hostile pickle has very many)
-        length = int.from_bytes(room[at : at + 8], "little")
-        at += 8
-        module = None if length == _NO_NAME else room[at : at + length]
-        at += 0 if module is None else length
-        length = int.from_bytes(room[at : at + 8], "little")
-        at += 8
-        name = None if length == _NO_NAME else room[at : at + length]
-        at += 0 if name is None else length
-        yield (module, name)
 
 
 _AS_IT_IS = AllowList([])

@@ -7,7 +7,7 @@ import unittest
 import storklocker
 from storklocker import Refused
 from storklocker._imports import imports_in, imports_of
-from storklocker._lists import records
+from storklocker._pairs import records
 
 NOTHING = storklocker.AllowList([])
 FRONTS = (

@@ -3,17 +3,13 @@
 import bz2
 import gzip
 import io
-import json
 import lzma
-import pathlib
 import pickle
 import random
 import struct
 import subprocess
 import sys
 import tarfile
-import tempfile
-import time
 import unittest
 import zipfile
 import zlib
@@ -28,8 +24,6 @@ from test_scanning import GOOD, tarred, zipped
 RUNS = b"cposix\nsystem\n(S'echo a hostile pickle ran'\ntR."
 EVIL = b"\x80\x02" + RUNS
 HDF5 = b"\x89HDF\r\n\x1a\n"
-SECONDS = 4
-"""The most processor time for a file of at most a megabyte: twice what a quiet machine takes."""
 
 
 def reports(data, allow=NOTHING, path="file"):
@@ -355,68 +349,6 @@ class Readings(unittest.TestCase):
         for record in (b"16 comment text\n", b"16=comment=text\n", b"17 comment=text\n",
                        b"16 =omment=text\n", b"00 comment=text\n", b"15 comment=text\n"):
             self.assertTrue(is_finding(honest.replace(b"16 comment=text\n", record)), record)
-
-    @needs("/proc/self/status")
-    def test_what_a_file_may_cost(self):
-        long = b"X" + struct.pack("<I", 500_000) + b"m" * 500_000 + b"q\x000"
-        names = b"".join(b"h\0X\x03\0\0\0%03d\x930" % number for number in range(500))
-        globals_ = b"".join(b"cm%d\nx\n0" % number for number in range(80_000))
-        ends = b"PK\x03\x04" + b"PK\x05\x06" * 200_000
-        made = {
-            "names": b"\x80\x02" + long + names + b"N.", "rows": b"N." * 500_000,
-            "bomb": gzip.compress(b"N." * (30 << 20)), "globals": b"\x80\x02" + globals_ + b"\xff",
-            "ends": ends, "texts": b"Va\n" * 300_000,
-            "marks": b"\x80\x04" + b"(" * 900_000 + b"\xff",
-            "line": gzip.compress(b"I" + b"1" * (60 << 20)), "xz": lzma.compress(bytes(99 << 20)),
-            "arrays": npy("'<i8'", b"", 1, "(0,)") * 9000, "bz2": bz2.compress(bytes(200 << 20)),
-            "digits": with_record(b"1" * 400_000),
-            "no records": with_record(b"2 " * 200_000 + b"=").replace(b" comment=", b"2 2 2 2 2"),
-            "words": HDF5 + (b"c" * 99 + b"\n") * 10_000, "lines": HDF5 + b"V" * 1_000_000,
-            "modules": HDF5 + b"\x8c\x02os" * 250_000, "tails": HDF5 + b"\x8c\x02osV" * 190_000,
-            "imports": HDF5 + b"\x8c\x02osN0\x93" * 140_000, "NULs": HDF5 + b"cos\0" * 250_000,
-            "endless": tar(header(b"a", -512), b"") * 2,
-        }
-        for name, data in made.items():
-            self.assertLess(len(data), 1_100_000, name)
-            seconds, peak, size = cost_of(data)
-            self.assertLess(seconds, SECONDS, name)
-            self.assertLess(peak, 256, name)
-            self.assertLess(size, 1_000_000, name)
-
-
-def cost_of(data):
-    """The processor seconds, megabytes and bytes of JSON that a file costs in a fresh process, of
-    three tries the cheapest: the machine may be busy. (The peak of `getrusage` is at least that of
-    the process that started it.)
-    """
-    code = (
-        "import io, json, sys, time\n"
-        "from storklocker.scanning.condensing import condensed\n"
-        "from storklocker.scanning.judging import Question, reports_of\n"
-        "data = open(sys.argv[1], 'rb')\n"
-        "began = time.process_time()\n"
-        "found = [it.as_dict() for it in condensed(reports_of('x', data, Question()))]\n"
-        "used = time.process_time() - began\n"
-        "lines = open('/proc/self/status').read().splitlines()\n"
-        "peak = next(int(line.split()[1]) // 1024 for line in lines if line.startswith('VmHWM'))\n"
-        "print(json.dumps([used, peak, len(json.dumps(found))]))\n"
-    )
-    package = str(pathlib.Path(storklocker.__file__).parent.parent)
-    best = None
-    with tempfile.TemporaryDirectory() as folder:
-        path = pathlib.Path(folder) / "file"
-        path.write_bytes(data)
-        for _ in range(3):
-            words = [sys.executable, "-c", code, str(path)]
-            ran = subprocess.run(
-                words, env={"PYTHONPATH": package}, stdout=subprocess.PIPE, check=True
-            )
-            found = json.loads(ran.stdout)
-            best = found if best is None or found < best else best
-            if best[0] < SECONDS / 2:
-                break
-            time.sleep(0.5)
-    return best
 
 
 if __name__ == "__main__":

@@ -16,7 +16,7 @@ from .names import NOTHING, WIDEST
 from .report import Finding
 
 if TYPE_CHECKING:
-    from .._lists import Names
+    from .._pairs import Names
 
 def with_costs(limits: Limits) -> Limits:
     """The limits, and on what loading costs the default ones."""

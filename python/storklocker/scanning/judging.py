@@ -22,7 +22,7 @@ from .severity import KINDS, NOTE, REFUSED, UNREADABLE
 from .source import Source, source_of
 
 if TYPE_CHECKING:
-    from .._lists import Names
+    from .._pairs import Names
 
 _IMPORTS = re.compile(rb"([ci][^\n]*\n[^\n]*\n)*")
 

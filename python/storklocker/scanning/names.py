@@ -7,14 +7,15 @@ from typing import TYPE_CHECKING, Dict, NamedTuple, Optional, Tuple
 
 from .._answers import Verdict
 from .._limits import NO_COSTS, UNBOUND, Limits
-from .._lists import STANDARD, AllowList, records, settings_of
+from .._lists import STANDARD, AllowList, settings_of
+from .._pairs import records
 from .._reasons import Reason
 from .._storklocker import imports as _imports
 from .budget import Budget
 from .source import BLOCK, Source
 
 if TYPE_CHECKING:
-    from .._lists import Names
+    from .._pairs import Names
 
 NOTHING = AllowList(())
 WIDE = Limits(passed=1 << 40, **NO_COSTS)

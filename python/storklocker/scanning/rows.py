@@ -19,7 +19,7 @@ from .readings import Piece, is_text
 
 if TYPE_CHECKING:
     from .._limits import Limits
-    from .._lists import Names
+    from .._pairs import Names
 
 _FIRST = 1 << 14
 """The size of the first window; it grows sixteenfold until it contains the whole pickle."""

@@ -25,7 +25,7 @@ from .source import BLOCK, Source, in_memory
 from .trails import Trail, Trails, texts_in
 
 if TYPE_CHECKING:
-    from .._lists import Names
+    from .._pairs import Names
 
 _WORD = rb"[A-Za-z_][\w.]{0,99}"
 _BEGINNINGS = tuple(
