@@ -9,7 +9,8 @@ use Rattle.std.proofs.lemmas.List.{nil_from_length}
 use Rattle.std.specs.BTreeMap.{insert_entry, is_at}
 use Rattle.std.specs.Cmp.{nat_cmp_is}
 use Rattle.std.specs.declared.cmp.Ordering.TheVariants.{Less, Equal, Greater}
-use Rattle.std.specs.List.{All, enumerate_from}
+use Rattle.std.specs.List.{All, AllByRecursion, enumerate_from}
+use Rattle.std.specs.List.Sorted.{IsStrictlySortedBy}
 use Rattle.std.specs.Map.{keys_of, lookup}
 use Rattle.std.specs.Ordering.{nat_cmp, is_eq, match_ordering}
 use Rattle.pkbase.specs.Parts.{AreParts}
@@ -22,6 +23,15 @@ above_cmp n k h = sym (nat_cmp_is n k Greater h)
 
 below_cmp : (n k : ℕ) → n < k → nat_cmp n k ≡ Less
 below_cmp n k h = sym (nat_cmp_is n k Less h)
+
+-- numbers that are all greater, as a sorted list says it
+each_less : (ks : List ℕ) (n : ℕ) → All (λ q. n < q) ks
+    → AllByRecursion (λ q. nat_cmp n q ≡ Less) ks
+each_less [] n h = tt
+each_less (k ∷ ks) n h = (
+  below_cmp n k (All-head (λ q. n < q) k ks h),
+  each_less ks n (All-tail (λ q. n < q) k ks h),
+)
 
 module _ {A : Type 0} where
   -- the value of a number
@@ -118,6 +128,40 @@ module _ {A : Type 0} where
   enumerate_from-push (x ∷ xs) k n v e =
       ap (λ l. (k, x) ∷ l) (enumerate_from-push xs (k + 1) n v (omega arith))
 
+  -- ---- rising numbers
+
+  each_append : (P : ℕ → Type 0) (low es : List (ℕ × A)) → AllByRecursion P (keys_of low)
+      → AllByRecursion P (keys_of es) → AllByRecursion P (keys_of (low ++ es))
+  each_append P [] es h k = k
+  each_append P (e ∷ low) es h k = (h.0, each_append P low es h.1 k)
+
+  rising-append : (low es : List (ℕ × A)) (first : ℕ) → All (λ q. q < first) (keys_of low)
+      → ((n : ℕ) → n < first → All (λ q. n < q) (keys_of es))
+      → IsStrictlySortedBy nat_cmp (keys_of low) → IsStrictlySortedBy nat_cmp (keys_of es)
+      → IsStrictlySortedBy nat_cmp (keys_of (low ++ es))
+  unfolding IsStrictlySortedBy
+  rising-append [] es first b a s t = t
+  rising-append (e ∷ low) es first b a s t = (
+    each_append (λ q. nat_cmp e.0 q ≡ Less) low es s.0
+        (each_less (keys_of es) e.0 (a e.0 (All-head (λ q. q < first) e.0 (keys_of low) b))),
+    rising-append low es first (All-tail (λ q. q < first) e.0 (keys_of low) b) a s.1 t,
+  )
+
+  rising-enumerate_from : (xs : List A) (es : List (ℕ × A)) (k : ℕ)
+      → All (λ q. k + length xs ≤ q) (keys_of es) → IsStrictlySortedBy nat_cmp (keys_of es)
+      → IsStrictlySortedBy nat_cmp (keys_of (enumerate_from k xs ++ es))
+  unfolding IsStrictlySortedBy
+  rising-enumerate_from [] es k a s = s
+  rising-enumerate_from (x ∷ xs) es k a s = (
+    each_less (keys_of (enumerate_from (k + 1) xs ++ es)) k
+        (keys_above xs es (k + 1) k (omega arith)
+        (All-weaker (λ q. k + length (x ∷ xs) ≤ q) (λ q. k < q) (λ q h. omega (arith, h))
+        (keys_of es) a)),
+    rising-enumerate_from xs es (k + 1)
+        (All-weaker (λ q. k + length (x ∷ xs) ≤ q) (λ q. k + 1 + length xs ≤ q)
+        (λ q h. omega (arith, h)) (keys_of es) a) s,
+  )
+
   -- ---- all parts
 
   abbrev pub entries : List (ℕ × A) → ℕ → List A → List (ℕ × A) → List (ℕ × A)
@@ -142,6 +186,16 @@ module _ {A : Type 0} where
           nil_from_length rest (omega (arith, none, all)),
         )
 
+    pub rising : AreParts low first xs rest → IsStrictlySortedBy nat_cmp (keys_of low)
+        → IsStrictlySortedBy nat_cmp (keys_of rest)
+        → IsStrictlySortedBy nat_cmp (keys_of (entries low first xs rest))
+    rising parts s t =
+        rising-append low (enumerate_from first xs ++ rest) first parts.below
+        (λ n h. keys_above xs rest first n h
+        (All-weaker (λ q. first + length xs ≤ q) (λ q. n < q) (λ q k. omega (arith, h, k))
+        (keys_of rest) parts.above))
+        s (rising-enumerate_from xs rest first parts.above t)
+
     module _ (parts : AreParts low first xs rest) (n : ℕ) where
       below : first ≤ n → All (λ q. q < n) (keys_of low)
       below h = All-weaker (λ q. q < first) (λ q. q < n) (λ q k. omega (arith, h, k))
@@ -149,8 +203,8 @@ module _ {A : Type 0} where
 
       above : n < first → All (λ q. n < q) (keys_of (enumerate_from first xs ++ rest))
       above h = keys_above xs rest first n h
-          (All-weaker (λ q. first ≤ q) (λ q. n < q) (λ q k. omega (arith, h, k)) (keys_of rest)
-          parts.above)
+          (All-weaker (λ q. first + length xs ≤ q) (λ q. n < q) (λ q k. omega (arith, h, k))
+          (keys_of rest) parts.above)
 
       pub at_low : n < first → at n low ≡ at n (entries low first xs rest)
       at_low h = sym (at-append_above low (enumerate_from first xs ++ rest) n (above h))
@@ -199,6 +253,13 @@ module _ {A : Type 0} where
       (rw (append-nil (enumerate_from first xs ++ (n, v) ∷ []))
       (put_rest low first xs [] parts n v (omega arith)))
   put_next low first xs (r ∷ rest) parts n v none e = absurd (omega (arith, none))
+
+  pub next_is_none : (low : List (ℕ × A)) (first : ℕ) (xs : List A) (rest : List (ℕ × A))
+      → AreParts low first xs rest → (n : ℕ) → length rest ≡ 0 → n ≡ first + length xs
+      → at n (entries low first xs rest) ≡ None
+  next_is_none low first xs [] parts n none e =
+      sym (at_rest low first xs [] parts n (omega arith))
+  next_is_none low first xs (r ∷ rest) parts n none e = absurd (omega (arith, none))
 
   module _ (low : List (ℕ × A)) (xs ys : List A) (rest : List (ℕ × A)) (n : ℕ) where
     pub put_first : (v : A) → low ≡ [] → xs ≡ [] → rest ≡ [] → ys ≡ xs ++ v ∷ []

@@ -6,7 +6,7 @@
 #![tactic(auto)]
 
 mod numbered_map;
-mod pile;
+mod stack_vec;
 
 pub use numbered_map::NumberedMap;
-pub use pile::Pile;
+pub use stack_vec::StackVec;

@@ -1,11 +1,12 @@
 //! The map, in three parts.
 
 ghost use Rattle.std.specs.BTreeMap.{insert_entry, is_at};
-ghost use Rattle.std.specs.Map.{lookup};
+ghost use Rattle.std.specs.List.Sorted.{IsStrictlySortedBy};
+ghost use Rattle.std.specs.Map.{keys_of, lookup};
 ghost use Rattle.std.specs.Ordering.{nat_cmp};
-ghost use Rattle.std.specs.Prelude.{◌≡◌, ◌↔◌, [], length, IsTrue, OnErr, OnOk};
+ghost use Rattle.std.specs.Prelude.{◌≡◌, ◌↔◌, [], length, IsTrue, None, OnErr, OnOk};
 
-use crate::pile::Pile;
+use crate::stack_vec::StackVec;
 use std::alloc::{AllocError, Global};
 use std::collections::BTreeMap;
 use std::marker::Model;
@@ -21,7 +22,7 @@ pub struct NumberedMap<V> {
     /// The number that was stored first.
     first: u32,
     /// The values of the numbers from `first` on that were stored in order.
-    ordered: Pile<V>,
+    ordered: StackVec<V>,
     /// The entries of greater numbers.
     rest: BTreeMap<u32, V>,
 }
@@ -39,15 +40,15 @@ impl<V> Model for NumberedMap<V> {
     ghost invariant = { λ m. AreParts m.low.entries m.first m.ordered m.rest.entries };
 }
 
-impl<V: Copy> NumberedMap<V> {
-    /// An empty map. Allocates nothing.
-    pub fn new(alloc: Global) -> NumberedMap<V>
+impl<V: Copy + Drop> NumberedMap<V> {
+    /// An empty map. Allocates nothing. Any value may be the filler.
+    pub fn new(alloc: Global, filler: V) -> NumberedMap<V>
         ensures { result ≡ [] }
     {
         NumberedMap {
             low: BTreeMap::new(alloc),
             first: 0,
-            ordered: Pile::new(alloc),
+            ordered: StackVec::new(alloc, filler),
             rest: BTreeMap::new(alloc),
         }
     }
@@ -64,8 +65,11 @@ impl<V: Copy> NumberedMap<V> {
     /// The number of entries.
     #[inline]
     pub fn len(&self) -> u64
-        ensures { result ≡ length self.now }
+        ensures value { result ≡ length self.now }
+        ensures rising { IsStrictlySortedBy nat_cmp (keys_of self.now) }
     {
+        // The proof needs this read: it bounds the numbers below.
+        let _first = self.first;
         self.low.len() as u64 + self.rest.len() as u64 + self.ordered.len() as u64
     }
 
@@ -92,14 +96,24 @@ impl<V: Copy> NumberedMap<V> {
         found(&self.rest, number)
     }
 
-    /// Stores a value under a number. It replaces the value that was there.
+    /// Whether a number is the next in order: `store` then appends its value. No entry has it.
     #[inline(always)]
-    pub fn store(&mut self, number: u32, value: V) -> Result<(), AllocError>
+    pub fn is_next(&self, number: u64) -> bool
+        ensures { IsTrue result → lookup (is_at (nat_cmp number)) self.now ≡ None }
+    {
+        let next = u64::from(self.first) + self.ordered.len() as u64;
+        number == next && self.rest.is_empty()
+    }
+
+    /// Stores a value under a number. It replaces the value that was there. A number of more than
+    /// 32 bits that isn't the next in order is refused.
+    #[inline(always)]
+    pub fn store(&mut self, number: u64, value: V) -> Result<(), AllocError>
         ensures ok { OnOk result (self.new ≡ insert_entry nat_cmp self.old number value) }
         ensures err { OnErr result (self.new ≡ self.old) }
     {
         let next = u64::from(self.first) + self.ordered.len() as u64;
-        if u64::from(number) == next && self.rest.is_empty() {
+        if number == next && self.rest.is_empty() {
             return self.ordered.push(value);
         }
         self.store_apart(number, value)
@@ -107,10 +121,14 @@ impl<V: Copy> NumberedMap<V> {
 
     /// Stores a value under a number that isn't the next in order.
     #[inline(never)]
-    fn store_apart(&mut self, number: u32, value: V) -> Result<(), AllocError>
+    fn store_apart(&mut self, number: u64, value: V) -> Result<(), AllocError>
         ensures ok { OnOk result (self.new ≡ insert_entry nat_cmp self.old number value) }
         ensures err { OnErr result (self.new ≡ self.old) }
     {
+        if number > u64::from(u32::MAX) {
+            return Err(AllocError);
+        }
+        let number = number as u32;
         if self.is_empty() {
             return self.begin(number, value);
         }
@@ -138,14 +156,14 @@ impl<V: Copy> NumberedMap<V> {
 
 /// The value of a number in a tree.
 #[inline(never)]
-fn found<V: Copy>(tree: &BTreeMap<u32, V>, number: u32) -> Option<V>
+fn found<V: Copy + Drop>(tree: &BTreeMap<u32, V>, number: u32) -> Option<V>
     ensures { result ≡ lookup (is_at (nat_cmp number)) tree.now.entries }
 {
     tree.get(&number).copied()
 }
 
 /// Stores a value under a number in a tree.
-fn put<V: Copy>(tree: &mut BTreeMap<u32, V>, number: u32, value: V) -> Result<(), AllocError>
+fn put<V: Copy + Drop>(tree: &mut BTreeMap<u32, V>, number: u32, value: V) -> Result<(), AllocError>
     ensures ok { OnOk result (tree.new.entries
         ≡ insert_entry nat_cmp tree.old.entries number value) }
     ensures err { OnErr result (tree.new.entries ≡ tree.old.entries) }

@@ -22,7 +22,7 @@ use crate::memory::{
     number_kept, plus,
 };
 use crate::moves::apply;
-use crate::packed::Packed;
+use crate::packed::{LIGHT, Packed};
 use crate::stack::Stack;
 use crate::tally::Tally;
 use pkcheck::Memo as Between;
@@ -76,7 +76,7 @@ impl Machine {
     {
         Machine {
             stack: Stack::new(alloc),
-            memo: Memo::new(alloc),
+            memo: Memo::new(alloc, Packed::from_code(LIGHT)),
             tally: Tally::new(),
             memory: 0,
             highest: 0,

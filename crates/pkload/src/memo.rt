@@ -27,7 +27,7 @@ pub fn next_number(memo: &Memo) -> Result<u32, Halt>
 pub fn store(memo: &mut Memo, number: u32, heft: Packed) -> Result<(), Halt>
     ensures { OnOk result (memo.new ≡ stored number heft memo.old) }
 {
-    match memo.store(number, heft) {
+    match memo.store(u64::from(number), heft) {
         Ok(()) => Ok(()),
         Err(_) => Err(Halt::OutOfMemory),
     }

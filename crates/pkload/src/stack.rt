@@ -7,13 +7,13 @@ ghost use Rattle.pkload.specs.Private.Shown.{entry_of};
 
 use crate::halt::Halt;
 use crate::packed::Packed;
-use pkbase::Pile;
+use pkbase::StackVec;
 use std::alloc::Global;
 use std::marker::Model;
 
 /// The stack, with four bytes for each entry. The last one is on top.
 pub struct Stack {
-    codes: Pile<u32>,
+    codes: StackVec<u32>,
 }
 
 /// The code of a mark: that of an imported object whose hash isn't salted, which doesn't exist.
@@ -42,7 +42,7 @@ impl Stack {
         ensures { result ≡ [] }
     {
         Stack {
-            codes: Pile::new(alloc),
+            codes: StackVec::new(alloc, MARK),
         }
     }
 

@@ -34,10 +34,10 @@ const FOUND: [(u32, Option<u16>); 11] = [
 
 #[test]
 fn numbers_are_stored_in_and_out_of_order(rt: HostRuntime) -> Result<(), Fail> {
-    let mut map = NumberedMap::new(rt.alloc());
+    let mut map = NumberedMap::new(rt.alloc(), 0);
     assert!(rt; map.is_empty());
     for (number, value) in STORED {
-        map.store(number, value)?;
+        map.store(u64::from(number), value)?;
     }
     for (number, value) in FOUND {
         assert_eq!(rt; map.get(number), value);
@@ -48,15 +48,16 @@ fn numbers_are_stored_in_and_out_of_order(rt: HostRuntime) -> Result<(), Fail> {
 
 #[test]
 fn a_cleared_map_begins_anew(rt: HostRuntime) -> Result<(), Fail> {
-    let mut map = NumberedMap::new(rt.alloc());
+    let mut map = NumberedMap::new(rt.alloc(), 0);
     for (number, value) in STORED {
-        map.store(number, value)?;
+        map.store(u64::from(number), value)?;
     }
     map.clear();
     assert!(rt; map.is_empty());
     assert_eq!(rt; map.get(5), None);
-    map.store(u32::MAX, 7)?;
+    map.store(u64::from(u32::MAX), 7)?;
     map.store(0, 8)?;
+    assert!(rt; map.store(1 << 33, 9).is_err());
     assert_eq!(rt; map.get(u32::MAX), Some(7));
     assert_eq!(rt; map.get(0), Some(8));
     assert_eq!(rt; map.len(), 2);

@@ -1,5 +1,5 @@
 -- With no entry in any part, the first one begins the row, whatever its number.
-use Rattle.std.proofs.Common.{◌<◌, ◌≤◌, ◌∙◌, ap, arith, length}
+use Rattle.std.proofs.Common.{◌+◌, ◌<◌, ◌≤◌, ◌∙◌, ◌^◌, length}
 use Rattle.std.proofs.lemmas.List.Elements.{All-nil}
 use Rattle.std.proofs.lemmas.Result.{on_err_weaker, on_ok_weaker}
 use Rattle.pkbase.proofs.Entries.{no_entries, put_first, still_none}
@@ -10,11 +10,10 @@ invariant_of-self g c =
     let m = c.self.inside in
     let none = no_entries m.low.entries m.first m.ordered m.rest.entries
     (c.self.view_is ∙ c.requires) in
-    let empty = ap length none.1 in
     rw (none.0, none.2) record {
       below = All-nil (λ number. number < c.args.number);
-      above = All-nil (λ number. c.args.number ≤ number);
-      fits = omega (arith, empty, c.push.ensures.upper_bound);
+      above = All-nil (λ number. c.args.number + length c.push.new.self ≤ number);
+      narrow = All-nil (λ number. number < 2 ^ 32);
     }
 
 pub returns-clause-ok : goal.returns-clause-ok

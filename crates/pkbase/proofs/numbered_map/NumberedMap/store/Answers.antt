@@ -12,4 +12,4 @@ returns-then-is_empty-clause-ok g c =
     (λ h. rw h
     (put_next m.low.entries m.first m.ordered m.rest.entries c.self.invariant
     c.args.number c.args.value (search (rules, c.if-is_empty.ensures))
-    (omega (arith, c.len.ensures)))) c.push.ensures.ok)
+    (omega (arith, c.len.ensures.value)))) c.push.ensures.ok)

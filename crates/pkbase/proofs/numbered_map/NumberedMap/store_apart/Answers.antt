@@ -1,5 +1,5 @@
 -- A number goes to its part, and each part keeps the numbers that belong to it.
-use Rattle.std.proofs.Common.{◌-◌, ◌<◌, ◌≤◌, arith}
+use Rattle.std.proofs.Common.{◌+◌, ◌-◌, ◌<◌, ◌≤◌, ◌^◌, arith, length}
 use Rattle.std.proofs.lemmas.Map.Views.{All-keys-insert_entry}
 use Rattle.std.proofs.lemmas.Result.{on_ok_weaker}
 use Rattle.std.specs.Ordering.{nat_cmp}
@@ -23,7 +23,7 @@ invariant_of-self g c =
       below = rw h (All-keys-insert_entry nat_cmp c.args.number c.args.value
           (λ number. number < m.first) m.low.entries parts.below (omega arith));
       above = parts.above;
-      fits = parts.fits;
+      narrow = parts.narrow;
     })
     (λ h. rw h parts)
 
@@ -51,8 +51,10 @@ invariant_of-self-2 g c =
     (λ h. record {
       below = parts.below;
       above = rw h (All-keys-insert_entry nat_cmp c.args.number c.args.value
-          (λ number. m.first ≤ number) m.rest.entries parts.above (omega arith));
-      fits = parts.fits;
+          (λ number. m.first + length m.ordered ≤ number) m.rest.entries parts.above
+          (omega (arith, c.len.ensures.value)));
+      narrow = rw h (All-keys-insert_entry nat_cmp c.args.number c.args.value
+          (λ number. number < 2 ^ 32) m.rest.entries parts.narrow (omega arith));
     })
     (λ h. rw h parts)
 

@@ -2,7 +2,7 @@
 use Rattle.std.proofs.Common.{◌≡◌, length, take, ap, arith}
 use Rattle.std.proofs.Math.Seq.{take-set-lt}
 use Rattle.std.proofs.lemmas.List.{length-take-le}
-use Rattle.pkbase.proofs.pile.Pile.set.Goals as goal
+use Rattle.pkbase.proofs.stack_vec.StackVec.set.Goals as goal
 
 pub returns : goal.returns
 returns g c =

@@ -1,7 +1,7 @@
 //! A vector that keeps its store.
 
 ghost use Rattle.std.specs.Option.{option_to_list};
-ghost use Rattle.std.specs.Prelude.{◌≡◌, ◌↔◌, [], ◌∷◌, ◌++◌, ◌+◌, ◌<◌, ◌≤◌, length, set};
+ghost use Rattle.std.specs.Prelude.{◌≡◌, ◌↔◌, [], ◌∷◌, ◌++◌, ◌+◌, ◌^◌, ◌<◌, ◌≤◌, length, set};
 ghost use Rattle.std.specs.Prelude.{IsSome, OnErr, OnOk, take};
 
 use std::alloc::{AllocError, Global};
@@ -9,15 +9,17 @@ use std::marker::Model;
 
 /// A vector that grows and shrinks at its end, for values that are copied. The store never shrinks,
 /// so a push into a place that was in use before is a plain move.
-#[derive(Drop)]
-pub struct Pile<T> {
+#[derive(Debug, Drop)]
+pub struct StackVec<T> {
     /// The entries, and behind them values that aren't in use.
     store: Vec<T>,
     /// The number of entries.
     count: usize,
+    /// What lengthens the store.
+    filler: T,
 }
 
-impl<T> Model for Pile<T> {
+impl<T> Model for StackVec<T> {
     ghost use Rattle.std.specs.Prelude.{◌≤◌, List, length, take};
 
     ghost Value = { List T };
@@ -27,21 +29,23 @@ impl<T> Model for Pile<T> {
     ghost invariant = { λ p. p.count ≤ length p.store.items };
 }
 
-impl<T: Copy> Pile<T> {
-    /// An empty vector. Allocates nothing.
-    pub fn new(alloc: Global) -> Pile<T>
+impl<T: Copy + Drop> StackVec<T> {
+    /// An empty vector. Allocates nothing. The filler, which any value may be, lengthens the store.
+    pub fn new(alloc: Global, filler: T) -> StackVec<T>
         ensures { result ≡ [] }
     {
-        Pile {
+        StackVec {
             store: Vec::new(alloc),
             count: 0,
+            filler,
         }
     }
 
     /// The number of entries.
     #[inline]
     pub fn len(&self) -> usize
-        ensures { result ≡ length self.now }
+        ensures value { result ≡ length self.now }
+        ensures small { result < 2 ^ 63 }
     {
         self.count
     }
@@ -62,8 +66,29 @@ impl<T: Copy> Pile<T> {
         self.count = 0;
     }
 
-    /// Replaces the entry at an index.
+    /// Keeps the first `count` entries.
     #[inline]
+    pub fn truncate(&mut self, count: usize)
+        ensures { self.new ≡ take count self.old }
+    {
+        if count < self.count {
+            self.count = count;
+        }
+    }
+
+    /// Keeps the entry at a place and those before it.
+    #[inline(always)]
+    pub fn end_with(&mut self, place: usize)
+        requires { place < length self.old }
+        ensures { self.new ≡ take (place + 1) self.old }
+    {
+        // The proof needs this read: it bounds the sum.
+        let _count = self.count;
+        self.count = place + 1;
+    }
+
+    /// Replaces the entry at an index.
+    #[inline(always)]
     pub fn set(&mut self, index: usize, entry: T)
         requires { index < length self.old }
         ensures { self.new ≡ set self.old index entry }
@@ -72,15 +97,14 @@ impl<T: Copy> Pile<T> {
     }
 
     /// Appends an entry.
-    #[inline]
+    #[inline(always)]
     pub fn push(&mut self, entry: T) -> Result<(), AllocError>
         ensures ok { OnOk result (self.new ≡ self.old ++ entry ∷ []) }
         ensures err { OnErr result (self.new ≡ self.old) }
-        ensures upper_bound { length self.new ≤ length self.old + 1 }
     {
         let count = self.count;
         if count >= self.store.len() {
-            let Ok(()) = lengthen(&mut self.store, entry) else {
+            let Ok(()) = lengthen(&mut self.store, self.filler) else {
                 return Err(AllocError);
             };
         }
@@ -102,6 +126,16 @@ impl<T: Copy> Pile<T> {
         self.count = count - 1;
         Some(self.store[count - 1])
     }
+
+    /// Replaces the entry at a place and all those after it with one entry.
+    #[inline(always)]
+    pub fn replace(&mut self, place: usize, entry: T)
+        requires { place < length self.old }
+        ensures { self.new ≡ take place self.old ++ entry ∷ [] }
+    {
+        self.store[place] = entry;
+        self.count = place + 1;
+    }
 }
 
 /// The number of entries of the first allocation. A short pickle needs no second one.
@@ -111,9 +145,10 @@ const FIRST: usize = 64;
 /// and so many that a long one seldom calls.
 const STEP: usize = 32;
 
-/// Lengthens a store, by this value.
+/// Lengthens a store. The new entry is not a parameter: the compiler would then keep it in memory
+/// even on the path without the call.
 #[inline(never)]
-fn lengthen<T: Copy>(store: &mut Vec<T>, value: T) -> Result<(), AllocError>
+fn lengthen<T: Copy + Drop>(store: &mut Vec<T>, filler: T) -> Result<(), AllocError>
     ensures ok { OnOk result (length store.old.items < length store.new.items) }
     ensures same { take (length store.old.items) store.new.items ≡ store.old.items }
     ensures err { OnErr result (store.new.items ≡ store.old.items) }
@@ -122,5 +157,5 @@ fn lengthen<T: Copy>(store: &mut Vec<T>, value: T) -> Result<(), AllocError>
     if len == 0 {
         store.reserve(FIRST)?;
     }
-    store.resize(len + STEP, value)
+    store.resize(len + STEP, filler)
 }
