@@ -9,7 +9,6 @@ mod new_text;
 mod old_text;
 mod operate;
 mod packed;
-mod pile;
 pub(crate) mod stack;
 mod stepping;
 mod terms;

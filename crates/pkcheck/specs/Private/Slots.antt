@@ -1,5 +1,5 @@
 -- What the fields of the stack, the memo and the text table mean.
-use Rattle.std.specs.Prelude.{ℕ, suc, ◌<◌, ◌≤◌, List, [], ◌∷◌, ◌++◌, Option, Some, None, map}
+use Rattle.std.specs.Prelude.{ℕ, suc, ◌<◌, List, [], ◌∷◌, ◌++◌, Option, Some, None, map}
 use Rattle.std.specs.Prelude.{◌≡◌, length, ⊤, drop, get_or, take}
 use Rattle.pkcheck.specs.declared.machine.value.Value.{Value}
 use Rattle.pkcheck.specs.declared.machine.value.Value.TheVariants as value
@@ -40,21 +40,6 @@ abbrev pub bars : ℕ → List Slot → List ℕ
 bars n [] = []
 bars n (slot.Mark ∷ ss) = n ∷ bars (suc n) ss
 bars n (slot.Object v ∷ ss) = bars (suc n) ss
-
--- each element with its number, counted from n
-abbrev pub numbered : {A : Type 0} → ℕ → List A → List (ℕ × A)
-numbered n [] = []
-numbered n (x ∷ xs) = (n, x) ∷ numbered (suc n) xs
-
--- these entries have numbers below `first`
-abbrev pub AreBelow : {A : Type 0} → ℕ → List (ℕ × A) → Type 0
-AreBelow first [] = ⊤
-AreBelow first (e ∷ es) = (e.0 < first) × AreBelow first es
-
--- these entries have numbers from `first` on
-abbrev pub AreFrom : {A : Type 0} → ℕ → List (ℕ × A) → Type 0
-AreFrom first [] = ⊤
-AreFrom first (e ∷ es) = (first ≤ e.0) × AreFrom first es
 
 -- none of these entries is a mark
 abbrev pub AllObjects : List Slot → Type 0

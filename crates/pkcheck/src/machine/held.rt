@@ -66,7 +66,7 @@ impl Held {
     {
         Held {
             stack: Stack::new(alloc),
-            memo: Memo::new(alloc),
+            memo: Memo::new(alloc, Packed::unknown()),
             ledger: Ledger::new(alloc),
         }
     }

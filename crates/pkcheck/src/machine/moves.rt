@@ -7,7 +7,7 @@ ghost use Rattle.pkops.specs.Operands.{memo_number};
 ghost use Rattle.std.specs.Prelude.{◌≡◌, ◌≤◌, ◌∷◌, [], ℕ, List, length, IfErr, OnOk};
 
 use crate::effect::Move;
-use crate::machine::memo::Memo;
+use crate::machine::memo::{Memo, store};
 use crate::machine::stack::Stack;
 use crate::machine::value::Value;
 use pkops::{Inst, Limits};
@@ -41,7 +41,7 @@ pub fn remember(stack: &Stack, memo: &mut Memo, limits: &Limits, number: u64) ->
         (record { entries = stack.now; memo = memo.old })) r) }
 {
     let value = stack.top()?;
-    memo.store(limits, number, value)
+    store(memo, limits, number, value)
 }
 
 /// Like `remember`, but refuses a number above the limit.

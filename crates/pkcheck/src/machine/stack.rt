@@ -11,9 +11,9 @@ mod slots;
 
 use crate::effect::Takes;
 use crate::machine::packed::Packed;
-use crate::machine::pile::Pile;
 use crate::machine::value::Value;
 pub use operands::Operands;
+use pkbase::StackVec;
 use pkops::Limits;
 use pkread::Reason;
 pub use slots::Found;
@@ -26,9 +26,9 @@ use std::marker::Model;
 /// The stack. A place is the number of entries below it.
 pub struct Stack {
     /// The entries; the last one is on top.
-    slots: Pile<Slot>,
+    slots: StackVec<Slot>,
     /// The places of the marks.
-    places: Pile<usize>,
+    places: StackVec<usize>,
 }
 
 impl Drop for Stack {
@@ -59,8 +59,8 @@ impl Stack {
         ensures { result ≡ [] }
     {
         Stack {
-            slots: Pile::new(alloc, Slot::Mark),
-            places: Pile::new(alloc, 0),
+            slots: StackVec::new(alloc, Slot::Mark),
+            places: StackVec::new(alloc, 0),
         }
     }
 

@@ -7,7 +7,7 @@ ghost use Rattle.std.specs.Prelude.{encode_utf8_all, string_bytes};
 ghost use Rattle.pkops.specs.OldBytes.{old_bytes};
 ghost use Rattle.std.specs.Str.{IsUtf8};
 
-use crate::machine::pile::Pile;
+use pkbase::StackVec;
 use pkops::{Inst, old_bytes_of, text_of};
 use std::alloc::{AllocError, Global};
 use std::marker::Model;
@@ -22,7 +22,7 @@ pub struct Texts {
     /// The texts in UTF-8.
     bytes: Vec<u8>,
     /// The offset at which each text ends.
-    ends: Pile<usize>,
+    ends: StackVec<usize>,
 }
 
 impl Model for Texts {
@@ -44,7 +44,7 @@ impl Texts {
     {
         Texts {
             bytes: Vec::new(alloc),
-            ends: Pile::new(alloc, 0),
+            ends: StackVec::new(alloc, 0),
         }
     }
 

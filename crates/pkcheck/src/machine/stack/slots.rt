@@ -11,8 +11,8 @@ ghost use Rattle.std.specs.Prelude.{◌++◌, IfErr, IfSome, MatchOption, OnErr,
 
 use crate::effect::{SliceRule, Takes};
 use crate::machine::packed::Packed;
-use crate::machine::pile::Pile;
 use crate::machine::value::Value;
+use pkbase::StackVec;
 use pkread::Reason;
 use std::alloc::AllocError;
 
@@ -49,7 +49,7 @@ pub fn top(slots: &[Slot]) -> Option<Packed>
 
 /// Pushes an object. Out of line, so other paths reserve no register for it.
 #[inline(never)]
-pub fn put_on_top(slots: &mut Pile<Slot>, value: Packed) -> Result<(), AllocError>
+pub fn put_on_top(slots: &mut StackVec<Slot>, value: Packed) -> Result<(), AllocError>
     ensures ok { OnOk result (slots.new ≡ slots.old ++ Slot.Object value ∷ []) }
     ensures err { OnErr result (slots.new ≡ slots.old) }
 {
