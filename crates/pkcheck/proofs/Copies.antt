@@ -1,4 +1,4 @@
--- Copies the imports of a ledger to the end of another.
+-- Copies the imports of one table to the end of another.
 use Rattle.std.proofs.Common.{◌≡◌, ◌⊎◌, ℕ, zero, suc, ◌+◌, ◌<◌, List, [], ◌∷◌, ◌++◌, length, map}
 use Rattle.std.proofs.Common.{take, get_or, Option, None, Some, inl, inr, refl, sym, ap, ◌∙◌, arith}
 use Rattle.std.proofs.Common.{add-one, append_assoc, length-append}
@@ -7,7 +7,7 @@ use Rattle.std.proofs.Math.Seq.{get_or-append_seam, take-suc}
 use Rattle.std.proofs.lemmas.List.{map-append}
 use Rattle.pkcheck.specs.Private.Noted.{AreCopies, AreEntries, IsEntry, KeepsCopies, entry_asked}
 use Rattle.pkcheck.specs.Private.Slots.{HasMoreTexts}
-use Rattle.pkcheck.specs.declared.machine.ledger.Entry.{Entry}
+use Rattle.pkcheck.specs.declared.machine.import_table.ListedImport.{ListedImport}
 use Rattle.pkcheck.proofs.NotedImports.{are_grown, are_more, asked_grown, longer, map_more}
 use Rattle.pkcheck.proofs.NotedImports.{text_grown}
 use Rattle.pkcheck.proofs.ResolvedEntries.{same_table}
@@ -63,8 +63,8 @@ copies_more copies ts ws k h number copy e = cases (at_set copies k number (leng
     cases (inr old) = names_grown ws vs (record { more = get_or ts k [] ∷ []; is = refl }) copy
         (get_or ts number []) (h number copy old)
 
-pub entry_at : (made written k : ℕ) (es : List Entry) (d : Entry) → AreEntries made written es
-    → k < length es → IsEntry made written (get_or es k d)
+pub entry_at : (made written k : ℕ) (es : List ListedImport) (d : ListedImport)
+    → AreEntries made written es → k < length es → IsEntry made written (get_or es k d)
 entry_at made written k [] d h lt = absurd (omega (arith, lt))
 entry_at made written zero (e ∷ es) d h lt = h.0
 entry_at made written (suc k) (e ∷ es) d h lt = entry_at made written k es d h.1 (omega (arith, lt))
@@ -75,19 +75,20 @@ grows_more a b c g h = record {
   is = h.is ∙ (ap (λ l. l ++ h.more) g.is ∙ append_assoc a g.more h.more);
 }
 
--- the first `count` entries of another ledger were copied
-pub record CopiedSoFar (ts ws : List (List ℕ)) (es : List Entry) (before now : List (List ℕ))
-    (copies : List (Option ℕ)) (copied : List Entry) (count : ℕ) : Type 0 where
+-- the first `count` entries of another table were copied
+pub record CopiedSoFar (ts ws : List (List ℕ)) (es : List ListedImport) (before now : List (List ℕ))
+    (copies : List (Option ℕ)) (copied : List ListedImport) (count : ℕ) : Type 0 where
   pub grows : HasMoreTexts before now
   pub size : length copies ≡ length ts
   pub stand : AreCopies copies ts now
   pub named : AreEntries 0 (length now) copied
   pub same : map (entry_asked [] now) copied ≡ map (entry_asked ts ws) (take count es)
 
-module _ (ts ws : List (List ℕ)) (es : List Entry) (before : List (List ℕ)) where
+module _ (ts ws : List (List ℕ)) (es : List ListedImport) (before : List (List ℕ)) where
   -- one more entry is copied
-  pub copied_more : (now new : List (List ℕ)) (copies next : List (Option ℕ)) (copied : List Entry)
-      (count : ℕ) (d e : Entry) → CopiedSoFar ts ws es before now copies copied count
+  pub copied_more : (now new : List (List ℕ)) (copies next : List (Option ℕ))
+      (copied : List ListedImport) (count : ℕ) (d e : ListedImport)
+      → CopiedSoFar ts ws es before now copies copied count
       → count < length es → KeepsCopies ts copies next now new
       → IsEntry 0 (length new) e × (entry_asked [] new e ≡ entry_asked ts ws (get_or es count d))
       → CopiedSoFar ts ws es before new next (copied ++ e ∷ []) (count + 1)
@@ -107,12 +108,12 @@ module _ (ts ws : List (List ℕ)) (es : List Entry) (before : List (List ℕ)) 
       }
 
 -- entries that refer to no text of a table
-module _ (ts ws vs : List (List ℕ)) (old more : List Entry) (g : HasMoreTexts ws vs)
+module _ (ts ws vs : List (List ℕ)) (old more : List ListedImport) (g : HasMoreTexts ws vs)
     (h : AreEntries (length ts) (length ws) old) (k : AreEntries 0 (length vs) more) where
   any : HasMoreTexts [] ts
   any = record { more = ts; is = refl }
 
-  both : (xs ys : List Entry) → AreEntries (length ts) (length vs) xs
+  both : (xs ys : List ListedImport) → AreEntries (length ts) (length vs) xs
       → AreEntries (length ts) (length vs) ys → AreEntries (length ts) (length vs) (xs ++ ys)
   both [] ys p q = q
   both (x ∷ xs) ys p q = (p.0, both xs ys p.1 q)

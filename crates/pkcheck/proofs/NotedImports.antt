@@ -1,12 +1,12 @@
--- What a ledger holds, and the imports that names refer to.
+-- What an import table holds, and the imports that names refer to.
 use Rattle.std.proofs.Common.{◌≡◌, ℕ, zero, suc, ◌-◌, ◌<◌, ◌≤◌, List, [], ◌∷◌, ◌++◌, Option, None}
 use Rattle.std.proofs.Common.{Some, drop, length, map, take, get_or, refl, ap, arith, sym, ◌∙◌}
 use Rattle.std.proofs.Common.{length-append}
 use Rattle.std.proofs.lemmas.List.{length-drop}
 use Rattle.std.proofs.Math.ListN.{get_or-append}
 use Rattle.std.proofs.Math.Seq.{take-append_seam, take-length}
-use Rattle.pkcheck.specs.declared.machine.ledger.Entry.{Entry}
-use Rattle.pkcheck.specs.declared.machine.ledger.Entry.TheVariants as entry
+use Rattle.pkcheck.specs.declared.machine.import_table.ListedImport.{ListedImport}
+use Rattle.pkcheck.specs.declared.machine.import_table.ListedImport.TheVariants as entry
 use Rattle.pkcheck.specs.declared.machine.value.Value.{Value}
 use Rattle.pkcheck.specs.Covers.{Pointwise}
 use Rattle.pkcheck.specs.Import.{asks_more}
@@ -24,7 +24,7 @@ module _ (ts us : List (List ℕ)) (g : HasMoreTexts ts us) where
 -- ---- a table of texts that grew
 
 module _ (ts us ws vs : List (List ℕ)) (g : HasMoreTexts ts us) (h : HasMoreTexts ws vs) where
-  entry_grown : (e : Entry) → IsEntry (length ts) (length ws) e
+  entry_grown : (e : ListedImport) → IsEntry (length ts) (length ws) e
       → entry_asked us vs e ≡ entry_asked ts ws e
   entry_grown entry.Unknown k = refl
   entry_grown (entry.Made m n) k = λ i. AskedPair (text_grown ts us g m k.0 i)
@@ -32,19 +32,20 @@ module _ (ts us ws vs : List (List ℕ)) (g : HasMoreTexts ts us) (h : HasMoreTe
   entry_grown (entry.Written m n) k = λ i. AskedPair (text_grown ws vs h m k.0 i)
       (text_grown ws vs h n k.1 i)
 
-  is_grown : (e : Entry) → IsEntry (length ts) (length ws) e → IsEntry (length us) (length vs) e
+  is_grown : (e : ListedImport) → IsEntry (length ts) (length ws) e
+      → IsEntry (length us) (length vs) e
   is_grown entry.Unknown k = tt
   is_grown (entry.Made m n) k = let l = longer ts us g in
       (omega (arith, l, k.0), omega (arith, l, k.1))
   is_grown (entry.Written m n) k = let l = longer ws vs h in
       (omega (arith, l, k.0), omega (arith, l, k.1))
 
-  pub asked_grown : (es : List Entry) → AreEntries (length ts) (length ws) es
+  pub asked_grown : (es : List ListedImport) → AreEntries (length ts) (length ws) es
       → map (entry_asked us vs) es ≡ map (entry_asked ts ws) es
   asked_grown [] k = refl
   asked_grown (e ∷ es) k = λ i. entry_grown e k.0 i ∷ asked_grown es k.1 i
 
-  pub are_grown : (es : List Entry) → AreEntries (length ts) (length ws) es
+  pub are_grown : (es : List ListedImport) → AreEntries (length ts) (length ws) es
       → AreEntries (length us) (length vs) es
   are_grown [] k = tt
   are_grown (e ∷ es) k = (is_grown e k.0, are_grown es k.1)
@@ -57,18 +58,18 @@ pub listed_before : (a : Option Asked) (listed : List Asked)
 listed_before None listed = take-length listed
 listed_before (Some a) listed = take-append_seam listed (a ∷ [])
 
-pub are_more : (made written : ℕ) (es : List Entry) (e : Entry) → AreEntries made written es
-    → IsEntry made written e → AreEntries made written (es ++ e ∷ [])
+pub are_more : (made written : ℕ) (es : List ListedImport) (e : ListedImport)
+    → AreEntries made written es → IsEntry made written e → AreEntries made written (es ++ e ∷ [])
 are_more made written [] e h k = (k, tt)
 are_more made written (d ∷ es) e h k = (h.0, are_more made written es e h.1 k)
 
-pub are_kept : (made written count : ℕ) (es : List Entry) → AreEntries made written es
+pub are_kept : (made written count : ℕ) (es : List ListedImport) → AreEntries made written es
     → AreEntries made written (take count es)
 are_kept made written zero es h = tt
 are_kept made written (suc n) [] h = tt
 are_kept made written (suc n) (e ∷ es) h = (h.0, are_kept made written n es h.1)
 
-pub are_left : (made written count : ℕ) (es : List Entry) → AreEntries made written es
+pub are_left : (made written count : ℕ) (es : List ListedImport) → AreEntries made written es
     → AreEntries made written (drop count es)
 are_left made written zero es h = h
 are_left made written (suc n) [] h = tt

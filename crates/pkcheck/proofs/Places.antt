@@ -13,7 +13,7 @@ use Rattle.pkcheck.specs.declared.machine.value.Value.{Value}
 use Rattle.pkcheck.specs.Private.Places.{ItemsFrom, below, above, from_bottom}
 use Rattle.pkcheck.specs.Private.Slots.{AllObjects, FirstObject, StartsWell, bars, entry_of}
 use Rattle.pkcheck.specs.Private.Slots.{shown, values_of}
-use Rattle.pkcheck.specs.Private.Denials.{HasFirst}
+use Rattle.pkcheck.specs.Private.StepErrors.{HasFirst}
 use Rattle.pkcheck.proofs.Shown.{shown_append, starts_well}
 use Rattle.pkcheck.proofs.Bars.{items_at, marks_kept, marks_shown}
 use Rattle.pkcheck.proofs.Limited.{length_shown}

@@ -13,7 +13,7 @@ use Rattle.pkread.specs.declared.Reason.{Reason}
 use Rattle.pkcheck.specs.Shape.{Breach, Entry, Mark, Item, Shape, Taken, operands, put, moved}
 use Rattle.pkcheck.specs.Shape.{marks_of, top}
 use Rattle.pkcheck.specs.Covers.{Pointwise, AlikeEntry, AlikeCell, Alike}
-use Rattle.pkcheck.specs.Private.Denials.{IsLack, IsFaultOf, with_item}
+use Rattle.pkcheck.specs.Private.StepErrors.{IsLack, IsFaultOf, with_item}
 use Rattle.pkops.specs.Limits.{Bounds}
 use Rattle.pkcheck.specs.Runs.{Text}
 use Rattle.pkcheck.specs.Knowledge.{Known, Knowledge}

@@ -5,7 +5,7 @@ pub mod Places
 pub mod Slots
 pub mod Noted
 pub mod Joined
-pub mod Denials
+pub mod StepErrors
 pub mod SameImports
 pub mod Spelled
 pub mod Actions

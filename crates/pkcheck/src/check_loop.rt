@@ -13,7 +13,7 @@ use crate::checking::No;
 use crate::imports::Imports;
 use crate::loading::Loading;
 use crate::policy::Permit;
-use crate::row_of_pickles::{Row, YesAll};
+use crate::row_of_pickles::{PickleRow, YesAll};
 use crate::session::Session;
 use pklist::laws::bounded_names;
 use pkops::Limits;
@@ -93,7 +93,7 @@ pub fn check_pickles<R: Source, A: Audience>(
     bounded_names();
     let mut reader = Reader::new(alloc, source, &terms.limits);
     let mut session = Session::new(alloc, &terms.limits, terms.loading.old_strings);
-    let mut row = Row::new(alloc, terms.loading.memo);
+    let mut row = PickleRow::new(alloc, terms.loading.memo);
     'instructions: loop {
         if let Err(refusal) = session.hear_at_hand(&mut reader, policy, audience)? {
             return Ok(Err(row.refused(&mut session, refusal)));

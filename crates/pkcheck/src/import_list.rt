@@ -6,7 +6,7 @@ ghost use Rattle.pkcheck.specs.Import.{import_shown};
 ghost use Rattle.pkcheck.specs.Private.Noted.{entry_asked};
 
 use crate::import::Import;
-use crate::machine::ledger::Entry;
+use crate::machine::import_table::ListedImport;
 use crate::machine::texts::Texts;
 use std::marker::Model;
 
@@ -16,7 +16,7 @@ use std::marker::Model;
 pub struct ImportList<'a> {
     texts: &'a Texts,
     written: &'a Texts,
-    entries: &'a [Entry],
+    entries: &'a [ListedImport],
 }
 
 impl<'a> Model for ImportList<'a> {
@@ -31,7 +31,11 @@ impl<'a> Model for ImportList<'a> {
 
 impl<'a> ImportList<'a> {
     /// The imports of these entries, given the texts and the names that they refer to.
-    pub(crate) fn new(texts: &'a Texts, written: &'a Texts, entries: &'a [Entry]) -> ImportList<'a>
+    pub(crate) fn new(
+        texts: &'a Texts,
+        written: &'a Texts,
+        entries: &'a [ListedImport],
+    ) -> ImportList<'a>
         ensures { result ≡ map (entry_asked texts.entry.now written.entry.now) entries.entry.now }
     {
         ImportList {
@@ -82,7 +86,7 @@ impl<'a> ImportList<'a> {
 pub struct ImportIter<'a> {
     texts: &'a Texts,
     written: &'a Texts,
-    rest: &'a [Entry],
+    rest: &'a [ListedImport],
 }
 
 impl<'a> Model for ImportIter<'a> {
@@ -114,16 +118,16 @@ impl<'a> Iterator for ImportIter<'a> {
 }
 
 /// The import of an entry.
-fn shown<'a>(texts: &'a Texts, written: &'a Texts, entry: Entry) -> Import<'a>
+fn shown<'a>(texts: &'a Texts, written: &'a Texts, entry: ListedImport) -> Import<'a>
     ensures { import_shown result ≡ entry_asked texts.now written.now entry }
 {
     match entry {
-        Entry::Unknown => Import::Unknown,
-        Entry::Made(first, second) => Import::Pair {
+        ListedImport::Unknown => Import::Unknown,
+        ListedImport::Made(first, second) => Import::Pair {
             module: texts.get(first as usize),
             name: texts.get(second as usize),
         },
-        Entry::Written(first, second) => Import::Pair {
+        ListedImport::Written(first, second) => Import::Pair {
             module: written.get(first as usize),
             name: written.get(second as usize),
         },

@@ -1,8 +1,8 @@
 //! The symbolic machine, which knows what holds in every run and executes nothing.
 
+mod config;
 pub(crate) mod effects;
-mod held;
-pub(crate) mod ledger;
+pub(crate) mod import_table;
 mod memo;
 mod moves;
 mod new_text;
@@ -10,8 +10,8 @@ mod old_text;
 mod operate;
 mod packed;
 pub(crate) mod stack;
+mod state;
 mod stepping;
-mod terms;
 pub(crate) mod texts;
 pub(crate) mod value;
 
@@ -38,11 +38,11 @@ use crate::import::Asked;
 use crate::import_list::ImportList;
 use crate::imports::Imports;
 use crate::loading::Memo;
+use crate::machine::config::MachineConfig;
 use crate::machine::effects::class_passed;
-use crate::machine::held::Held;
-use crate::machine::ledger::Ledger;
+use crate::machine::import_table::ImportTable;
+use crate::machine::state::MachineState;
 use crate::machine::stepping::advance;
-use crate::machine::terms::Terms;
 use crate::old_strings::OldStrings;
 use crate::policy::{Permit, Policy};
 use pklist::laws::bounded_names;
@@ -58,8 +58,8 @@ pub use stepping::Moved;
 /// operations answer, the class of every other object, and the characters of a text.
 #[derive(Drop)]
 pub struct Machine {
-    terms: Terms,
-    held: Held,
+    config: MachineConfig,
+    state: MachineState,
     refused: Option<Reason>,
     off: Option<Asked>,
     stopped: bool,
@@ -72,23 +72,23 @@ impl Model for Machine {
 
     ghost use Rattle.std.specs.Prelude.{◌≡◌, None, is_some, option_map};
     ghost use Rattle.pkcheck.specs.Import.{asked_shown, pair_shown};
-    ghost use Rattle.pkcheck.specs.Private.Denials.{FitsLimits};
+    ghost use Rattle.pkcheck.specs.Private.StepErrors.{FitsLimits};
     ghost use Rattle.pkcheck.specs.View.{has_off_list};
 
     ghost view = { λ m. record {
-      knowledge = m.held.knowledge;
-      limits = m.terms.limits;
-      old_strings = m.terms.old_strings;
-      imports = m.held.imports;
+      knowledge = m.state.knowledge;
+      limits = m.config.limits;
+      old_strings = m.config.old_strings;
+      imports = m.state.imports;
       off = option_map asked_shown m.off;
       refused = m.refused;
       stopped = m.stopped;
-      texts = m.held.texts;
+      texts = m.state.texts;
     } };
 
     // A machine that has refused nothing is within its limits and holds no pair. One that has
     // refused holds a pair exactly if the import was off the list.
-    ghost invariant = { λ m. (m.refused ≡ None → FitsLimits m.terms.limits m.held.knowledge)
+    ghost invariant = { λ m. (m.refused ≡ None → FitsLimits m.config.limits m.state.knowledge)
         × (m.refused ≡ None → m.off ≡ None)
         × (is_some (pair_shown (option_map asked_shown m.off)) ≡ has_off_list m.refused) };
 }
@@ -109,12 +109,12 @@ impl Machine {
         ensures covers { Covers result.knowledge start }
     {
         Machine {
-            terms: Terms {
+            config: MachineConfig {
                 alloc,
                 limits: *limits,
                 old_strings,
             },
-            held: Held::new(alloc),
+            state: MachineState::new(alloc),
             refused: None,
             off: None,
             stopped: false,
@@ -176,7 +176,7 @@ impl Machine {
             ≡ texts_then self.old.old_strings (instruction_of inst.now).op self.old.texts) }
     {
         bounded_names();
-        match advance(&mut self.held, &self.terms, inst, policy, &mut self.off) {
+        match advance(&mut self.state, &self.config, inst, policy, &mut self.off) {
             Ok(moved) => {
                 stop_after(moved, &mut self.stopped);
                 Ok(moved)
@@ -218,7 +218,7 @@ impl Machine {
         if let Some(earlier) = self.refused {
             return Err(earlier);
         }
-        match self.held.make(&self.terms.limits, class_passed(op)) {
+        match self.state.make(&self.config.limits, class_passed(op)) {
             Ok(()) => Ok(Moved::On),
             Err(reason) => {
                 self.refused = Some(reason);
@@ -233,7 +233,7 @@ impl Machine {
     pub(crate) fn limits(&self) -> &Limits
         ensures { result.now ≡ self.now.limits }
     {
-        &self.terms.limits
+        &self.config.limits
     }
 
     /// The number of open marks, which is the same in every run.
@@ -242,7 +242,7 @@ impl Machine {
         ensures covered { (state : State) → Covers self.now.knowledge state
             → result ≡ marks_of state.shape.entries }
     {
-        self.held.marks()
+        self.state.marks()
     }
 
     /// The number of texts in the table. An accepted step raises it by one for UNICODE,
@@ -251,14 +251,14 @@ impl Machine {
     pub fn texts(&self) -> usize
         ensures { result ≡ self.now.texts }
     {
-        self.held.texts()
+        self.state.texts()
     }
 
     /// The imports so far, in order.
     pub fn imports(&self) -> ImportList<'_>
         ensures { result ≡ self.now.imports }
     {
-        self.held.imports()
+        self.state.imports()
     }
 
     /// The module and the name of the import that was off the list; `None` unless the reason was
@@ -281,7 +281,7 @@ impl Machine {
     /// Continues at the first instruction of another pickle. With a fresh memo it moves the imports
     /// to `apart`, after those already there, and forgets everything else. With a kept memo it only
     /// clears the stack, in constant time, because the memo may refer to any text.
-    pub(crate) fn restart(&mut self, memo: Memo, apart: &mut Ledger) -> Result<(), AllocError>
+    pub(crate) fn restart(&mut self, memo: Memo, apart: &mut ImportTable) -> Result<(), AllocError>
         requires { self.old.refused ≡ None }
         ensures next { OnOk result (self.new ≡ restarted memo self.old) }
         ensures apart { OnOk result (apart.new.asked
@@ -290,10 +290,10 @@ impl Machine {
     {
         match memo {
             Memo::Fresh => {
-                self.held.list_in(self.terms.alloc, apart)?;
-                self.held.clear();
+                self.state.list_in(self.config.alloc, apart)?;
+                self.state.clear();
             }
-            Memo::Kept => self.held.clear_stack(),
+            Memo::Kept => self.state.clear_stack(),
         }
         self.stopped = false;
         Ok(())
@@ -304,15 +304,15 @@ impl Machine {
         ensures imports { result ≡ self.old.imports }
         ensures off { self.new.off ≡ self.old.off }
     {
-        self.held.take_imports(self.terms.alloc)
+        self.state.take_imports(self.config.alloc)
     }
 
     /// Moves out the pair that was off the list. The machine then begins again.
     pub(crate) fn take_off_list(&mut self) -> Option<Asked>
         ensures { option_map asked_shown result ≡ self.old.off }
     {
-        let terms = self.terms;
-        let fresh = Machine::new_as(terms.alloc, &terms.limits, terms.old_strings);
+        let config = self.config;
+        let fresh = Machine::new_as(config.alloc, &config.limits, config.old_strings);
         let Machine { off, .. } = mem::replace(self, fresh);
         off
     }

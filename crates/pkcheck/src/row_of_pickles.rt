@@ -13,7 +13,7 @@ use crate::check_loop::{Extent, RefusedPickle, Terms, check_pickles};
 use crate::checking::No;
 use crate::imports::Imports;
 use crate::loading::{Loading, Memo};
-use crate::machine::ledger::Ledger;
+use crate::machine::import_table::ImportTable;
 use crate::old_strings::OldStrings;
 use crate::policy::{Permit, Policy};
 use crate::session::Session;
@@ -122,18 +122,18 @@ pub fn check_all_loaded<R: Source>(
 
 /// The pickles of a row so far.
 #[derive(Drop)]
-pub(crate) struct Row {
+pub(crate) struct PickleRow {
     memo: Memo,
     pickles: u64,
     /// The imports of pickles that the machine forgot.
-    apart: Ledger,
+    apart: ImportTable,
     /// How many of the machine's imports are those of earlier pickles.
     earlier: usize,
 }
 
-impl Row {
+impl PickleRow {
     /// A row without a pickle.
-    pub fn new(alloc: Global, memo: Memo) -> Row
+    pub fn new(alloc: Global, memo: Memo) -> PickleRow
         ensures { result ≡ record {
           memo = memo;
           pickles = 0;
@@ -141,10 +141,10 @@ impl Row {
           earlier = 0;
         } }
     {
-        Row {
+        PickleRow {
             memo,
             pickles: 0,
-            apart: Ledger::new(alloc),
+            apart: ImportTable::new(alloc),
             earlier: 0,
         }
     }
@@ -185,14 +185,14 @@ impl Row {
         ensures imports { result.imports
             ≡ listed_in self.memo self.apart.asked session.old.machine.imports }
     {
-        let Row {
+        let PickleRow {
             memo,
             pickles,
             apart,
             ..
         } = self;
         let imports = match memo {
-            Memo::Fresh => Imports::from_ledger(apart),
+            Memo::Fresh => Imports::from_table(apart),
             Memo::Kept => session.take_imports(),
         };
         YesAll {
@@ -208,7 +208,7 @@ impl Row {
         ensures pickles { result.pickles ≡ 1 }
         ensures imports { result.imports ≡ session.old.machine.imports }
     {
-        let Row { apart, .. } = self;
+        let PickleRow { apart, .. } = self;
         drop(apart);
         YesAll {
             taken,

@@ -26,7 +26,7 @@ use crate::checking::No;
 use crate::imports::Imports;
 use crate::loading::Memo;
 use crate::machine::Machine;
-use crate::machine::ledger::Ledger;
+use crate::machine::import_table::ImportTable;
 use crate::old_strings::OldStrings;
 use crate::policy::Permit;
 use crate::turned::{Failed, Turned};
@@ -332,7 +332,7 @@ impl Session {
     }
 
     /// Continues at the first instruction of another pickle of a row, with no frame open.
-    pub fn restart(&mut self, memo: Memo, apart: &mut Ledger) -> Result<(), AllocError>
+    pub fn restart(&mut self, memo: Memo, apart: &mut ImportTable) -> Result<(), AllocError>
         requires { self.old.machine.refused ≡ None }
         ensures next { OnOk result (self.new ≡ record {
           frame = 0;

@@ -19,7 +19,7 @@ use Rattle.pkcheck.specs.Covers.{IsObject}
 use Rattle.pkcheck.proofs.Coverage.CoversBy.{FollowsIfOk, any_answer, objects_grow}
 use Rattle.pkcheck.specs.Faults.{IsFirstFault}
 use Rattle.pkcheck.specs.Import.{asks_more}
-use Rattle.pkcheck.specs.Private.Denials.{IsRefusedFor, IsWantOfMemory, MayWantMemory}
+use Rattle.pkcheck.specs.Private.StepErrors.{IsRefusedFor, IsWantOfMemory, MayWantMemory}
 use Rattle.pkcheck.specs.View.{View}
 use Rattle.pkcheck.specs.Step.{CoveredBy, AppendsPermitted, FailsStep, GoesOn, IsNoFalseAlarm}
 use Rattle.pkcheck.specs.Step.{IsPermitted, IsStep, MayLackMemory, MeansInEachRun}
@@ -113,14 +113,14 @@ module _ (p : Policy) (i : Instruction) (before after : View) where
     }
 
   module _ (r : Reason) where
-    -- a denied instruction is refused for that reason
-    pub denied : (pair : Option Asked) → after ≡ record before { refused = Some r; off = pair }
+    -- an instruction with an error is refused for its reason
+    pub errs : (pair : Option Asked) → after ≡ record before { refused = Some r; off = pair }
         → IsRefusedFor (advance before.old_strings p before.limits i before.knowledge) r pair
         ⊎ (MayWantMemory (effect_as before.old_strings i) × IsWantOfMemory r pair)
         → FailsStep p i before after r
-    denied pair becomes (inl (f, is, e, g)) = inl
+    errs pair becomes (inl (f, is, e, g)) = inl
         (f, is, e, becomes ∙ (λ j. record before { refused = Some r; off = g j }))
-    denied pair becomes (inr (wants, (e, g))) = inr (
+    errs pair becomes (inr (wants, (e, g))) = inr (
       (λ none. wants_no_memory before.old_strings i none wants),
       e,
       becomes ∙ (λ j. record before { refused = Some r; off = g j }),

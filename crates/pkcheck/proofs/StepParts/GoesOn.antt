@@ -6,7 +6,7 @@ use Rattle.std.proofs.Common.{◌∷◌, length, Some, None, Ok, refl, drop, ari
 use Rattle.pkcheck.specs.declared.effect.Move.{Move}
 use Rattle.pkread.specs.declared.Reason.{Reason}
 use Rattle.pkread.specs.declared.Reason.TheVariants as reason
-use Rattle.pkcheck.specs.declared.machine.operate.Denial.{Denial}
+use Rattle.pkcheck.specs.declared.machine.operate.StepError.{StepError}
 use Rattle.pkcheck.specs.Effects.{Effect, Operates, Moves, Stops, Raises, effect_as, number_stored}
 use Rattle.pkcheck.specs.Shape.{top, Entry, and_then, moved}
 use Rattle.pkops.specs.Spelling.{Instruction}
@@ -14,8 +14,8 @@ use Rattle.pkcheck.specs.Knowledge.{Asked, Known, Knowledge, Policy, Lacks, Left
 use Rattle.pkcheck.specs.Knowledge.{left_over, stop_learned, learn, within, advance}
 use Rattle.pkops.specs.Limits.{Bounds}
 use Rattle.pkcheck.specs.Private.Actions.{IsUnnamed}
-use Rattle.pkcheck.specs.Private.Denials.{GoesTo, IsDenied, IsForMemory, IsFaultOf, IsStopFault}
-use Rattle.pkcheck.specs.Private.Denials.{MayWantMemory, Proceeds}
+use Rattle.pkcheck.specs.Private.StepErrors.{GoesTo, IsRefusedWith, IsForMemory, IsFaultOf}
+use Rattle.pkcheck.specs.Private.StepErrors.{IsStopFault, MayWantMemory, Proceeds}
 use Rattle.pkcheck.specs.View.{moved_as}
 use Rattle.pkcheck.proofs.StepParts.Past.{within_fits, within_past}
 use Rattle.pkcheck.specs.declared.effect.Gives.{Gives}
@@ -34,25 +34,25 @@ module _ (es : List (Entry Known)) (m : List (ℕ × Known)) (k : Known)
       (LeftOver, rw (e, some_left (drop 1 es) more) refl, refl, refl)
 
 module _ (setting : OldStrings) (p : Policy) (l : Bounds) (i : Instruction) (k : Knowledge) where
-  pub denied_by : (e : Effect) (d : Denial) → effect_as setting i ≡ e
-      → IsDenied (and_then (learn p e i k) (within l (number_stored e i))) d
-      ⊎ (MayWantMemory e × IsForMemory d) → IsDenied (advance setting p l i k) d
+  pub errs_by : (e : Effect) (d : StepError) → effect_as setting i ≡ e
+      → IsRefusedWith (and_then (learn p e i k) (within l (number_stored e i))) d
+      ⊎ (MayWantMemory e × IsForMemory d) → IsRefusedWith (advance setting p l i k) d
       ⊎ (MayWantMemory (effect_as setting i) × IsForMemory d)
-  denied_by e d is h = rw is h
+  errs_by e d is h = rw is h
 
 module _ (p : Policy) (l : Bounds) (i : Instruction) (k : Knowledge) where
-  pub move_denied : (m : Move) (r : Reason) → IsFaultOf m l (memo_number i)
-      (moved m (memo_number i) k) r → IsDenied (and_then (learn p (Moves m) i k)
+  pub move_errs : (m : Move) (r : Reason) → IsFaultOf m l (memo_number i)
+      (moved m (memo_number i) k) r → IsRefusedWith (and_then (learn p (Moves m) i k)
       (within l (number_stored (Moves m) i))) (record { reason = r; pair = None }) ⊎
       (MayWantMemory (Moves m) × IsForMemory (record { reason = r; pair = None }))
-  move_denied m r (inl (b, e, g)) = inl (Lacks b, rw e refl, g, refl)
-  move_denied m r (inr (inl (e, (k', g, h)))) = inl (
+  move_errs m r (inl (b, e, g)) = inl (Lacks b, rw e refl, g, refl)
+  move_errs m r (inr (inl (e, (k', g, h)))) = inl (
     TooLarge,
     rw g (within_past l (number_stored (Moves m) i) (record { after = k'; import = None }) h),
     e,
     refl,
   )
-  move_denied m r (inr (inr (w, e))) = inr (w, (e, refl))
+  move_errs m r (inr (inr (w, e))) = inr (w, (e, refl))
 
 on : (takes : Takes) (g : Gives) (a : Option Asked) → false ≡ is_some a
     → On ≡ moved_as (Operates takes NoName g) a

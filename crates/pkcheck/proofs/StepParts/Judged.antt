@@ -22,7 +22,7 @@ use Rattle.pkops.specs.Limits.{Bounds}
 use Rattle.pkcheck.specs.Private.Slots.{StandsIf, known}
 use Rattle.pkread.specs.declared.Reason.{Reason}
 use Rattle.pkread.specs.declared.Reason.TheVariants as reason
-use Rattle.pkcheck.specs.declared.machine.operate.Denial.{Denial}
+use Rattle.pkcheck.specs.declared.machine.operate.StepError.{StepError}
 use Rattle.pkcheck.specs.declared.import.Named.{Named}
 use Rattle.pkcheck.specs.Private.Noted.{named_asked}
 use Rattle.pkcheck.specs.declared.machine.value.Value.{Value}
@@ -30,9 +30,9 @@ use Rattle.pkcheck.specs.declared.machine.value.Value.TheVariants.{Unknown, Made
 use Rattle.pkcheck.specs.declared.machine.value.Value.TheVariants as value
 use Rattle.pkcheck.specs.declared.effect.Wanted.{Wanted}
 use Rattle.std.specs.List.{slice_get}
-use Rattle.pkcheck.specs.Private.Denials.{ruled, judged, IsDenied, IsForMemory, IsLack, MayGive}
-use Rattle.pkcheck.specs.Private.Denials.{MayName, MayOperate, Proceeds, WantsRoom, HasFirst}
-use Rattle.pkcheck.specs.Private.Denials.{WellGiven}
+use Rattle.pkcheck.specs.Private.StepErrors.{ruled, judged, IsRefusedWith, IsForMemory, IsLack}
+use Rattle.pkcheck.specs.Private.StepErrors.{MayGive, MayName, MayOperate, Proceeds, WantsRoom}
+use Rattle.pkcheck.specs.Private.StepErrors.{HasFirst, WellGiven}
 use Rattle.pkcheck.specs.Import.{asks_more}
 use Rattle.pkcheck.proofs.StepParts.Past.{within_past}
 
@@ -94,9 +94,9 @@ module _ (p : Policy) (takes : Takes) (names : Names) (gives : Gives) (i : Instr
   learn_lacks b e = rw e refl
 
   module _ (t : Taken Known) (e : operands takes k.entries ≡ Ok t) where
-    pub learn_denied : (f : Refusal) → judged p names gives i t.operands ≡ Err f
+    pub learn_errs : (f : Refusal) → judged p names gives i t.operands ≡ Err f
         → learn p (Operates takes names gives) i k ≡ Err f
-    learn_denied f g = rw e
+    learn_errs f g = rw e
         (unchosen (wrong_receiver gives t.operands) WrongClass
         (asked_of p names i t.operands) _ f g)
 
@@ -113,22 +113,23 @@ module _ (p : Policy) (takes : Takes) (names : Names) (gives : Gives) (i : Instr
     learn_passes a g = rw e
         (chosen (wrong_receiver gives t.operands) WrongClass (asked_of p names i t.operands) _ a g)
 
-  pub lack_denied : (r : Reason) → IsLack (operands takes k.entries) r
-      → IsDenied (learn p (Operates takes names gives) i k) (record { reason = r; pair = None })
-  lack_denied r (b, e, g) = (Lacks b, learn_lacks b e, g, refl)
+  pub lack_errs : (r : Reason) → IsLack (operands takes k.entries) r
+      → IsRefusedWith (learn p (Operates takes names gives) i k)
+      (record { reason = r; pair = None })
+  lack_errs r (b, e, g) = (Lacks b, learn_lacks b e, g, refl)
 
-  pub judged_denied : (t : Taken Known) (d : Denial) → operands takes k.entries ≡ Ok t
-      → IsDenied (judged p names gives i t.operands) d
-      → IsDenied (learn p (Operates takes names gives) i k) d
-  judged_denied t d e (f, g, h, j) = (f, learn_denied t e f g, h, j)
+  pub judged_errs : (t : Taken Known) (d : StepError) → operands takes k.entries ≡ Ok t
+      → IsRefusedWith (judged p names gives i t.operands) d
+      → IsRefusedWith (learn p (Operates takes names gives) i k) d
+  judged_errs t d e (f, g, h, j) = (f, learn_errs t e f g, h, j)
 
   -- no room for the object that the operation leaves
-  pub room_denied : (l : Bounds) (t : Taken Known) (a : Option Asked) (v : Known)
+  pub room_errs : (l : Bounds) (t : Taken Known) (a : Option Asked) (v : Known)
       → operands takes k.entries ≡ Ok t → judged p names gives i t.operands ≡ Ok a
       → known_given gives i ≡ Some v → l.stack ≤ length t.below
-      → IsDenied (and_then (learn p (Operates takes names gives) i k) (within l 0))
+      → IsRefusedWith (and_then (learn p (Operates takes names gives) i k) (within l 0))
       (record { reason = reason.TooLarge; pair = None })
-  room_denied l t a v e g j h = (
+  room_errs l t a v e g j h = (
     TooLarge,
     rw (learn_passes t e a g, j)
         (within_past l 0
@@ -167,9 +168,9 @@ judged_name p NoName gives i ks us None s e = cc
 judged_name p OfArgument gives i ks us n s e = tt
 judged_name p OfOperands gives i ks us n s e = tt
 
-pub within_denied : (x : Result Progress Refusal) (l : Bounds) (n : ℕ) (d : Denial) → IsDenied x d
-    → IsDenied (and_then x (within l n)) d
-within_denied x l n d (f, e, g, h) = (f, rw e refl, g, h)
+pub within_errs : (x : Result Progress Refusal) (l : Bounds) (n : ℕ) (d : StepError)
+    → IsRefusedWith x d → IsRefusedWith (and_then x (within l n)) d
+within_errs x l n d (f, e, g, h) = (f, rw e refl, g, h)
 
 wrong_any : (ts : List (List ℕ)) (w : Wanted) (v : Value) (ks : List Known)
     → wrong_first w (known ts v ∷ []) ≡ wrong_first w (known ts v ∷ ks)
@@ -223,13 +224,13 @@ module _ (p : Policy) (takes : Takes) (names : Names) (gives : Gives) (i : Instr
 
   pub unroomed : (ts : List (List ℕ)) (v : Option Value) → StandsIf ts v (known_given gives i)
       → (l : Bounds) (r : Reason) → IsSome v → WantsRoom l.stack (length t.below) r
-      → IsDenied (and_then (learn p (Operates takes names gives) i k) (within l 0))
+      → IsRefusedWith (and_then (learn p (Operates takes names gives) i k) (within l 0))
       (record { reason = r; pair = None }) ⊎ (MayOperate names gives × IsForMemory
       (record { reason = r; pair = None }))
   unroomed ts v given l r s w =
       let (n, j) = given_some ts v (known_given gives i) s given in
       elim w [
-        | inl u ↦ inl (rw u.0 (room_denied p takes names gives i k l t _ n found fits j u.1))
+        | inl u ↦ inl (rw u.0 (room_errs p takes names gives i k l t _ n found fits j u.1))
         | inr e ↦ inr (inr (may_give gives i n j), (e, refl))
       ]
 
@@ -261,14 +262,14 @@ module _ (p : Policy) (takes : Takes) (names : Names) (gives : Gives) (i : Instr
   nothing_asked : judged p names gives i [] ≡ Ok None
   nothing_asked = rw (f, no_receiver gives) refl
 
-  pub create_denied : (l : Bounds) (r : Reason) (v : Known) → known_given gives i ≡ Some v
-      → WantsRoom l.stack (length k.entries) r → IsDenied (and_then
+  pub create_errs : (l : Bounds) (r : Reason) (v : Known) → known_given gives i ≡ Some v
+      → WantsRoom l.stack (length k.entries) r → IsRefusedWith (and_then
       (learn p (Operates takes names gives) i k) (within l 0)) (record { reason = r; pair = None })
       ⊎ (MayOperate names gives × IsForMemory (record { reason = r; pair = None }))
-  create_denied l r v j s =
+  create_errs l r v j s =
       elim s [
         | inl u ↦ inl
             (rw u.0
-            (room_denied p takes names gives i k l _ None v nothing_taken nothing_asked j u.1))
+            (room_errs p takes names gives i k l _ None v nothing_taken nothing_asked j u.1))
         | inr m ↦ inr (inr (may_give gives i v j), (m, refl))
       ]

@@ -6,8 +6,8 @@ use Rattle.pkcheck.specs.declared.effect.Move.TheVariants.{Duplicates, Stores, F
 use Rattle.pkread.specs.declared.Reason.{Reason}
 use Rattle.pkcheck.specs.Shape.{Shape, Item, NoMemo, top, Breach, Entry, recalled, stored, moved}
 use Rattle.pkops.specs.Limits.{Bounds}
-use Rattle.pkcheck.specs.Private.Denials.{IsFault, IsFaultOf, MoveMayWantMemory, WantsRoom}
-use Rattle.pkcheck.specs.Private.Denials.{WantsMemo}
+use Rattle.pkcheck.specs.Private.StepErrors.{IsFault, IsFaultOf, MoveMayWantMemory, WantsRoom}
+use Rattle.pkcheck.specs.Private.StepErrors.{WantsMemo}
 
 -- one entry more than the limit allows
 pub grown : {A : Type 0} (b : Bounds) (n : ℕ) (x : Result (Shape A) Breach) (e : Entry A)

@@ -22,9 +22,9 @@ use Rattle.pkcheck.specs.declared.old_strings.OldStrings.{OldStrings}
 use Rattle.pkcheck.specs.Effects.{Operates, Raises, answers, effect_as, effect_of, is_old_string}
 use Rattle.pkcheck.specs.Effects.{pushes}
 use Rattle.pkcheck.specs.Knowledge.{Known, Knowledge, Policy, advance, known_given}
-use Rattle.pkcheck.specs.Private.Denials.{IsDenied, IsForMemory, MayWantMemory, WantsRoom}
-use Rattle.pkcheck.proofs.StepParts.GoesOn.{denied_by}
-use Rattle.pkcheck.proofs.StepParts.Judged.{create_denied}
+use Rattle.pkcheck.specs.Private.StepErrors.{IsRefusedWith, IsForMemory, MayWantMemory, WantsRoom}
+use Rattle.pkcheck.proofs.StepParts.GoesOn.{errs_by}
+use Rattle.pkcheck.proofs.StepParts.Judged.{create_errs}
 
 -- the effect of an action that decodes no old string
 pub of_action : (setting : OldStrings) (i : Instruction) (o : Op) (a b : Action) → o ≡ i.op
@@ -62,8 +62,8 @@ module _ (setting : OldStrings) (p : Policy) (l : Bounds) (i : Instruction) (k :
     (g : Gives) (v : Known) (e : effect_as setting i ≡ Operates (Objects 0) NoName g)
     (given : known_given g i ≡ Some v) where
   pub not_pushed : (r : Reason) → WantsRoom l.stack (length k.entries) r
-      → IsDenied (advance setting p l i k) (record { reason = r; pair = None })
+      → IsRefusedWith (advance setting p l i k) (record { reason = r; pair = None })
       ⊎ (MayWantMemory (effect_as setting i) × IsForMemory (record { reason = r; pair = None }))
-  not_pushed r w = denied_by setting p l i k (Operates (Objects 0) NoName g)
+  not_pushed r w = errs_by setting p l i k (Operates (Objects 0) NoName g)
       (record { reason = r; pair = None }) e
-      (create_denied p (Objects 0) NoName g i k refl refl l r v given w)
+      (create_errs p (Objects 0) NoName g i k refl refl l r v given w)

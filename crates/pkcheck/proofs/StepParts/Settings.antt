@@ -24,7 +24,7 @@ use Rattle.pkcheck.specs.Effects.{effect_of, is_old_string, pushes}
 use Rattle.pkops.specs.Limits.{Bounds}
 use Rattle.pkcheck.specs.Knowledge.{Asked, Knowledge, Policy, Progress, advance}
 use Rattle.pkcheck.specs.Memory.{WantsNoMemory}
-use Rattle.pkcheck.specs.Private.Denials.{MayWantMemory}
+use Rattle.pkcheck.specs.Private.StepErrors.{MayWantMemory}
 use Rattle.pkcheck.specs.Texts.{makes_text, texts_then}
 use Rattle.pkcheck.specs.View.{moved_as, stopped_by, texts_after}
 

@@ -11,7 +11,7 @@ use Rattle.pkcheck.specs.declared.machine.stepping.Moved.TheVariants.{On}
 use Rattle.pkcheck.specs.Effects.{effect_as, number_stored, pushes}
 use Rattle.pkcheck.specs.Shape.{and_then}
 use Rattle.pkcheck.specs.Knowledge.{Policy, TooLarge, learn, within}
-use Rattle.pkcheck.specs.Private.Denials.{WantsRoom, with_made}
+use Rattle.pkcheck.specs.Private.StepErrors.{WantsRoom, with_made}
 use Rattle.pkops.specs.Payloads.{is_passed}
 use Rattle.pkcheck.specs.Step.{FailsStep, GoesOn}
 use Rattle.pkcheck.specs.View.{View, moved_as, texts_after}

@@ -201,7 +201,7 @@ module _ (setting : OldStrings) (limits : Bounds) where
   -- ---- behind pickles
 
   -- some run of these pickles stops, and the next one begins in a covered state
-  record Row (ps : List (List Instruction)) (known : Knowledge) (s : State) : Type 0 where
+  record RunOfRow (ps : List (List Instruction)) (known : Knowledge) (s : State) : Type 0 where
     outcomes : List (List Outcome)
     can : All (All CanCome) outcomes
     new : RowObeys AnswersNew setting ps outcomes s
@@ -209,7 +209,7 @@ module _ (setting : OldStrings) (limits : Bounds) where
     runs : run_row setting ps outcomes s ≡ Some first
     covered : IsCovered known first
 
-  no_pickles : (known : Knowledge) (s : State) → IsCovered known s → Row [] known s
+  no_pickles : (known : Knowledge) (s : State) → IsCovered known s → RunOfRow [] known s
   no_pickles known s c = record {
     outcomes = [];
     can = All-nil (All CanCome);
@@ -221,11 +221,11 @@ module _ (setting : OldStrings) (limits : Bounds) where
 
   one_pickle : (p : List Instruction) (ps : List (List Instruction)) (last : Instruction)
       (k known : Knowledge) (s : State) → last.op ≡ op.Stop → Past p last k s
-      → ((t : State) → IsCovered (memo_of k) t → Row ps known t) → Row (p ∷ ps) known s
+      → ((t : State) → IsCovered (memo_of k) t → RunOfRow ps known t) → RunOfRow (p ∷ ps) known s
   one_pickle p ps last k known s stop a on = by_end a.ended a.runs a.comes (a.stops stop)
     where
       by_end : (x : Ended) → run_as setting p a.outcomes s ≡ x → Comes k x → IsStopped x
-          → Row (p ∷ ps) known s
+          → RunOfRow (p ∷ ps) known s
       by_end (EndedBy (Stopped r t)) e c h =
           let m = on (cleared t) (covers_cleared (Answered []) k t c) in
           record {
@@ -286,7 +286,7 @@ module _ (setting : OldStrings) (limits : Bounds) where
       same : sequences_of all ≡ sequences_of (done ++ ps)
       known : Knowledge
       begun : Begins setting None (begins Kept all) known
-      row : (s : State) → IsCovered k s → Row (sequences_of ps) known s
+      row : (s : State) → IsCovered k s → RunOfRow (sequences_of ps) known s
 
     begun_behind : (ps done like : List Pickle) (k : Knowledge) (old here : Sight)
         → AreAccepted kept_memo policy limits old here done ps
@@ -320,7 +320,7 @@ module _ (setting : OldStrings) (limits : Bounds) where
           same = m.same ∙ ap sequences_of (append_assoc done (p ∷ []) ps);
           known = m.known;
           begun = m.begun;
-          row = λ t c. subst (λ q. Row (q ∷ sequences_of ps) m.known t) is_p
+          row = λ t c. subst (λ q. RunOfRow (q ∷ sequences_of ps) m.known t) is_p
               (one_pickle h.instructions (sequences_of ps) s.1 y.known m.known t s.3
               (subst (λ q. Past q s.1 y.known t) (sym s.2)
               (past s.0 s.1 k y.known y.asked (stops_nowhere s.0 s.4)
@@ -337,7 +337,8 @@ module _ (setting : OldStrings) (limits : Bounds) where
       same_state s t e = cc
 
       -- the run of the pickles before, and then that of the instructions
-      joined : (before : List Pickle) (k known : Knowledge) (r : Row (sequences_of before) k start)
+      joined : (before : List Pickle) (k known : Knowledge)
+          (r : RunOfRow (sequences_of before) k start)
           → Past p last known r.first → InSomeNewRun setting (begins Kept before) p GetsPast
       joined [] k known r a =
           let b = subst (Past p last known) (same_state start r.first r.runs) a in

@@ -10,7 +10,7 @@ use Rattle.pkcheck.specs.declared.effect.Takes.{Takes}
 use Rattle.pkcheck.specs.declared.effect.Gives.{Gives}
 use Rattle.pkcheck.specs.Effects.{Effect, Operates, Moves, Stops, answers, effect_of}
 use Rattle.pkcheck.specs.Effects.{is_old_string, pushes}
-use Rattle.pkcheck.specs.Private.Denials.{IgnoresArgument, WellGiven}
+use Rattle.pkcheck.specs.Private.StepErrors.{IgnoresArgument, WellGiven}
 use Rattle.pkcheck.specs.Private.Spelled.{IsTextLayout}
 use Rattle.pkops.specs.Spelling.{layout_at}
 use Rattle.pkops.specs.declared.Layout.{Layout}

@@ -1,44 +1,45 @@
--- What an operation that may import a pair does to the stack and the ledger. It doesn't depend on
--- the memo.
+-- What an operation that may import a pair does to the stack and the import table. It doesn't
+-- depend on the memo.
 use Rattle.std.specs.Prelude.{ℕ, ◌≡◌, ◌≤◌, Bool, IfErr, IfOk, List, OnErr, OnOk, Option, Result}
 use Rattle.std.specs.Prelude.{length}
 use Rattle.std.specs.Borrow.{Bor}
-use Rattle.pkcheck.specs.declared.machine.operate.Denial.{Denial}
+use Rattle.pkcheck.specs.declared.machine.operate.StepError.{StepError}
 use Rattle.pkcheck.specs.declared.machine.value.Value.{Value}
 use Rattle.pkcheck.specs.Effects.{Effect}
 use Rattle.pkcheck.specs.Knowledge.{Known, Knowledge, Policy, learn}
 use Rattle.pkcheck.specs.Private.Steps.{IsStepFault}
-use Rattle.pkcheck.specs.Private.Denials.{Proceeds, pair_denied}
+use Rattle.pkcheck.specs.Private.StepErrors.{Proceeds, pair_of_error}
 use Rattle.pkcheck.specs.Private.Noted.{Noted, Spells}
 use Rattle.pkcheck.specs.Private.Slots.{Sees, seen}
 use Rattle.pkcheck.specs.Shape.{Entry}
 use Rattle.pkops.specs.Limits.{Bounds}
 use Rattle.pkops.specs.Spelling.{Instruction}
 
--- the entries of the stack, and the ledger
-pub record Piled : Type 0 where
+-- the entries of the stack, and the import table
+pub record StackAndTable : Type 0 where
   pub entries : List (Entry Value)
-  pub ledger : Noted
+  pub table : Noted
 
--- the entries refer only to texts in the ledger
-abbrev pub AreSeen : Piled → Type 0
-AreSeen here = Sees here.ledger.texts here.entries (seen here.ledger.texts here.entries)
+-- the entries refer only to texts in the table
+abbrev pub AreSeen : StackAndTable → Type 0
+AreSeen here = Sees here.table.texts here.entries (seen here.table.texts here.entries)
 
 -- what is known, with this memo
-abbrev pub known_with : List (ℕ × Known) → Piled → Knowledge
-known_with memo here = record { entries = seen here.ledger.texts here.entries; memo = memo }
+abbrev pub known_with : List (ℕ × Known) → StackAndTable → Knowledge
+known_with memo here = record { entries = seen here.table.texts here.entries; memo = memo }
 
--- what the operation answers, and what it does to the stack and the ledger, for every instruction
+-- what the operation answers, and what it does to the stack and the table, for every instruction
 -- that spells these names
 pub record HasImported (p : Policy) (limits : Bounds) (e : Effect)
-    (names : Option (Bor (List ℕ) × Bor (List ℕ))) (old new : Piled)
-    (answer : Result Bool Denial) : Type 0 where
+    (names : Option (Bor (List ℕ) × Bor (List ℕ))) (old new : StackAndTable)
+    (answer : Result Bool StepError) : Type 0 where
   pub ok : (i : Instruction) → Spells names i → (memo : List (ℕ × Known))
       → IfOk answer (Proceeds (learn p e i (known_with memo old)) (known_with memo new)
-      old.ledger.asked new.ledger.asked)
+      old.table.asked new.table.asked)
   pub sees : OnOk answer (AreSeen new)
-  pub texts : new.ledger.texts ≡ old.ledger.texts
+  pub texts : new.table.texts ≡ old.table.texts
   pub room : OnOk answer (length new.entries ≤ limits.stack)
-  pub kept : OnErr answer ((new.entries ≡ old.entries) × (new.ledger ≡ old.ledger))
+  pub kept : OnErr answer ((new.entries ≡ old.entries) × (new.table ≡ old.table))
   pub err : (i : Instruction) → Spells names i → (memo : List (ℕ × Known))
-      → IfErr answer (λ d. IsStepFault p limits e i (known_with memo old) d.reason (pair_denied d))
+      → IfErr answer (λ d. IsStepFault p limits e i (known_with memo old) d.reason
+      (pair_of_error d))

@@ -10,7 +10,7 @@ use Rattle.pkops.specs.Limits.{Bounds}
 use Rattle.pkcheck.specs.Shape.{Entry}
 use Rattle.pkcheck.specs.Knowledge.{Asked, Known, Policy, learn}
 use Rattle.pkcheck.specs.Private.Steps.{IsStepFault}
-use Rattle.pkcheck.specs.Private.Denials.{Proceeds}
+use Rattle.pkcheck.specs.Private.StepErrors.{Proceeds}
 use Rattle.pkcheck.specs.Private.Slots.{Sees, seen}
 
 -- the effect turns the old entries into the new, and lists no import

@@ -6,7 +6,7 @@ use Rattle.pkread.specs.Core.{CoreView}
 use Rattle.pkread.specs.ReaderCalls.{KeepsSource, ReaderState, state}
 use Rattle.pkread.specs.declared.Refusal.{Refusal}
 use Rattle.pkread.specs.declared.reader.Reader.{Reader}
-use Rattle.pkcheck.specs.declared.row_of_pickles.Row.{Row}
+use Rattle.pkcheck.specs.declared.row_of_pickles.PickleRow.{PickleRow}
 use Rattle.pkcheck.specs.Private.Judgement.{SessionView}
 use Rattle.pkcheck.specs.declared.loading.Memo.{Memo}
 use Rattle.pkcheck.specs.declared.loading.Memo.TheVariants.{Fresh, Kept}
@@ -39,8 +39,8 @@ listed_in Fresh apart own = apart
 listed_in Kept apart own = own
 
 -- one more pickle is counted, and its imports are moved outside the machine, if they are
-pub record IsCounted (old : Row) (imports : List Asked) (new : Row) (answer : Result Bool Refusal)
-    : Type 0 where
+pub record IsCounted (old : PickleRow) (imports : List Asked) (new : PickleRow)
+    (answer : Result Bool Refusal) : Type 0 where
   pub memo : new.memo ≡ old.memo
   pub number : new.pickles ≡ old.pickles + 1
   pub apart : OnOk answer (new.apart.asked ≡ moved_apart old.memo old.apart.asked imports)

@@ -1,4 +1,4 @@
--- What a ledger holds: the texts that a pickle made, and the imports that it requested.
+-- What an import table holds: the texts that a pickle made, and the imports that it requested.
 use Rattle.std.specs.Prelude.{ℕ, ◌<◌, List, [], ◌∷◌, Option, Some, None, get_or, length, ◌≡◌, ⊤}
 use Rattle.std.specs.Borrow.{Bor}
 use Rattle.std.specs.Option.{option_map}
@@ -6,8 +6,8 @@ use Rattle.pkops.specs.Operands.{pair_named}
 use Rattle.pkops.specs.Spelling.{Instruction}
 use Rattle.pkcheck.specs.declared.import.Named.{Named}
 use Rattle.pkcheck.specs.declared.import.Named.TheVariants as named
-use Rattle.pkcheck.specs.declared.machine.ledger.Entry.{Entry}
-use Rattle.pkcheck.specs.declared.machine.ledger.Entry.TheVariants as entry
+use Rattle.pkcheck.specs.declared.machine.import_table.ListedImport.{ListedImport}
+use Rattle.pkcheck.specs.declared.machine.import_table.ListedImport.TheVariants as entry
 use Rattle.pkcheck.specs.declared.machine.value.Value.{Value}
 use Rattle.pkcheck.specs.Knowledge.{Asked, AskedPair, AskedUnknown}
 use Rattle.pkcheck.specs.Private.Slots.{HasMoreTexts, IsNumbered}
@@ -34,19 +34,19 @@ IsNamedIf count (Some name) = IsNamed count name
 IsNamedIf count None = ⊤
 
 -- the import of an entry, given the texts and the names written beside them
-abbrev pub entry_asked : List (List ℕ) → List (List ℕ) → Entry → Asked
+abbrev pub entry_asked : List (List ℕ) → List (List ℕ) → ListedImport → Asked
 entry_asked ts ws entry.Unknown = AskedUnknown
 entry_asked ts ws (entry.Made m n) = AskedPair (get_or ts m []) (get_or ts n [])
 entry_asked ts ws (entry.Written m n) = AskedPair (get_or ws m []) (get_or ws n [])
 
 -- the entry refers only to the first `made` texts and the first `written` names
-abbrev pub IsEntry : ℕ → ℕ → Entry → Type 0
+abbrev pub IsEntry : ℕ → ℕ → ListedImport → Type 0
 IsEntry made written entry.Unknown = ⊤
 IsEntry made written (entry.Made m n) = (m < made) × (n < made)
 IsEntry made written (entry.Written m n) = (m < written) × (n < written)
 
 -- all entries refer only to these
-abbrev pub AreEntries : ℕ → ℕ → List Entry → Type 0
+abbrev pub AreEntries : ℕ → ℕ → List ListedImport → Type 0
 AreEntries made written [] = ⊤
 AreEntries made written (e ∷ es) = IsEntry made written e × AreEntries made written es
 

@@ -108,7 +108,7 @@ module _ (ts : List (List ℕ)) where
   Resolves h = Alike StandsAs h (resolved h)
 
 -- the knowledge, the number of texts in the table, and the imports so far
-pub record Holding : Type 0 where
+pub record StateView : Type 0 where
   pub knowledge : Knowledge
   pub texts : ℕ
   pub imports : List Asked

@@ -2,12 +2,12 @@
 use Rattle.std.specs.Prelude.{◌≡◌, ◌⊎◌, IfErr, None, OnErr, OnOk, Option, Result, true}
 use Rattle.pkcheck.specs.declared.machine.stepping.Moved.{Moved}
 use Rattle.pkcheck.specs.declared.machine.stepping.Moved.TheVariants.{On}
-use Rattle.pkcheck.specs.declared.machine.terms.Terms.{Terms}
+use Rattle.pkcheck.specs.declared.machine.config.MachineConfig.{MachineConfig}
 use Rattle.pkcheck.specs.Effects.{Effect, effect_as, is_old_string, number_stored}
 use Rattle.pkcheck.specs.Knowledge.{Asked, Knowledge, Policy, Progress, Refusal, learn, within}
-use Rattle.pkcheck.specs.Private.Denials.{FitsLimits, GoesTo, IsRefusedFor, IsWantOfMemory}
-use Rattle.pkcheck.specs.Private.Denials.{MayWantMemory}
-use Rattle.pkcheck.specs.Private.Slots.{Holding}
+use Rattle.pkcheck.specs.Private.StepErrors.{FitsLimits, GoesTo, IsRefusedFor, IsWantOfMemory}
+use Rattle.pkcheck.specs.Private.StepErrors.{MayWantMemory}
+use Rattle.pkcheck.specs.Private.Slots.{StateView}
 use Rattle.pkcheck.specs.Private.Spelled.{IsSpelled}
 use Rattle.pkcheck.specs.Shape.{and_then}
 use Rattle.pkcheck.specs.View.{texts_after}
@@ -20,7 +20,7 @@ abbrev pub learned : Policy → Bounds → Effect → Instruction → Knowledge 
 learned p limits e i known = and_then (learn p e i known) (within limits (number_stored e i))
 
 -- the step leads from `old` to `new`, and reports this
-abbrev pub LeadsTo : Policy → Bounds → Effect → Instruction → Holding → Holding → Moved → Type 0
+abbrev pub LeadsTo : Policy → Bounds → Effect → Instruction → StateView → StateView → Moved → Type 0
 LeadsTo p limits e i old new moved =
     GoesTo e (learned p limits e i old.knowledge) new.knowledge old.imports new.imports moved
 
@@ -31,27 +31,27 @@ IsStepFault p limits e i known r pair =
     IsRefusedFor (learned p limits e i known) r pair
     ⊎ (MayWantMemory e × IsWantOfMemory r pair)
 
--- under these terms
-module _ (terms : Terms) (p : Policy) (i : Instruction) where
+-- under this configuration
+module _ (config : MachineConfig) (p : Policy) (i : Instruction) where
   -- like LeadsTo
-  abbrev pub Advances : Holding → Holding → Moved → Type 0
+  abbrev pub Advances : StateView → StateView → Moved → Type 0
   Advances old new moved =
-      LeadsTo p terms.limits (effect_as terms.old_strings i) i old new moved
+      LeadsTo p config.limits (effect_as config.old_strings i) i old new moved
 
   -- like IsStepFault
   abbrev pub IsAdvanceFault : Knowledge → Reason → Option Asked → Type 0
   IsAdvanceFault known r pair =
-      IsStepFault p terms.limits (effect_as terms.old_strings i) i known r pair
+      IsStepFault p config.limits (effect_as config.old_strings i) i known r pair
 
 -- an old string, with an argument that spells one
 abbrev pub IsOldString : Instruction → Type 0
 IsOldString i = (is_old_string i.op ≡ true) × IsSpelled i.arg
 
 -- what the step of an old string answers, and what it does, whatever the policy
-pub record HasReadOldString {A : Type 0} (terms : Terms) (i : Instruction) (old new : Holding)
-    (answer : Result A Reason) : Type 0 where
-  pub ok : (p : Policy) → OnOk answer (Advances terms p i old new On)
-  pub room : OnOk answer (FitsLimits terms.limits new.knowledge)
-  pub texts : OnOk answer (new.texts ≡ texts_after (effect_as terms.old_strings i) old.texts)
+pub record HasReadOldString {A : Type 0} (config : MachineConfig) (i : Instruction)
+    (old new : StateView) (answer : Result A Reason) : Type 0 where
+  pub ok : (p : Policy) → OnOk answer (Advances config p i old new On)
+  pub room : OnOk answer (FitsLimits config.limits new.knowledge)
+  pub texts : OnOk answer (new.texts ≡ texts_after (effect_as config.old_strings i) old.texts)
   pub kept : OnErr answer (new ≡ old)
-  pub err : (p : Policy) → IfErr answer (λ r. IsAdvanceFault terms p i old.knowledge r None)
+  pub err : (p : Policy) → IfErr answer (λ r. IsAdvanceFault config p i old.knowledge r None)

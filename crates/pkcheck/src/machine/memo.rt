@@ -1,21 +1,26 @@
 //! The memo: what is known about the objects stored under numbers.
 
-ghost use Rattle.pkcheck.specs.Private.Denials.{WantsMemo};
+ghost use Rattle.pkcheck.specs.Private.StepErrors.{WantsMemo};
 ghost use Rattle.pkcheck.specs.Shape.{stored};
 ghost use Rattle.std.specs.Prelude.{◌≡◌, ◌≤◌, length, IfErr, OnOk};
 
-use crate::machine::packed::Packed;
+use crate::machine::packed::PackedValue;
 use pkbase::NumberedMap;
 use pkops::Limits;
 use pkread::Reason;
 
 /// What is known about the stored objects, by number.
-pub type Memo = NumberedMap<Packed>;
+pub type MemoTable = NumberedMap<PackedValue>;
 
 /// Stores what is known under a number, if the limit leaves room. Most numbers are the next in
 /// order.
 #[inline(always)]
-pub fn store(memo: &mut Memo, limits: &Limits, number: u64, value: Packed) -> Result<(), Reason>
+pub fn store(
+    memo: &mut MemoTable,
+    limits: &Limits,
+    number: u64,
+    value: PackedValue,
+) -> Result<(), Reason>
     requires { length memo.old ≤ limits.now.memo }
     ensures ok { OnOk result (memo.new ≡ stored number value memo.old) }
     ensures room { OnOk result (length memo.new ≤ limits.now.memo) }
@@ -34,7 +39,12 @@ pub fn store(memo: &mut Memo, limits: &Limits, number: u64, value: Packed) -> Re
 /// Like `store`, for a number that is not the next in order. The separate call gives its result a
 /// stack slot only on this path.
 #[inline(always)]
-fn store_other(memo: &mut Memo, limits: &Limits, number: u64, value: Packed) -> Result<(), Reason>
+fn store_other(
+    memo: &mut MemoTable,
+    limits: &Limits,
+    number: u64,
+    value: PackedValue,
+) -> Result<(), Reason>
     requires { length memo.old ≤ limits.now.memo }
     ensures ok { OnOk result (memo.new ≡ stored number value memo.old) }
     ensures room { OnOk result (length memo.new ≤ limits.now.memo) }
@@ -48,10 +58,10 @@ fn store_other(memo: &mut Memo, limits: &Limits, number: u64, value: Packed) -> 
 /// Like `store`, for a number that is not the next in order. Out of line.
 #[inline(never)]
 fn store_other_slowly(
-    memo: &mut Memo,
+    memo: &mut MemoTable,
     limits: &Limits,
     number: u64,
-    value: Packed,
+    value: PackedValue,
 ) -> Result<(), Reason>
     requires { length memo.old ≤ limits.now.memo }
     ensures ok { OnOk result (memo.new ≡ stored number value memo.old) }
@@ -73,7 +83,7 @@ fn store_other_slowly(
 
 /// Stores what is known under a number, whatever the limit is.
 #[inline(always)]
-fn put(memo: &mut Memo, number: u64, value: Packed) -> Result<(), Reason>
+fn put(memo: &mut MemoTable, number: u64, value: PackedValue) -> Result<(), Reason>
     ensures ok { OnOk result (memo.new ≡ stored number value memo.old) }
     ensures err { IfErr result (λ r. (memo.new ≡ memo.old) × (r ≡ Reason.OutOfMemory)) }
 {

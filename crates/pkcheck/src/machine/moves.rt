@@ -1,13 +1,13 @@
 //! The moves: effects that look at no object.
 ghost use Rattle.pkcheck.specs.Effects.{number_moved};
-ghost use Rattle.pkcheck.specs.Private.Denials.{IsFault, IsFaultOf};
+ghost use Rattle.pkcheck.specs.Private.StepErrors.{IsFault, IsFaultOf};
 ghost use Rattle.pkcheck.specs.Shape.{moved, slice, Entry, NoMark};
 ghost use Rattle.pkops.specs.Inst.{instruction_of};
 ghost use Rattle.pkops.specs.Operands.{memo_number};
 ghost use Rattle.std.specs.Prelude.{◌≡◌, ◌≤◌, ◌∷◌, [], ℕ, List, length, IfErr, OnOk};
 
 use crate::effect::Move;
-use crate::machine::memo::{Memo, store};
+use crate::machine::memo::{MemoTable, store};
 use crate::machine::stack::Stack;
 use crate::machine::value::Value;
 use pkops::{Inst, Limits};
@@ -30,7 +30,12 @@ pub fn duplicate(stack: &mut Stack, limits: &Limits) -> Result<(), Reason>
 
 /// Stores the top of the stack under a number.
 #[inline(always)]
-pub fn remember(stack: &Stack, memo: &mut Memo, limits: &Limits, number: u64) -> Result<(), Reason>
+pub fn remember(
+    stack: &Stack,
+    memo: &mut MemoTable,
+    limits: &Limits,
+    number: u64,
+) -> Result<(), Reason>
     requires { length memo.old ≤ limits.now.memo }
     ensures ok { OnOk result (moved Move.Stores number
         (record { entries = stack.now; memo = memo.old })
@@ -46,7 +51,12 @@ pub fn remember(stack: &Stack, memo: &mut Memo, limits: &Limits, number: u64) ->
 
 /// Like `remember`, but refuses a number above the limit.
 #[inline(always)]
-fn remember_at(stack: &Stack, memo: &mut Memo, limits: &Limits, number: u32) -> Result<(), Reason>
+fn remember_at(
+    stack: &Stack,
+    memo: &mut MemoTable,
+    limits: &Limits,
+    number: u32,
+) -> Result<(), Reason>
     requires { length memo.old ≤ limits.now.memo }
     ensures ok { OnOk result (moved Move.Stores number
         (record { entries = stack.now; memo = memo.old })
@@ -66,7 +76,12 @@ fn remember_at(stack: &Stack, memo: &mut Memo, limits: &Limits, number: u32) -> 
 
 /// Pushes the object stored under a number.
 #[inline(always)]
-pub fn recall(stack: &mut Stack, memo: &Memo, limits: &Limits, number: u32) -> Result<(), Reason>
+pub fn recall(
+    stack: &mut Stack,
+    memo: &MemoTable,
+    limits: &Limits,
+    number: u32,
+) -> Result<(), Reason>
     ensures ok { OnOk result (moved Move.Fetches number
         (record { entries = stack.old; memo = memo.now })
         ≡ Ok (record { entries = stack.new; memo = memo.now })) }
@@ -118,7 +133,7 @@ fn pop_mark(stack: &mut Stack) -> Result<(), Reason>
 #[inline(always)]
 pub fn apply(
     stack: &mut Stack,
-    memo: &mut Memo,
+    memo: &mut MemoTable,
     limits: &Limits,
     what: Move,
     inst: &Inst<'_>,

@@ -10,10 +10,10 @@ ghost use Rattle.pkcheck.specs.Private.NewTexts.{HasPushedText};
 ghost use Rattle.pkcheck.specs.Private.Spelled.{IsSpelled};
 ghost use Rattle.pkcheck.specs.Runs.{text};
 
-use crate::machine::ledger::Ledger;
-use crate::machine::packed::Packed;
+use crate::machine::config::MachineConfig;
+use crate::machine::import_table::ImportTable;
+use crate::machine::packed::PackedValue;
 use crate::machine::stack::Stack;
-use crate::machine::terms::Terms;
 use crate::machine::texts::text_spelled;
 use pkops::laws::{plain_line_is_text, text_is_named};
 use pkops::{Arg, Inst, Limits, Op, is_ascii, spells_itself};
@@ -23,22 +23,22 @@ use pkread::Reason;
 #[inline(never)]
 fn name_text(
     stack: &mut Stack,
-    ledger: &mut Ledger,
+    table: &mut ImportTable,
     limits: &Limits,
     text: &[u8],
 ) -> Result<(), Reason>
     requires utf8 { IsUtf8 text.now }
-    requires sees { AreSeen (record { entries = stack.old; ledger = ledger.old }) }
+    requires sees { AreSeen (record { entries = stack.old; table = table.old }) }
     ensures { HasPushedText limits.now.stack text.now
-        (record { entries = stack.old; ledger = ledger.old })
-        (record { entries = stack.new; ledger = ledger.new }) result }
+        (record { entries = stack.old; table = table.old })
+        (record { entries = stack.new; table = table.new }) result }
 {
     let place = stack.len();
-    let Some(value) = Packed::text(ledger.texts()) else {
+    let Some(value) = PackedValue::text(table.texts()) else {
         return Err(Reason::OutOfMemory);
     };
     stack.push(limits, value)?;
-    let Ok(()) = ledger.add_text(text) else {
+    let Ok(()) = table.add_text(text) else {
         stack.truncate(place);
         return Err(Reason::OutOfMemory);
     };
@@ -50,21 +50,21 @@ fn name_text(
 #[inline(never)]
 fn name_payload(
     stack: &mut Stack,
-    ledger: &mut Ledger,
-    terms: &Terms,
+    table: &mut ImportTable,
+    config: &MachineConfig,
     op: Op,
     payload: &[u8],
 ) -> Result<(), Reason>
     requires good { IsGood (instruction op (Counted payload.now)) }
-    requires sees { AreSeen (record { entries = stack.old; ledger = ledger.old }) }
-    ensures { HasPushedText terms.now.limits.stack (text (instruction op (Counted payload.now)))
-        (record { entries = stack.old; ledger = ledger.old })
-        (record { entries = stack.new; ledger = ledger.new }) result }
+    requires sees { AreSeen (record { entries = stack.old; table = table.old }) }
+    ensures { HasPushedText config.now.limits.stack (text (instruction op (Counted payload.now)))
+        (record { entries = stack.old; table = table.old })
+        (record { entries = stack.new; table = table.new }) result }
 {
     if is_old_text(op, payload) {
-        return name_text(stack, ledger, &terms.limits, payload);
+        return name_text(stack, table, &config.limits, payload);
     }
-    name_payload_slowly(stack, ledger, terms, op, payload)
+    name_payload_slowly(stack, table, config, op, payload)
 }
 
 /// Whether the payload is a Python 2 string and the text itself.
@@ -84,41 +84,41 @@ fn is_old_text(op: Op, payload: &[u8]) -> bool
 #[inline(never)]
 fn name_payload_slowly(
     stack: &mut Stack,
-    ledger: &mut Ledger,
-    terms: &Terms,
+    table: &mut ImportTable,
+    config: &MachineConfig,
     op: Op,
     payload: &[u8],
 ) -> Result<(), Reason>
     requires good { IsGood (instruction op (Counted payload.now)) }
-    requires sees { AreSeen (record { entries = stack.old; ledger = ledger.old }) }
-    ensures { HasPushedText terms.now.limits.stack (text (instruction op (Counted payload.now)))
-        (record { entries = stack.old; ledger = ledger.old })
-        (record { entries = stack.new; ledger = ledger.new }) result }
+    requires sees { AreSeen (record { entries = stack.old; table = table.old }) }
+    ensures { HasPushedText config.now.limits.stack (text (instruction op (Counted payload.now)))
+        (record { entries = stack.old; table = table.old })
+        (record { entries = stack.new; table = table.new }) result }
 {
     let inst = Inst::known(op, Arg::Counted(payload));
-    let text = text_spelled(terms.alloc, &inst)?;
-    name_text(stack, ledger, &terms.limits, text.as_bytes())
+    let text = text_spelled(config.alloc, &inst)?;
+    name_text(stack, table, &config.limits, text.as_bytes())
 }
 
 /// Like `name_text`, for an opcode and its line. See `name_payload`.
 #[inline(never)]
 fn name_line(
     stack: &mut Stack,
-    ledger: &mut Ledger,
-    terms: &Terms,
+    table: &mut ImportTable,
+    config: &MachineConfig,
     op: Op,
     line: &[u8],
 ) -> Result<(), Reason>
     requires good { IsGood (instruction op (Line line.now)) }
-    requires sees { AreSeen (record { entries = stack.old; ledger = ledger.old }) }
-    ensures { HasPushedText terms.now.limits.stack (text (instruction op (Line line.now)))
-        (record { entries = stack.old; ledger = ledger.old })
-        (record { entries = stack.new; ledger = ledger.new }) result }
+    requires sees { AreSeen (record { entries = stack.old; table = table.old }) }
+    ensures { HasPushedText config.now.limits.stack (text (instruction op (Line line.now)))
+        (record { entries = stack.old; table = table.old })
+        (record { entries = stack.new; table = table.new }) result }
 {
     if is_text(op, line) {
-        return name_text(stack, ledger, &terms.limits, line);
+        return name_text(stack, table, &config.limits, line);
     }
-    name_line_slowly(stack, ledger, terms, op, line)
+    name_line_slowly(stack, table, config, op, line)
 }
 
 /// Whether the line is the text itself and needs no decoding.
@@ -139,47 +139,47 @@ fn is_text(op: Op, line: &[u8]) -> bool
 #[inline(never)]
 fn name_line_slowly(
     stack: &mut Stack,
-    ledger: &mut Ledger,
-    terms: &Terms,
+    table: &mut ImportTable,
+    config: &MachineConfig,
     op: Op,
     line: &[u8],
 ) -> Result<(), Reason>
     requires good { IsGood (instruction op (Line line.now)) }
-    requires sees { AreSeen (record { entries = stack.old; ledger = ledger.old }) }
-    ensures { HasPushedText terms.now.limits.stack (text (instruction op (Line line.now)))
-        (record { entries = stack.old; ledger = ledger.old })
-        (record { entries = stack.new; ledger = ledger.new }) result }
+    requires sees { AreSeen (record { entries = stack.old; table = table.old }) }
+    ensures { HasPushedText config.now.limits.stack (text (instruction op (Line line.now)))
+        (record { entries = stack.old; table = table.old })
+        (record { entries = stack.new; table = table.new }) result }
 {
     let inst = Inst::known(op, Arg::Line(line));
-    let text = text_spelled(terms.alloc, &inst)?;
-    name_text(stack, ledger, &terms.limits, text.as_bytes())
+    let text = text_spelled(config.alloc, &inst)?;
+    name_text(stack, table, &config.limits, text.as_bytes())
 }
 
 /// Adds the text of an instruction to the table, and pushes its number.
 #[inline(always)]
 pub fn make_text(
     stack: &mut Stack,
-    ledger: &mut Ledger,
-    terms: &Terms,
+    table: &mut ImportTable,
+    config: &MachineConfig,
     inst: &Inst<'_>,
 ) -> Result<(), Reason>
     requires spells { IsSpelled (instruction_of inst.now).arg }
-    requires sees { AreSeen (record { entries = stack.old; ledger = ledger.old }) }
-    ensures { HasPushedText terms.now.limits.stack (text (instruction_of inst.now))
-        (record { entries = stack.old; ledger = ledger.old })
-        (record { entries = stack.new; ledger = ledger.new }) result }
+    requires sees { AreSeen (record { entries = stack.old; table = table.old }) }
+    ensures { HasPushedText config.now.limits.stack (text (instruction_of inst.now))
+        (record { entries = stack.old; table = table.old })
+        (record { entries = stack.new; table = table.new }) result }
 {
     match inst.arg() {
         Arg::Counted(payload) if holds_utf8(inst.op()) => {
-            name_text(stack, ledger, &terms.limits, payload)?;
+            name_text(stack, table, &config.limits, payload)?;
             Ok(())
         }
         Arg::Counted(payload) => {
-            name_payload(stack, ledger, terms, inst.op(), payload)?;
+            name_payload(stack, table, config, inst.op(), payload)?;
             Ok(())
         }
         Arg::Line(line) => {
-            name_line(stack, ledger, terms, inst.op(), line)?;
+            name_line(stack, table, config, inst.op(), line)?;
             Ok(())
         }
         _ => unreachable!(),

@@ -20,19 +20,19 @@ use pkread::Reason;
 /// Why a step is refused, and the pair if it is off the list. The pair is boxed, which keeps the
 /// result of a step small. Few steps are refused.
 #[derive(Drop)]
-pub struct Denial {
+pub struct StepError {
     pub reason: Reason,
     pub pair: Option<Box<Asked>>,
 }
 
-impl From<Reason> for Denial {
+impl From<Reason> for StepError {
     ghost use Rattle.std.specs.Prelude.{◌≡◌, None};
 
-    ghost from_gives = { λ reason denial. denial ≡ record { reason = reason; pair = None } };
+    ghost from_gives = { λ reason error. error ≡ record { reason = reason; pair = None } };
 
     #[inline]
-    fn from(reason: Reason) -> Denial {
-        Denial { reason, pair: None }
+    fn from(reason: Reason) -> StepError {
+        StepError { reason, pair: None }
     }
 }
 

@@ -9,11 +9,11 @@ use std::marker::Model;
 /// A `Value` in four bytes. Stack and memo have an entry for each object of a pickle, so their size
 /// decides how many pages they touch.
 #[derive(Clone, Copy)]
-pub struct Packed {
+pub struct PackedValue {
     code: u32,
 }
 
-impl Model for Packed {
+impl Model for PackedValue {
     ghost use Rattle.std.proofs.Common.{ap};
     ghost use Rattle.pkcheck.specs.Private.Packed.{packed, packed_unpacked, unpacked};
     ghost use Rattle.pkcheck.specs.declared.machine.value.Value.{Value as Object};
@@ -30,34 +30,34 @@ impl Model for Packed {
 /// The number of codes that aren't texts.
 const PLAIN: u32 = 12;
 
-impl Packed {
+impl PackedValue {
     /// An object about which nothing is known.
     #[inline(always)]
-    pub fn unknown() -> Packed
+    pub fn unknown() -> PackedValue
         ensures { result ≡ Value.Unknown }
     {
-        Packed { code: 0 }
+        PackedValue { code: 0 }
     }
 
     /// An object of a class, which the machine made.
     #[inline(always)]
-    pub fn made(class: Class) -> Packed
+    pub fn made(class: Class) -> PackedValue
         ensures { result ≡ Value.Made class }
     {
-        Packed {
+        PackedValue {
             code: class as u32 + 1,
         }
     }
 
     /// The text with this number; `None` if it has no code.
     #[inline(always)]
-    pub fn text(number: usize) -> Option<Packed>
+    pub fn text(number: usize) -> Option<PackedValue>
         ensures { IfSome result (λ packed. packed ≡ Value.Text number) }
     {
         if number > (u32::MAX - PLAIN) as usize {
             return None;
         }
-        Some(Packed {
+        Some(PackedValue {
             code: number as u32 + PLAIN,
         })
     }

@@ -1,5 +1,5 @@
 //! The stack: marks, and what is known about objects.
-ghost use Rattle.pkcheck.specs.Private.Denials.{HasFirst, IsLack, WantsRoom};
+ghost use Rattle.pkcheck.specs.Private.StepErrors.{HasFirst, IsLack, WantsRoom};
 ghost use Rattle.pkcheck.specs.Private.Places.{ItemsFrom, Replaced, above, below};
 ghost use Rattle.pkcheck.specs.Shape.{Entry, Mark, Item, NoMark, front, marks_of, operands, slice};
 ghost use Rattle.pkcheck.specs.Shape.{top};
@@ -10,13 +10,13 @@ mod operands;
 mod slots;
 
 use crate::effect::Takes;
-use crate::machine::packed::Packed;
+use crate::machine::packed::PackedValue;
 use crate::machine::value::Value;
 pub use operands::Operands;
 use pkbase::StackVec;
 use pkops::Limits;
 use pkread::Reason;
-pub use slots::Found;
+pub use slots::OperandsStart;
 use slots::{
     Slot, few_objects, mark_place, marks_below, one_object, place_of, put_on_top, top, two_objects,
 };
@@ -89,7 +89,7 @@ impl Stack {
 
     /// What is known about the top.
     #[inline(always)]
-    pub fn top(&self) -> Result<Packed, Reason>
+    pub fn top(&self) -> Result<PackedValue, Reason>
         ensures ok { IfOk result (λ v. top self.now ≡ Ok (v, drop 1 self.now)) }
         ensures err { IfErr result (λ r. IsLack (top self.now) r) }
     {
@@ -101,7 +101,7 @@ impl Stack {
 
     /// The place where an operation's operands begin.
     #[inline(always)]
-    pub fn find(&self, takes: Takes) -> Result<Found, Reason>
+    pub fn find(&self, takes: Takes) -> Result<OperandsStart, Reason>
         ensures within { IfOk result (λ f. f.place ≤ length self.now) }
         ensures ok { IfOk result (λ f. operands takes self.now ≡ Ok (record {
           operands = above f.place self.now;
@@ -172,7 +172,7 @@ impl Stack {
     /// Pushes an object, if the limit leaves room.
     #[inline(always)]
     #[tactic(auto, using(crate::proofs::Limited::length_shown, crate::proofs::Shown::shown_append))]
-    pub fn push(&mut self, limits: &Limits, value: Packed) -> Result<(), Reason>
+    pub fn push(&mut self, limits: &Limits, value: PackedValue) -> Result<(), Reason>
         ensures ok { OnOk result (self.new ≡ Item value ∷ self.old) }
         ensures room { OnOk result (length self.new ≤ limits.now.stack) }
         ensures err { IfErr result (λ r. (self.new ≡ self.old)
@@ -191,7 +191,7 @@ impl Stack {
     /// limit.
     #[inline(always)]
     #[tactic(auto, using(crate::proofs::Limited::length_shown, crate::proofs::Shown::shown_append))]
-    fn push_object(&mut self, value: Packed) -> Result<(), Reason>
+    fn push_object(&mut self, value: PackedValue) -> Result<(), Reason>
         ensures ok { OnOk result (self.new ≡ Item value ∷ self.old) }
         ensures err { IfErr result (λ r. (self.new ≡ self.old) × (r ≡ Reason.OutOfMemory)) }
     {
@@ -264,7 +264,7 @@ impl Stack {
         limits: &Limits,
         place: usize,
         marks: usize,
-        value: Packed,
+        value: PackedValue,
     ) -> Result<(), Reason>
         requires at { place ≤ length self.old }
         requires marks { marks ≡ marks_of (below place self.old) }
@@ -287,7 +287,7 @@ impl Stack {
     /// Replaces the topmost object with another one. Returns false and changes nothing if there is
     /// none. It looks at its entry, which is faster than `find`.
     #[inline(always)]
-    pub fn replace_one(&mut self, value: Packed) -> bool
+    pub fn replace_one(&mut self, value: PackedValue) -> bool
         ensures done { result ≡ true → Replaced 1 value self.old self.new }
         ensures kept { result ≡ false → self.new ≡ self.old }
     {
@@ -301,7 +301,7 @@ impl Stack {
 
     /// Like `replace_one`, for the topmost two objects.
     #[inline(always)]
-    pub fn replace_two(&mut self, value: Packed) -> bool
+    pub fn replace_two(&mut self, value: PackedValue) -> bool
         ensures done { result ≡ true → Replaced 2 value self.old self.new }
         ensures kept { result ≡ false → self.new ≡ self.old }
     {
@@ -315,7 +315,7 @@ impl Stack {
 
     /// Replaces one or more entries, all those from a place on, with one object.
     #[inline(always)]
-    fn replace_all(&mut self, place: usize, marks: usize, value: Packed)
+    fn replace_all(&mut self, place: usize, marks: usize, value: PackedValue)
         requires at { place < length self.old }
         requires marks { marks ≡ marks_of (below place self.old) }
         ensures { self.new ≡ Item value ∷ below place self.old }

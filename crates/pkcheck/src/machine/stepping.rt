@@ -10,15 +10,15 @@ ghost use Rattle.pkcheck.specs.Shape.{top};
 ghost use Rattle.pkcheck.specs.View.{texts_after};
 ghost use Rattle.pkops.specs.Inst.{instruction_of};
 ghost use Rattle.pkcheck.specs.Import.{asked_shown, permit_of};
-ghost use Rattle.pkcheck.specs.Private.Denials.{FitsLimits, IsStopFault, pair_denied};
+ghost use Rattle.pkcheck.specs.Private.StepErrors.{FitsLimits, IsStopFault, pair_of_error};
 
 use crate::effect::Class;
 use crate::import::Asked;
+use crate::machine::config::MachineConfig;
 use crate::machine::effects::{Action, action_of};
-use crate::machine::held::Held;
 use crate::machine::old_text::is_ascii_string;
-use crate::machine::operate::Denial;
-use crate::machine::terms::Terms;
+use crate::machine::operate::StepError;
+use crate::machine::state::MachineState;
 use crate::machine::value::int_or_bool;
 use crate::old_strings::OldStrings;
 use crate::policy::Permit;
@@ -40,53 +40,53 @@ pub enum Moved {
 /// `off`, so the result of a step stays small.
 #[inline(always)]
 pub fn advance(
-    held: &mut Held,
-    terms: &Terms,
+    state: &mut MachineState,
+    config: &MachineConfig,
     inst: &Inst,
     policy: &Permit,
     off: &mut Option<Asked>,
 ) -> Result<Moved, Reason>
-    requires room { FitsLimits terms.now.limits held.old.knowledge }
+    requires room { FitsLimits config.now.limits state.old.knowledge }
     requires none { off.old ≡ None }
-    ensures ok { IfOk result (Advances terms.now (permit_of policy.now) (instruction_of inst.now)
-        held.old held.new) }
-    ensures room { OnOk result (FitsLimits terms.now.limits held.new.knowledge) }
-    ensures texts { OnOk result (held.new.texts
-        ≡ texts_after (effect_as terms.now.old_strings (instruction_of inst.now)) held.old.texts) }
+    ensures ok { IfOk result (Advances config.now (permit_of policy.now) (instruction_of inst.now)
+        state.old state.new) }
+    ensures room { OnOk result (FitsLimits config.now.limits state.new.knowledge) }
+    ensures texts { OnOk result (state.new.texts ≡ texts_after
+        (effect_as config.now.old_strings (instruction_of inst.now)) state.old.texts) }
     ensures off { OnOk result (off.new ≡ None) }
-    ensures kept { OnErr result (held.new ≡ held.old) }
-    ensures err { IfErr result (λ r. IsAdvanceFault terms.now (permit_of policy.now)
-        (instruction_of inst.now) held.old.knowledge r (option_map asked_shown off.new)) }
+    ensures kept { OnErr result (state.new ≡ state.old) }
+    ensures err { IfErr result (λ r. IsAdvanceFault config.now (permit_of policy.now)
+        (instruction_of inst.now) state.old.knowledge r (option_map asked_shown off.new)) }
 {
     let op = inst.op();
     match action_of(op) {
         Action::Makes(class) => {
-            held.make(&terms.limits, class)?;
+            state.make(&config.limits, class)?;
             Ok(Moved::On)
         }
         Action::MakesIntOrBool => {
-            held.make(&terms.limits, int_or_bool(inst))?;
+            state.make(&config.limits, int_or_bool(inst))?;
             Ok(Moved::On)
         }
         Action::MakesText => {
-            held.make_text(terms, inst)?;
+            state.make_text(config, inst)?;
             Ok(Moved::On)
         }
         Action::ReadsOldString => {
-            read_copy(held, terms, inst)?;
+            read_copy(state, config, inst)?;
             Ok(Moved::On)
         }
         Action::Moves(what) => {
-            held.apply(&terms.limits, what, inst)?;
+            state.apply(&config.limits, what, inst)?;
             Ok(Moved::On)
         }
         Action::Operates => {
-            held.operate(&terms.limits, op)?;
+            state.operate(&config.limits, op)?;
             Ok(Moved::On)
         }
-        Action::Imports => import(held, terms, inst, policy, off),
+        Action::Imports => import(state, config, inst, policy, off),
         Action::Stops => {
-            finish(held)?;
+            finish(state)?;
             Ok(Moved::Stopped)
         }
     }
@@ -95,31 +95,35 @@ pub fn advance(
 /// Pushes what a Python 2 string decodes to. It reads a copy of the instruction. Passing the
 /// address of the original would force it into memory in every step.
 #[inline(always)]
-fn read_copy(held: &mut Held, terms: &Terms, inst: &Inst) -> Result<(), Reason>
+fn read_copy(state: &mut MachineState, config: &MachineConfig, inst: &Inst) -> Result<(), Reason>
     requires old { IsOldString (instruction_of inst.now) }
-    requires memo { length held.old.knowledge.memo ≤ terms.now.limits.memo }
-    ensures { HasReadOldString terms.now (instruction_of inst.now) held.old held.new result }
+    requires memo { length state.old.knowledge.memo ≤ config.now.limits.memo }
+    ensures { HasReadOldString config.now (instruction_of inst.now) state.old state.new result }
 {
     let copy = Inst::known(inst.op(), inst.arg());
-    read_old_string(held, terms, &copy)?;
+    read_old_string(state, config, &copy)?;
     Ok(())
 }
 
 /// Pushes what a Python 2 string decodes to. Refuses with `NotAscii` if it must be ASCII but is
 /// not.
 #[inline(never)]
-fn read_old_string(held: &mut Held, terms: &Terms, inst: &Inst) -> Result<(), Reason>
+fn read_old_string(
+    state: &mut MachineState,
+    config: &MachineConfig,
+    inst: &Inst,
+) -> Result<(), Reason>
     requires old { IsOldString (instruction_of inst.now) }
-    requires memo { length held.old.knowledge.memo ≤ terms.now.limits.memo }
-    ensures { HasReadOldString terms.now (instruction_of inst.now) held.old held.new result }
+    requires memo { length state.old.knowledge.memo ≤ config.now.limits.memo }
+    ensures { HasReadOldString config.now (instruction_of inst.now) state.old state.new result }
 {
-    match terms.old_strings {
-        OldStrings::Unknown => held.answer(&terms.limits),
-        OldStrings::Bytes => held.make(&terms.limits, Class::Bytes),
+    match config.old_strings {
+        OldStrings::Unknown => state.answer(&config.limits),
+        OldStrings::Bytes => state.make(&config.limits, Class::Bytes),
         OldStrings::Ascii => {
-            let is_ascii = is_ascii_string(terms.alloc, inst)?;
+            let is_ascii = is_ascii_string(config.alloc, inst)?;
             if is_ascii {
-                held.make_text(terms, inst)
+                state.make_text(config, inst)
             } else {
                 Err(Reason::NotAscii)
             }
@@ -129,58 +133,58 @@ fn read_old_string(held: &mut Held, terms: &Terms, inst: &Inst) -> Result<(), Re
 
 /// Pops the result. Refuses with `LeftOver` if anything else is on the stack.
 #[inline(always)]
-fn finish(held: &mut Held) -> Result<(), Reason>
-    ensures ok { OnOk result (stop_learned held.old.knowledge.memo
-        (top held.old.knowledge.entries)
-        ≡ Ok (record { after = held.new.knowledge; import = None })) }
-    ensures texts { held.new.texts ≡ held.old.texts }
-    ensures imports { held.new.imports ≡ held.old.imports }
-    ensures room { (length held.new.knowledge.entries ≤ length held.old.knowledge.entries)
-        × (held.new.knowledge.memo ≡ held.old.knowledge.memo) }
-    ensures kept { OnErr result (held.new ≡ held.old) }
-    ensures err { IfErr result (λ r. IsStopFault (stop_learned held.old.knowledge.memo
-        (top held.old.knowledge.entries)) r) }
+fn finish(state: &mut MachineState) -> Result<(), Reason>
+    ensures ok { OnOk result (stop_learned state.old.knowledge.memo
+        (top state.old.knowledge.entries)
+        ≡ Ok (record { after = state.new.knowledge; import = None })) }
+    ensures texts { state.new.texts ≡ state.old.texts }
+    ensures imports { state.new.imports ≡ state.old.imports }
+    ensures room { (length state.new.knowledge.entries ≤ length state.old.knowledge.entries)
+        × (state.new.knowledge.memo ≡ state.old.knowledge.memo) }
+    ensures kept { OnErr result (state.new ≡ state.old) }
+    ensures err { IfErr result (λ r. IsStopFault (stop_learned state.old.knowledge.memo
+        (top state.old.knowledge.entries)) r) }
 {
-    held.finish()?;
+    state.finish()?;
     Ok(())
 }
 
 /// Applies an instruction that imports a pair.
 #[inline(always)]
 fn import(
-    held: &mut Held,
-    terms: &Terms,
+    state: &mut MachineState,
+    config: &MachineConfig,
     inst: &Inst,
     policy: &Permit,
     off: &mut Option<Asked>,
 ) -> Result<Moved, Reason>
     requires operation { IsOperation (effect_of (instruction_of inst.now).op) }
-    requires room { FitsLimits terms.now.limits held.old.knowledge }
+    requires room { FitsLimits config.now.limits state.old.knowledge }
     requires none { off.old ≡ None }
-    ensures ok { IfOk result (LeadsTo (permit_of policy.now) terms.now.limits
-        (effect_of (instruction_of inst.now).op) (instruction_of inst.now) held.old held.new) }
-    ensures room { OnOk result (FitsLimits terms.now.limits held.new.knowledge) }
-    ensures texts { held.new.texts ≡ held.old.texts }
+    ensures ok { IfOk result (LeadsTo (permit_of policy.now) config.now.limits
+        (effect_of (instruction_of inst.now).op) (instruction_of inst.now) state.old state.new) }
+    ensures room { OnOk result (FitsLimits config.now.limits state.new.knowledge) }
+    ensures texts { state.new.texts ≡ state.old.texts }
     ensures off { OnOk result (off.new ≡ None) }
-    ensures kept { OnErr result (held.new ≡ held.old) }
-    ensures err { IfErr result (λ r. IsStepFault (permit_of policy.now) terms.now.limits
-        (effect_of (instruction_of inst.now).op) (instruction_of inst.now) held.old.knowledge r
+    ensures kept { OnErr result (state.new ≡ state.old) }
+    ensures err { IfErr result (λ r. IsStepFault (permit_of policy.now) config.now.limits
+        (effect_of (instruction_of inst.now).op) (instruction_of inst.now) state.old.knowledge r
         (option_map asked_shown off.new)) }
 {
-    match held.operate_named(terms, inst, policy) {
+    match state.operate_named(config, inst, policy) {
         Ok(true) => Ok(Moved::Import),
         Ok(false) => Ok(Moved::On),
-        Err(denial) => Err(put_aside(denial, off)),
+        Err(error) => Err(put_aside(error, off)),
     }
 }
 
-/// Stores the pair of a denial in `off` and returns the reason.
+/// Stores the pair of a step error in `off` and returns the reason.
 #[inline(never)]
-fn put_aside(denial: Denial, off: &mut Option<Asked>) -> Reason
-    ensures reason { result ≡ denial.reason }
-    ensures off { option_map asked_shown off.new ≡ pair_denied denial }
+fn put_aside(error: StepError, off: &mut Option<Asked>) -> Reason
+    ensures reason { result ≡ error.reason }
+    ensures off { option_map asked_shown off.new ≡ pair_of_error error }
 {
-    let Denial { reason, pair } = denial;
+    let StepError { reason, pair } = error;
     *off = unboxed(pair);
     reason
 }

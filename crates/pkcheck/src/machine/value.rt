@@ -1,14 +1,14 @@
 //! What is known about an object.
 ghost use Rattle.std.specs.Prelude.{◌≡◌, ℕ, List};
 ghost use Rattle.pkcheck.specs.Knowledge.{known_given};
-ghost use Rattle.pkcheck.specs.Private.Denials.{IgnoresArgument};
+ghost use Rattle.pkcheck.specs.Private.StepErrors.{IgnoresArgument};
 ghost use Rattle.pkcheck.specs.Private.Slots.{StandsIf};
 ghost use Rattle.pkcheck.specs.Runs.{int_or_bool};
 ghost use Rattle.pkops.specs.Inst.{instruction_of};
 ghost use Rattle.pkops.specs.Spelling.{Instruction};
 
 use crate::effect::{Class, Gives};
-use crate::machine::packed::Packed;
+use crate::machine::packed::PackedValue;
 use pkops::Inst;
 
 /// What is known about an object.
@@ -36,15 +36,15 @@ pub fn int_or_bool(inst: &Inst) -> Class
 
 /// What is known about the result of an operation; `None` if it leaves the receiver.
 #[inline(always)]
-pub fn value_of(gives: Gives) -> Option<Packed>
+pub fn value_of(gives: Gives) -> Option<PackedValue>
     requires { IgnoresArgument gives }
     ensures { (ts : List (List ℕ)) (i : Instruction) → StandsIf ts result (known_given gives i) }
 {
     match gives {
         Gives::Leaves(_) => None,
-        Gives::Makes(class) => Some(Packed::made(class)),
-        Gives::MayMake(class) => Some(Packed::made(class)),
-        Gives::Answers => Some(Packed::unknown()),
+        Gives::Makes(class) => Some(PackedValue::made(class)),
+        Gives::MayMake(class) => Some(PackedValue::made(class)),
+        Gives::Answers => Some(PackedValue::unknown()),
         _ => unreachable!(),
     }
 }

@@ -2,9 +2,9 @@
 ghost use Rattle.std.specs.Prelude.{◌≡◌, ◌<◌, ◌≤◌, ◌+◌, ◌++◌, length, IfErr, OnOk, IsSome, None};
 ghost use Rattle.pkcheck.specs.Private.Places.{above, below};
 ghost use Rattle.pkcheck.specs.Shape.{front, marks_of, put};
-ghost use Rattle.pkcheck.specs.Private.Denials.{WantsRoom};
+ghost use Rattle.pkcheck.specs.Private.StepErrors.{WantsRoom};
 
-use crate::machine::packed::Packed;
+use crate::machine::packed::PackedValue;
 use crate::machine::stack::Stack;
 use pkops::Limits;
 use pkread::Reason;
@@ -17,7 +17,7 @@ pub fn give(
     limits: &Limits,
     place: usize,
     marks: usize,
-    value: Option<Packed>,
+    value: Option<PackedValue>,
 ) -> Result<(), Reason>
     requires at { place ≤ length stack.old }
     requires marks { marks ≡ marks_of (below place stack.old) }

@@ -5,22 +5,22 @@ ghost use Rattle.pkcheck.specs.Private.NamedOperations.{AreSeen, HasImported};
 ghost use Rattle.pkcheck.specs.Private.Slots.{known};
 ghost use Rattle.pkcheck.specs.Import.{permit_of};
 ghost use Rattle.pkcheck.specs.Private.Noted.{AreNumbered, IsNamedIf, Spells, named_asked};
-ghost use Rattle.pkcheck.specs.Private.Denials.{judged, IgnoresArgument, IsDenied, IsForMemory};
-ghost use Rattle.pkcheck.specs.Private.Denials.{MayName, WellGiven};
+ghost use Rattle.pkcheck.specs.Private.StepErrors.{judged, IgnoresArgument, IsForMemory};
+ghost use Rattle.pkcheck.specs.Private.StepErrors.{IsRefusedWith, MayName, WellGiven};
 ghost use Rattle.pkcheck.specs.Private.Actions.{IsOperation, effect_in};
 ghost use Rattle.pkcheck.specs.Effects.{effect_of};
 ghost use Rattle.pkops.specs.Contents.{IsGood};
 ghost use Rattle.pkops.specs.Spelling.{Instruction, Pair, instruction};
 
 use crate::import::{Named, asked_by};
+use crate::machine::config::MachineConfig;
 use crate::machine::effects::{Operation, operation_of};
-use crate::machine::ledger::Ledger;
-use crate::machine::operate::Denial;
+use crate::machine::import_table::ImportTable;
+use crate::machine::operate::StepError;
 use crate::machine::operate::given::give;
 use crate::machine::operate::permitted::permit;
 use crate::machine::operate::receiver::receiver_fault;
 use crate::machine::stack::{Operands, Stack};
-use crate::machine::terms::Terms;
 use crate::machine::value::value_of;
 use crate::policy::Permit;
 use pkops::{Arg, Inst, Op};
@@ -47,30 +47,30 @@ struct Request<'a> {
 fn permitted_name<'a>(
     alloc: Global,
     request: &Request<'a>,
-    ledger: &Ledger,
+    table: &ImportTable,
     operands: &Operands<'_>,
-) -> Result<Option<Named<'a>>, Denial>
-    requires numbered { AreNumbered (length ledger.now.texts) operands.now }
+) -> Result<Option<Named<'a>>, StepError>
+    requires numbered { AreNumbered (length table.now.texts) operands.now }
     ensures ok { (i : Instruction) → Spells request.now.names i
         → IfOk result (λ a. judged (permit_of request.now.policy.now) request.now.operation.names
-        request.now.operation.gives i (map (known ledger.now.texts) operands.now)
-        ≡ Ok (option_map (named_asked ledger.now.texts) a)) }
-    ensures within { IfOk result (IsNamedIf (length ledger.now.texts)) }
+        request.now.operation.gives i (map (known table.now.texts) operands.now)
+        ≡ Ok (option_map (named_asked table.now.texts) a)) }
+    ensures within { IfOk result (IsNamedIf (length table.now.texts)) }
     ensures err { (i : Instruction) → Spells request.now.names i
-        → IfErr result (λ d. IsDenied (judged (permit_of request.now.policy.now)
+        → IfErr result (λ d. IsRefusedWith (judged (permit_of request.now.policy.now)
         request.now.operation.names request.now.operation.gives
-        i (map (known ledger.now.texts) operands.now)) d
+        i (map (known table.now.texts) operands.now)) d
         ⊎ (MayName request.now.operation.names × IsForMemory d)) }
 {
     if receiver_fault(request.operation.gives, operands) {
-        return Err(Denial {
+        return Err(StepError {
             reason: Reason::WrongClass,
             pair: None,
         });
     }
     let named = asked_by(request.operation.names, request.names, operands)?;
     if let Some(name) = named {
-        permit(alloc, request.policy, ledger, name)?;
+        permit(alloc, request.policy, table, name)?;
     }
     Ok(named)
 }
@@ -90,30 +90,30 @@ fn names_of<'a>(spelled: &Spelled<'a>) -> Option<(&'a str, &'a str)>
 /// Replaces the operands of an operation that imports a pair. Returns whether an import was listed.
 fn replace_named(
     stack: &mut Stack,
-    ledger: &mut Ledger,
-    terms: &Terms,
+    table: &mut ImportTable,
+    config: &MachineConfig,
     request: &Request<'_>,
-) -> Result<bool, Denial>
-    requires within { length stack.old ≤ terms.now.limits.stack }
+) -> Result<bool, StepError>
+    requires within { length stack.old ≤ config.now.limits.stack }
     requires given { WellGiven request.now.operation.gives request.now.operation.takes }
     requires plain { IgnoresArgument request.now.operation.gives }
-    requires sees { AreSeen (record { entries = stack.old; ledger = ledger.old }) }
-    ensures { HasImported (permit_of request.now.policy.now) terms.now.limits
+    requires sees { AreSeen (record { entries = stack.old; table = table.old }) }
+    ensures { HasImported (permit_of request.now.policy.now) config.now.limits
         (effect_in request.now.operation) request.now.names
-        (record { entries = stack.old; ledger = ledger.old })
-        (record { entries = stack.new; ledger = ledger.new }) result }
+        (record { entries = stack.old; table = table.old })
+        (record { entries = stack.new; table = table.new }) result }
 {
     let found = stack.find(request.operation.takes)?;
     let operands = stack.operands(found.place);
-    let named = permitted_name(terms.alloc, request, ledger, &operands)?;
+    let named = permitted_name(config.alloc, request, table, &operands)?;
     let value = value_of(request.operation.gives);
-    let count = ledger.len();
-    let is_import = ledger.list(named)?;
-    match give(stack, &terms.limits, found.place, found.marks, value) {
+    let count = table.len();
+    let is_import = table.list(named)?;
+    match give(stack, &config.limits, found.place, found.marks, value) {
         Ok(()) => Ok(is_import),
         Err(reason) => {
-            ledger.keep(count);
-            Err(Denial::from(reason))
+            table.keep(count);
+            Err(StepError::from(reason))
         }
     }
 }
@@ -122,24 +122,24 @@ fn replace_named(
 #[inline(never)]
 pub fn operate_named(
     stack: &mut Stack,
-    ledger: &mut Ledger,
-    terms: &Terms,
+    table: &mut ImportTable,
+    config: &MachineConfig,
     spelled: &Spelled<'_>,
     policy: &Permit,
-) -> Result<bool, Denial>
-    requires within { length stack.old ≤ terms.now.limits.stack }
+) -> Result<bool, StepError>
+    requires within { length stack.old ≤ config.now.limits.stack }
     requires operation { IsOperation (effect_of spelled.now.op) }
     requires good { IfSome spelled.now.lines (λ pair.
         IsGood (instruction spelled.now.op (Pair pair.0.now pair.1.now))) }
-    requires sees { AreSeen (record { entries = stack.old; ledger = ledger.old }) }
-    ensures { HasImported (permit_of policy.now) terms.now.limits (effect_of spelled.now.op)
-        spelled.now.lines (record { entries = stack.old; ledger = ledger.old })
-        (record { entries = stack.new; ledger = ledger.new }) result }
+    requires sees { AreSeen (record { entries = stack.old; table = table.old }) }
+    ensures { HasImported (permit_of policy.now) config.now.limits (effect_of spelled.now.op)
+        spelled.now.lines (record { entries = stack.old; table = table.old })
+        (record { entries = stack.new; table = table.new }) result }
 {
     let request = Request {
         operation: operation_of(spelled.op),
         names: names_of(spelled),
         policy,
     };
-    replace_named(stack, ledger, terms, &request)
+    replace_named(stack, table, config, &request)
 }

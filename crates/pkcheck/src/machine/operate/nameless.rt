@@ -3,7 +3,7 @@ ghost use Rattle.std.specs.Prelude.{◌≡◌, ◌<◌, ◌≤◌, false, length
 ghost use Rattle.pkcheck.specs.declared.effect.Names.{Names};
 ghost use Rattle.pkcheck.specs.Effects.{Operates, effect_of, fills};
 ghost use Rattle.pkcheck.specs.Private.Actions.{IsUnnamed};
-ghost use Rattle.pkcheck.specs.Private.Denials.{IgnoresArgument, WellGiven};
+ghost use Rattle.pkcheck.specs.Private.StepErrors.{IgnoresArgument, WellGiven};
 ghost use Rattle.pkcheck.specs.Private.NamelessOperations.{HasOperated, HasReplaced};
 ghost use Rattle.pkcheck.specs.Private.NamelessOperations.{IsReplaceFault};
 ghost use Rattle.pkcheck.specs.Private.NamelessOperations.{Replaces, StaysSeen};
@@ -12,7 +12,7 @@ use crate::effect::{Class, Gives, Takes, Wanted};
 use crate::machine::effects::operation_of;
 use crate::machine::operate::given::give;
 use crate::machine::operate::receiver::receiver_fault;
-use crate::machine::packed::Packed;
+use crate::machine::packed::PackedValue;
 use crate::machine::stack::Stack;
 use crate::machine::value::value_of;
 use pkops::{Limits, Op};
@@ -50,9 +50,9 @@ fn make_quickly(stack: &mut Stack, op: Op) -> bool
     ensures kept { result ≡ false → stack.new ≡ stack.old }
 {
     match op {
-        Op::Tuple1 => stack.replace_one(Packed::made(Class::Tuple)),
-        Op::Tuple2 => stack.replace_two(Packed::made(Class::Tuple)),
-        Op::Reduce => stack.replace_two(Packed::unknown()),
+        Op::Tuple1 => stack.replace_one(PackedValue::made(Class::Tuple)),
+        Op::Tuple2 => stack.replace_two(PackedValue::made(Class::Tuple)),
+        Op::Reduce => stack.replace_two(PackedValue::unknown()),
         _ => false,
     }
 }

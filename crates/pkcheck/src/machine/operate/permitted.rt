@@ -4,11 +4,11 @@ ghost use Rattle.std.specs.Prelude.{is_none};
 ghost use Rattle.pkcheck.specs.Import.{asked_shown, permit_of};
 ghost use Rattle.pkcheck.specs.Private.Noted.{named_asked};
 ghost use Rattle.pkcheck.specs.Knowledge.{AskedPair, OffList, permitted};
-ghost use Rattle.pkcheck.specs.Private.Denials.{ruled, IsDenied, IsForMemory};
+ghost use Rattle.pkcheck.specs.Private.StepErrors.{ruled, IsRefusedWith, IsForMemory};
 
 use crate::import::{Asked, Named, pair_of};
-use crate::machine::ledger::Ledger;
-use crate::machine::operate::Denial;
+use crate::machine::import_table::ImportTable;
+use crate::machine::operate::StepError;
 use crate::policy::{Permit, Policy};
 use pklist::pairs;
 use pkread::Reason;
@@ -18,25 +18,25 @@ use std::alloc::Global;
 pub fn permit(
     alloc: Global,
     policy: &Permit,
-    ledger: &Ledger,
+    table: &ImportTable,
     named: Named<'_>,
-) -> Result<(), Denial>
+) -> Result<(), StepError>
     ensures ok { OnOk result (
-        ruled (permit_of policy.now) (named_asked ledger.now.texts named.entry)
-        ≡ Ok (Some (named_asked ledger.now.texts named.entry))) }
-    ensures err { IfErr result (λ d. IsDenied (ruled (permit_of policy.now)
-        (named_asked ledger.now.texts named.entry)) d ⊎ IsForMemory d) }
+        ruled (permit_of policy.now) (named_asked table.now.texts named.entry)
+        ≡ Ok (Some (named_asked table.now.texts named.entry))) }
+    ensures err { IfErr result (λ d. IsRefusedWith (ruled (permit_of policy.now)
+        (named_asked table.now.texts named.entry)) d ⊎ IsForMemory d) }
 {
     if permits_all(policy) {
         return Ok(());
     }
     match named {
-        Named::Unknown => Err(Denial {
+        Named::Unknown => Err(StepError {
             reason: Reason::UnknownImport,
             pair: None,
         }),
         Named::Made(first, second) => {
-            permit_pair(alloc, policy, ledger.text(first), ledger.text(second))
+            permit_pair(alloc, policy, table.text(first), table.text(second))
         }
         Named::Written(module_name, name) => permit_pair(alloc, policy, module_name, name),
     }
@@ -67,17 +67,22 @@ fn permits(policy: &Permit, module_name: &str, name: &str) -> bool
 }
 
 /// Refuses a pair that the policy does not permit, with a copy of the pair.
-fn permit_pair(alloc: Global, policy: &Permit, module_name: &str, name: &str) -> Result<(), Denial>
+fn permit_pair(
+    alloc: Global,
+    policy: &Permit,
+    module_name: &str,
+    name: &str,
+) -> Result<(), StepError>
     ensures ok { OnOk result (permitted (permit_of policy.now) module_name.now name.now
         ≡ Ok (Some (AskedPair module_name.now name.now))) }
-    ensures err { IfErr result (λ d. IsDenied (permitted (permit_of policy.now) module_name.now
+    ensures err { IfErr result (λ d. IsRefusedWith (permitted (permit_of policy.now) module_name.now
         name.now) d ⊎ IsForMemory d) }
 {
     if permits(policy, module_name, name) {
         return Ok(());
     }
     let pair = boxed_pair(alloc, module_name, name)?;
-    Err(Denial {
+    Err(StepError {
         reason: Reason::ImportOffList,
         pair: Some(pair),
     })

@@ -3,7 +3,7 @@ ghost use Rattle.pkcheck.specs.Private.Slots.{values_of};
 ghost use Rattle.std.specs.Prelude.{◌≡◌, ◌≢◌, [], ◌∷◌, ◌≤◌, drop, length, MatchOption};
 ghost use Rattle.std.specs.List.{slice_get};
 
-use crate::machine::packed::Packed;
+use crate::machine::packed::PackedValue;
 use crate::machine::stack::slots::{Slot, count_objects};
 use crate::machine::value::Value;
 use std::marker::Model;
@@ -39,7 +39,7 @@ impl<'a> Operands<'a> {
     /// The first object. The lowest entry usually is one. If it is a mark, a search finds the
     /// object.
     #[inline(always)]
-    pub fn first(&self) -> Option<Packed>
+    pub fn first(&self) -> Option<PackedValue>
         ensures { result ≡ slice_get self.now 0 }
     {
         if self.slots.is_empty() {
@@ -52,7 +52,7 @@ impl<'a> Operands<'a> {
     }
 
     /// The object at an index, counted from 0; `None` past the last.
-    pub fn get(&self, index: usize) -> Option<Packed>
+    pub fn get(&self, index: usize) -> Option<PackedValue>
         ensures { result ≡ slice_get self.now index }
     {
         let mut before: usize = 0;

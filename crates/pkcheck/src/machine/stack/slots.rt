@@ -1,5 +1,5 @@
 //! The entries of the stack. The last one is on top.
-ghost use Rattle.pkcheck.specs.Private.Denials.{IsLack};
+ghost use Rattle.pkcheck.specs.Private.StepErrors.{IsLack};
 ghost use Rattle.pkcheck.specs.Knowledge.{Lacks, reason_of};
 ghost use Rattle.pkcheck.specs.Shape.{Breach, NoMark, NoItem, operands, slice, items, breaks};
 ghost use Rattle.pkcheck.specs.Shape.{top};
@@ -10,7 +10,7 @@ ghost use Rattle.std.specs.Prelude.{IfOk};
 ghost use Rattle.std.specs.Prelude.{◌++◌, IfErr, IfSome, MatchOption, OnErr, OnOk};
 
 use crate::effect::{SliceRule, Takes};
-use crate::machine::packed::Packed;
+use crate::machine::packed::PackedValue;
 use crate::machine::value::Value;
 use pkbase::StackVec;
 use pkread::Reason;
@@ -18,7 +18,7 @@ use std::alloc::AllocError;
 
 /// Where the operands of an operation begin.
 #[derive(Clone, Copy)]
-pub struct Found {
+pub struct OperandsStart {
     /// The number of entries below the operands.
     pub place: usize,
     /// The number of marks among the entries below.
@@ -29,12 +29,12 @@ pub struct Found {
 #[derive(Clone, Copy)]
 pub enum Slot {
     Mark,
-    Object(Packed),
+    Object(PackedValue),
 }
 
 /// What is known about the topmost entry; `None` if it is a mark or there is none.
 #[inline(always)]
-pub fn top(slots: &[Slot]) -> Option<Packed>
+pub fn top(slots: &[Slot]) -> Option<PackedValue>
     ensures { MatchOption result (top (shown slots.now [])
         ≡ Err NoItem) (λ v. top (shown slots.now []) ≡ Ok (v, drop 1 (shown slots.now []))) }
 {
@@ -49,7 +49,7 @@ pub fn top(slots: &[Slot]) -> Option<Packed>
 
 /// Pushes an object. Out of line, so other paths reserve no register for it.
 #[inline(never)]
-pub fn put_on_top(slots: &mut StackVec<Slot>, value: Packed) -> Result<(), AllocError>
+pub fn put_on_top(slots: &mut StackVec<Slot>, value: PackedValue) -> Result<(), AllocError>
     ensures ok { OnOk result (slots.new ≡ slots.old ++ Slot.Object value ∷ []) }
     ensures err { OnErr result (slots.new ≡ slots.old) }
 {
@@ -270,7 +270,7 @@ pub fn receiver_place(stack: &[Slot], places: &[usize], rule: SliceRule) -> Resu
 
 /// Where the operands of an operation begin. A slice includes its mark, the topmost one.
 #[inline(always)]
-pub fn place_of(stack: &[Slot], places: &[usize], takes: Takes) -> Result<Found, Reason>
+pub fn place_of(stack: &[Slot], places: &[usize], takes: Takes) -> Result<OperandsStart, Reason>
     requires { places.now ≡ bars 0 stack.now }
     ensures well { IfOk result (λ f. StartsWell takes (drop f.place stack.now)) }
     ensures ok { IfOk result (λ f. (f.place ≤ length stack.now)
@@ -280,21 +280,21 @@ pub fn place_of(stack: &[Slot], places: &[usize], takes: Takes) -> Result<Found,
 {
     match takes {
         Takes::Objects(count) => match objects_place(stack, places, count as usize) {
-            Some(place) => Ok(Found {
+            Some(place) => Ok(OperandsStart {
                 place,
                 marks: places.len(),
             }),
             None => Err(Reason::MissingItem),
         },
         Takes::Slice(rule) => match slice_place(stack, places, rule) {
-            Ok(place) => Ok(Found {
+            Ok(place) => Ok(OperandsStart {
                 place,
                 marks: places.len() - 1,
             }),
             Err(reason) => Err(reason),
         },
         Takes::SliceAndReceiver(rule) => match receiver_place(stack, places, rule) {
-            Ok(place) => Ok(Found {
+            Ok(place) => Ok(OperandsStart {
                 place,
                 marks: places.len() - 1,
             }),

@@ -5,14 +5,14 @@ use Rattle.pkcheck.specs.Knowledge.{Knowledge}
 use Rattle.pkcheck.specs.Import.{asked_shown, permit_of}
 use Rattle.pkcheck.specs.View.{View}
 use Rattle.pkcheck.proofs.StepParts.Longest.{longest}
-use Rattle.pkcheck.proofs.StepParts.CoveredStep.{denied, fails, goes_on}
+use Rattle.pkcheck.proofs.StepParts.CoveredStep.{errs, fails, goes_on}
 use Rattle.pkcheck.proofs.StepParts.Settings.{not_raised, texts_by_setting}
 use Rattle.pkcheck.proofs.machine.Machine.step_on.Goals as goal
 
 pub returns-in-Ok-clause-step : goal.returns-in-Ok-clause-step
 returns-in-Ok-clause-step c =
     let g = c.in-Ok.ensures.ok in
-    let k : Knowledge = c.advance.new.held.knowledge in
+    let k : Knowledge = c.advance.new.state.knowledge in
     let fresh = ap (λ (v : View). v.refused) c.self.view_is ∙ c.requires.well in
     goes_on (permit_of c.args.policy.now) (instruction_of c.args.inst.now) c.args.self.now _
     c.in-Ok.moved (
@@ -20,8 +20,8 @@ returns-in-Ok-clause-step c =
       rw (← c.self.view_is) g.1,
       rw (← c.self.view_is) (λ j. record {
         knowledge = k;
-        limits = c.self.inside.terms.limits;
-        old_strings = c.self.inside.terms.old_strings;
+        limits = c.self.inside.config.limits;
+        old_strings = c.self.inside.config.old_strings;
         imports = g.2 j;
         off = option_map asked_shown
             ((c.in-Ok.ensures.off ∙ sym (c.self.invariant.1 fresh)) j);
@@ -35,11 +35,11 @@ returns-in-Ok-clause-step c =
 pub returns-in-Ok-clause-texts : goal.returns-in-Ok-clause-texts
 returns-in-Ok-clause-texts c =
     let g = c.in-Ok.ensures.ok in
-    rw (← c.self.view_is) (c.in-Ok.ensures.texts ∙ texts_by_setting c.self.inside.terms.old_strings
-    (instruction_of c.args.inst.now) c.self.inside.held.texts
-    (not_raised c.self.inside.terms.old_strings (permit_of c.args.policy.now)
-    c.self.inside.terms.limits
-    (instruction_of c.args.inst.now) c.self.inside.held.knowledge _ g.1))
+    rw (← c.self.view_is) (c.in-Ok.ensures.texts ∙ texts_by_setting c.self.inside.config.old_strings
+    (instruction_of c.args.inst.now) c.self.inside.state.texts
+    (not_raised c.self.inside.config.old_strings (permit_of c.args.policy.now)
+    c.self.inside.config.limits
+    (instruction_of c.args.inst.now) c.self.inside.state.knowledge _ g.1))
 
 pub returns-in-Err-clause-step : goal.returns-in-Err-clause-step
 returns-in-Err-clause-step c =
@@ -47,12 +47,12 @@ returns-in-Err-clause-step c =
     let (v, long) = longest c.bounded_names.ensures c.args.policy.now in
     fails (permit_of c.args.policy.now) (instruction_of c.args.inst.now) c.args.self.now _
     c.in-Err.reason v long c.requires.admitted c.requires.well
-    (denied (permit_of c.args.policy.now) (instruction_of c.args.inst.now) c.args.self.now _ _
+    (errs (permit_of c.args.policy.now) (instruction_of c.args.inst.now) c.args.self.now _ _
     (option_map asked_shown c.advance.new.off)
     (rw (← c.self.view_is) (λ j. record {
       knowledge = (kept j).knowledge;
-      limits = c.self.inside.terms.limits;
-      old_strings = c.self.inside.terms.old_strings;
+      limits = c.self.inside.config.limits;
+      old_strings = c.self.inside.config.old_strings;
       imports = (kept j).imports;
       off = option_map asked_shown c.advance.new.off;
       refused = Some c.in-Err.reason;

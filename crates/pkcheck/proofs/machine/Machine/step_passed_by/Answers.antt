@@ -18,15 +18,15 @@ returns-in-Ok-clause-step c i same =
     let e = passed_effect c.args.self.now.old_strings i
     (subst (λ o. IsTrue (is_passed o)) (sym same) c.requires.passed)
     ∙ (ap effect_of same ∙ c.class_passed.ensures c.requires.passed) in
-    let stack = subst (λ (k : Knowledge). length k.entries ≤ c.self.inside.terms.limits.stack)
+    let stack = subst (λ (k : Knowledge). length k.entries ≤ c.self.inside.config.limits.stack)
     c.in-Ok.ensures.ok c.in-Ok.ensures.room in
     goes_on p i c.args.self.now _ On
     (passes p i c.args.self.now _ c.class_passed.result e (rw (← c.self.view_is) stack)
     (rw (← c.self.view_is) (c.self.invariant.0 c.in_default.is).1) c.requires.running
     (rw (← c.self.view_is) (λ j. record {
       knowledge = c.in-Ok.ensures.ok j;
-      limits = c.self.inside.terms.limits;
-      old_strings = c.self.inside.terms.old_strings;
+      limits = c.self.inside.config.limits;
+      old_strings = c.self.inside.config.old_strings;
       imports = c.make.ensures.imports j;
       off = option_map asked_shown c.self.inside.off;
       refused = c.self.inside.refused;
@@ -50,8 +50,8 @@ returns-in-Err-clause-step c i same =
     (rw (← c.self.view_is) c.in-Err.ensures.err)
     (rw (← c.self.view_is) (λ j. record {
       knowledge = (c.in-Err.ensures.kept j).knowledge;
-      limits = c.self.inside.terms.limits;
-      old_strings = c.self.inside.terms.old_strings;
+      limits = c.self.inside.config.limits;
+      old_strings = c.self.inside.config.old_strings;
       imports = (c.in-Err.ensures.kept j).imports;
       off = None;
       refused = Some c.in-Err.reason;

@@ -5,7 +5,7 @@ use Rattle.pkcheck.proofs.machine.new_text.name_text.Goals as goal
 
 pub returns : goal.returns
 returns c =
-    let texts = c.args.ledger.now.texts in
+    let texts = c.args.table.now.texts in
     let text = c.args.text.now in
     rw (
       c.in-Ok.ensures.ok,

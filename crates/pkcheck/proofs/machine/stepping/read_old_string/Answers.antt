@@ -10,7 +10,7 @@ use Rattle.pkcheck.specs.declared.effect.Gives.TheVariants.{Answers, Makes, Make
 use Rattle.pkcheck.specs.Knowledge.{NotAscii}
 use Rattle.pkcheck.specs.Runs.{Plain, Text, text}
 use Rattle.pkcheck.proofs.StepParts.Errs.{err_on}
-use Rattle.pkcheck.proofs.StepParts.GoesOn.{denied_by}
+use Rattle.pkcheck.proofs.StepParts.GoesOn.{errs_by}
 use Rattle.pkcheck.proofs.StepParts.PushedObjects.{not_pushed, old_ascii, old_bytes_pushed}
 use Rattle.pkcheck.proofs.StepParts.PushedObjects.{old_unknown}
 use Rattle.pkcheck.proofs.machine.stepping.read_old_string.Goals as goal
@@ -22,9 +22,9 @@ returns-in-Unknown c = record {
   texts = grind (arith, common_steps);
   kept = c.answer.ensures.kept;
   err = λ p. err_on _ _ c.answer.result
-      (λ r h. not_pushed c.args.terms.now.old_strings p c.args.terms.now.limits
-      (instruction_of c.args.inst.now) c.args.held.now.knowledge Answers None
-      (old_unknown c.args.terms.now.old_strings (instruction_of c.args.inst.now)
+      (λ r h. not_pushed c.args.config.now.old_strings p c.args.config.now.limits
+      (instruction_of c.args.inst.now) c.args.state.now.knowledge Answers None
+      (old_unknown c.args.config.now.old_strings (instruction_of c.args.inst.now)
       c.requires.old.0 c.in-Unknown.is) refl r h) c.answer.ensures.err;
 }
 
@@ -35,9 +35,9 @@ returns-in-Bytes c = record {
   texts = grind (arith, common_steps);
   kept = c.make.ensures.kept;
   err = λ p. err_on _ _ c.make.result
-      (λ r h. not_pushed c.args.terms.now.old_strings p c.args.terms.now.limits
-      (instruction_of c.args.inst.now) c.args.held.now.knowledge (Makes class.Bytes)
-      (Some (Plain class.Bytes)) (old_bytes_pushed c.args.terms.now.old_strings
+      (λ r h. not_pushed c.args.config.now.old_strings p c.args.config.now.limits
+      (instruction_of c.args.inst.now) c.args.state.now.knowledge (Makes class.Bytes)
+      (Some (Plain class.Bytes)) (old_bytes_pushed c.args.config.now.old_strings
       (instruction_of c.args.inst.now) c.requires.old.0 c.in-Bytes.is) refl r h)
       c.make.ensures.err;
 }
@@ -49,10 +49,10 @@ returns-then-is_ascii c = record {
   texts = grind (arith, common_steps);
   kept = c.make_text.ensures.kept;
   err = λ p. err_on _ _ c.make_text.result
-      (λ r h. not_pushed c.args.terms.now.old_strings p c.args.terms.now.limits
-      (instruction_of c.args.inst.now) c.args.held.now.knowledge MakesText
+      (λ r h. not_pushed c.args.config.now.old_strings p c.args.config.now.limits
+      (instruction_of c.args.inst.now) c.args.state.now.knowledge MakesText
       (Some (Text (text (instruction_of c.args.inst.now))))
-      (old_ascii c.args.terms.now.old_strings (instruction_of c.args.inst.now) c.requires.old.0
+      (old_ascii c.args.config.now.old_strings (instruction_of c.args.inst.now) c.requires.old.0
       c.in-Ascii.is true (sym c.if-is_ascii.true ∙ c.in_ok-is_ascii-in-Ascii.ensures)) refl r h)
       c.make_text.ensures.err;
 }
@@ -63,9 +63,9 @@ returns-else-is_ascii c = record {
   room = tt;
   texts = tt;
   kept = refl;
-  err = λ p. denied_by c.args.terms.now.old_strings p c.args.terms.now.limits
-      (instruction_of c.args.inst.now) c.args.held.now.knowledge Raises
-      (record { reason = reason.NotAscii; pair = None }) (old_ascii c.args.terms.now.old_strings
+  err = λ p. errs_by c.args.config.now.old_strings p c.args.config.now.limits
+      (instruction_of c.args.inst.now) c.args.state.now.knowledge Raises
+      (record { reason = reason.NotAscii; pair = None }) (old_ascii c.args.config.now.old_strings
       (instruction_of c.args.inst.now) c.requires.old.0 c.in-Ascii.is false
       (sym c.if-is_ascii.false ∙ c.in_ok-is_ascii-in-Ascii.ensures))
       (inl (NotAscii, refl, refl, refl));

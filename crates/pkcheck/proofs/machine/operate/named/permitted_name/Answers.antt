@@ -15,8 +15,8 @@ returns-then-receiver_fault-clause-err c i spelled = inl (
   WrongClass,
   judged_wrong (permit_of c.args.request.now.policy.now)
       c.args.request.now.operation.names c.args.request.now.operation.gives i
-      (map (known c.args.ledger.now.texts) c.args.operands.now)
-      (sym (c.if-receiver_fault.ensures c.args.ledger.now.texts)),
+      (map (known c.args.table.now.texts) c.args.operands.now)
+      (sym (c.if-receiver_fault.ensures c.args.table.now.texts)),
   refl,
   refl,
 )
@@ -24,13 +24,13 @@ returns-then-receiver_fault-clause-err c i spelled = inl (
 pub returns-in_err-named-clause-err : goal.returns-in_err-named-clause-err
 returns-in_err-named-clause-err c =
     let p = err_from_is_err_and c.from_residual.result c.from_residual.ensures.1 in
-    rw (p.1, p.2) (λ i spelled. let a = c.in_err-named.ensures.err i c.args.ledger.now.texts in
+    rw (p.1, p.2) (λ i spelled. let a = c.in_err-named.ensures.err i c.args.table.now.texts in
     inl (
       NotText,
       judged_err (permit_of c.args.request.now.policy.now) c.args.request.now.operation.names
           c.args.request.now.operation.gives i
-          (map (known c.args.ledger.now.texts) c.args.operands.now)
-          (sym (c.if-receiver_fault.ensures c.args.ledger.now.texts)) NotText a.0,
+          (map (known c.args.table.now.texts) c.args.operands.now)
+          (sym (c.if-receiver_fault.ensures c.args.table.now.texts)) NotText a.0,
       a.1,
       refl,
     ))
@@ -40,29 +40,29 @@ returns-in_err-permit-clause-err c =
     let p = err_from_is_err_and c.from_residual-in_err-permit.result
     c.from_residual-in_err-permit.ensures.1 in
     rw (p.1, p.2) (λ i spelled.
-    let asks = rw c.in-Some.is at c.in_ok-named.ensures.ok i spelled c.args.ledger.now.texts in
+    let asks = rw c.in-Some.is at c.in_ok-named.ensures.ok i spelled c.args.table.now.texts in
     elim c.in_err-permit.ensures.err [
       | inl d ↦ inl
           (rw (judged_ok (permit_of c.args.request.now.policy.now)
           c.args.request.now.operation.names c.args.request.now.operation.gives i
-          (map (known c.args.ledger.now.texts) c.args.operands.now)
-          (sym (c.if-receiver_fault.ensures c.args.ledger.now.texts))
-          (Some (named_asked c.args.ledger.now.texts c.in-Some.name)) asks) d)
+          (map (known c.args.table.now.texts) c.args.operands.now)
+          (sym (c.if-receiver_fault.ensures c.args.table.now.texts))
+          (Some (named_asked c.args.table.now.texts c.in-Some.name)) asks) d)
       | inr m ↦ inr (
         may_name c.args.request.now.operation.names i
-            (map (known c.args.ledger.now.texts) c.args.operands.now)
-            (named_asked c.args.ledger.now.texts c.in-Some.name) asks,
+            (map (known c.args.table.now.texts) c.args.operands.now)
+            (named_asked c.args.table.now.texts c.in-Some.name) asks,
         m,
       )
     ])
 
 pub returns-clause-ok : goal.returns-clause-ok
 returns-clause-ok c i spelled =
-    let asks = c.in_ok-named.ensures.ok i spelled c.args.ledger.now.texts in
+    let asks = c.in_ok-named.ensures.ok i spelled c.args.table.now.texts in
     let judges = judged_ok (permit_of c.args.request.now.policy.now)
     c.args.request.now.operation.names c.args.request.now.operation.gives i
-    (map (known c.args.ledger.now.texts) c.args.operands.now)
-    (sym (c.if-receiver_fault.ensures c.args.ledger.now.texts)) _ asks in
+    (map (known c.args.table.now.texts) c.args.operands.now)
+    (sym (c.if-receiver_fault.ensures c.args.table.now.texts)) _ asks in
     elim c.match-named.branch [
       | in-Some+in_ok-permit w ↦ judges ∙ rw w.in-Some.is w.in_ok-permit.ensures.ok
       | in_default w ↦ judges ∙ rw w.in_default.is refl
@@ -70,4 +70,4 @@ returns-clause-ok c i spelled =
 
 pub returns-clause-within : goal.returns-clause-within
 returns-clause-within c = c.in_ok-named.ensures.within
-    (length c.args.ledger.now.texts) c.requires.numbered
+    (length c.args.table.now.texts) c.requires.numbered

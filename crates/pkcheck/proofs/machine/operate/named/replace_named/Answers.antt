@@ -10,14 +10,14 @@ use Rattle.pkcheck.proofs.NotedImports.{are_numbered, listed_before}
 use Rattle.pkcheck.proofs.Places.{length_below}
 use Rattle.pkcheck.proofs.ResolvedEntries.{found_seen, found_is, found_lacks, put_seen, put_sees}
 use Rattle.pkcheck.proofs.ResolvedEntries.{length_seen, same_table}
-use Rattle.pkcheck.proofs.StepParts.Judged.{lack_denied, judged_denied, within_denied, does_pass}
+use Rattle.pkcheck.proofs.StepParts.Judged.{lack_errs, judged_errs, within_errs, does_pass}
 use Rattle.pkcheck.proofs.StepParts.Judged.{judged_name, unroomed, left_there, given_none}
 use Rattle.pkcheck.proofs.machine.operate.named.replace_named.Goals as goal
 
 pub returns-in_err-found : goal.returns-in_err-found
 returns-in_err-found c =
     let p = err_from_is_err_and c.from_residual.result c.from_residual.ensures.1 in
-    let texts = c.args.ledger.now.texts in
+    let texts = c.args.table.now.texts in
     let entries = c.args.stack.now in
     let o = c.args.request.now.operation in
     rw (p.1, p.2) (record {
@@ -26,9 +26,9 @@ returns-in_err-found c =
       texts = refl;
       room = tt;
       kept = (refl, refl);
-      err = λ i named memo. inl (within_denied _ c.args.terms.now.limits 0
+      err = λ i named memo. inl (within_errs _ c.args.config.now.limits 0
           (record { reason = c.in_err-found.field-0.0; pair = None })
-          (lack_denied (permit_of c.args.request.now.policy.now) o.takes o.names o.gives i
+          (lack_errs (permit_of c.args.request.now.policy.now) o.takes o.names o.gives i
           (record { entries = seen texts entries; memo = memo }) c.in_err-found.field-0.0
           (found_lacks texts o.takes entries c.requires.sees c.in_err-found.field-0.0
           c.in_err-found.ensures.err)));
@@ -38,7 +38,7 @@ pub returns-in_err-named : goal.returns-in_err-named
 returns-in_err-named c =
     let p = err_from_is_err_and c.from_residual-in_err-named.result
     c.from_residual-in_err-named.ensures.1 in
-    let texts = c.args.ledger.now.texts in
+    let texts = c.args.table.now.texts in
     let entries = c.args.stack.now in
     let o = c.args.request.now.operation in
     let found = found_seen texts o.takes entries c.requires.sees _ c.in_ok-found.ensures.ok in
@@ -51,8 +51,8 @@ returns-in_err-named c =
       err = λ i named memo.
           let d = rw c.operands-operands.ensures at (c.in_err-named.ensures.err i named) in
           elim d [
-            | inl e ↦ inl (within_denied _ c.args.terms.now.limits 0 c.in_err-named.field-0.0
-                (judged_denied (permit_of c.args.request.now.policy.now) o.takes o.names o.gives i
+            | inl e ↦ inl (within_errs _ c.args.config.now.limits 0 c.in_err-named.field-0.0
+                (judged_errs (permit_of c.args.request.now.policy.now) o.takes o.names o.gives i
                 (record { entries = seen texts entries; memo = memo }) _ c.in_err-named.field-0.0
                 found e))
             | inr e ↦ inr (inl e.0, e.1)
@@ -61,11 +61,11 @@ returns-in_err-named c =
 
 pub permitted_name-requires : goal.permitted_name-requires
 permitted_name-requires c =
-    let is = found_is c.args.ledger.now.texts c.args.request.now.operation.takes c.args.stack.now
+    let is = found_is c.args.table.now.texts c.args.request.now.operation.takes c.args.stack.now
     c.requires.sees _ c.in_ok-found.ensures.ok in
     record {
       numbered = rw c.operands-operands.ensures
-          (are_numbered c.args.ledger.now.texts _ _ is.operands);
+          (are_numbered c.args.table.now.texts _ _ is.operands);
     }
 
 pub give-requires-clause-first : goal.give-requires-clause-first
@@ -74,8 +74,8 @@ give-requires-clause-first c e =
     c.in_ok-found.ensures.first
     (left_there c.args.request.now.operation.takes c.args.request.now.operation.gives i
     c.requires.given
-    (given_none c.args.ledger.now.texts c.value_of-value.result _ e
-    (c.value_of-value.ensures c.args.ledger.now.texts i)))
+    (given_none c.args.table.now.texts c.value_of-value.result _ e
+    (c.value_of-value.ensures c.args.table.now.texts i)))
 
 pub give-requires-clause-there : goal.give-requires-clause-there
 give-requires-clause-there c e =
@@ -83,8 +83,8 @@ give-requires-clause-there c e =
     c.in_ok-found.ensures.there
     (left_there c.args.request.now.operation.takes c.args.request.now.operation.gives i
     c.requires.given
-    (given_none c.args.ledger.now.texts c.value_of-value.result _ e
-    (c.value_of-value.ensures c.args.ledger.now.texts i)))
+    (given_none c.args.table.now.texts c.value_of-value.result _ e
+    (c.value_of-value.ensures c.args.table.now.texts i)))
 
 pub returns-in_err-is_import : goal.returns-in_err-is_import
 returns-in_err-is_import c =
@@ -110,7 +110,7 @@ returns-in_err-is_import c =
 
 pub returns-in-Ok : goal.returns-in-Ok
 returns-in-Ok c =
-    let texts = c.args.ledger.now.texts in
+    let texts = c.args.table.now.texts in
     let entries = c.args.stack.now in
     let o = c.args.request.now.operation in
     let listed = c.in_ok-is_import.ensures.ok in
@@ -125,7 +125,7 @@ returns-in-Ok c =
           rw listed.0
           (does_pass (permit_of c.args.request.now.policy.now) o.takes o.names o.gives i
           (record { entries = seen texts entries; memo = memo }) _ texts c.in_ok-named.named found
-          fits (seen texts c.give.new.stack) c.args.ledger.now.asked _ c.in_ok-is_import.is_import
+          fits (seen texts c.give.new.stack) c.args.table.now.asked _ c.in_ok-is_import.is_import
           (ap (seen texts) c.in-Ok.ensures.ok ∙ put) refl listed.1);
       sees = rw (listed.0, c.in-Ok.ensures.ok) (put_sees texts texts (same_table texts)
           c.value_of-value.result _ (value (instruction op.None Nothing)) _ is);
@@ -137,11 +137,11 @@ returns-in-Ok c =
 
 pub returns-in-Err : goal.returns-in-Err
 returns-in-Err c =
-    let texts = c.args.ledger.now.texts in
+    let texts = c.args.table.now.texts in
     let entries = c.args.stack.now in
     let o = c.args.request.now.operation in
     let before = listed_before (option_map (named_asked texts) c.in_ok-named.named)
-    c.args.ledger.now.asked in
+    c.args.table.now.asked in
     let found = found_seen texts o.takes entries c.requires.sees _ c.in_ok-found.ensures.ok in
     rw c.from.ensures (record {
       ok = λ i named memo. tt;
@@ -160,7 +160,7 @@ returns-in-Err c =
           unroomed (permit_of c.args.request.now.policy.now) o.takes o.names o.gives i
           (record { entries = seen texts entries; memo = memo }) _ texts c.in_ok-named.named found
           fits texts c.value_of-value.result (c.value_of-value.ensures texts i)
-          c.args.terms.now.limits c.in-Err.reason c.in-Err.ensures.err.1
+          c.args.config.now.limits c.in-Err.reason c.in-Err.ensures.err.1
           (rw (
             length_seen,
             length_below c.in_ok-found.found.place entries c.in_ok-found.ensures.within,

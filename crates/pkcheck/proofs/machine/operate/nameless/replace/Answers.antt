@@ -10,17 +10,17 @@ use Rattle.pkcheck.specs.Private.Slots.{seen}
 use Rattle.pkcheck.proofs.Places.{length_below}
 use Rattle.pkcheck.proofs.ResolvedEntries.{found_seen, found_is, found_lacks, put_seen, put_sees}
 use Rattle.pkcheck.proofs.ResolvedEntries.{length_seen, same_table}
-use Rattle.pkcheck.proofs.StepParts.Judged.{lack_denied, judged_denied, judged_ok, judged_wrong}
-use Rattle.pkcheck.proofs.StepParts.Judged.{within_denied, does_pass, unroomed, left_there}
+use Rattle.pkcheck.proofs.StepParts.Judged.{lack_errs, judged_errs, judged_ok, judged_wrong}
+use Rattle.pkcheck.proofs.StepParts.Judged.{within_errs, does_pass, unroomed, left_there}
 use Rattle.pkcheck.proofs.StepParts.Judged.{given_none}
 use Rattle.pkcheck.proofs.machine.operate.nameless.replace.Goals as goal
 
 pub returns-in_err-found-clause-err : goal.returns-in_err-found-clause-err
 returns-in_err-found-clause-err c =
     let q = err_from_is_err_and c.from_residual.result c.from_residual.ensures.1 in
-    rw (q.1, q.2) (λ ts sees p i m. inl (within_denied _ c.args.limits.now 0
+    rw (q.1, q.2) (λ ts sees p i m. inl (within_errs _ c.args.limits.now 0
     (record { reason = c.in_err-found.field-0.0; pair = None })
-    (lack_denied p c.args.takes NoName c.args.gives i (record
+    (lack_errs p c.args.takes NoName c.args.gives i (record
     { entries = seen ts c.args.stack.now; memo = m }) c.in_err-found.field-0.0
     (found_lacks ts c.args.takes c.args.stack.now sees c.in_err-found.field-0.0
     c.in_err-found.ensures.err))))
@@ -29,8 +29,8 @@ pub returns-then-receiver_fault-clause-err : goal.returns-then-receiver_fault-cl
 returns-then-receiver_fault-clause-err c ts sees p i m =
     let found = found_seen ts c.args.takes c.args.stack.now sees _ c.in_ok-found.ensures.ok in
     let wrong = rw c.operands-operands.ensures at (sym (c.if-receiver_fault.ensures ts)) in
-    inl (within_denied _ c.args.limits.now 0 (record { reason = reason.WrongClass; pair = None })
-    (judged_denied p c.args.takes NoName c.args.gives i (record
+    inl (within_errs _ c.args.limits.now 0 (record { reason = reason.WrongClass; pair = None })
+    (judged_errs p c.args.takes NoName c.args.gives i (record
     { entries = seen ts c.args.stack.now; memo = m }) _ (record
     { reason = reason.WrongClass; pair = None }) found (
       WrongClass,
