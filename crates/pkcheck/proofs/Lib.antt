@@ -1,3 +1,4 @@
+-- What is proved of the symbolic machine, of runs that it covers, and of whole checks.
 pub mod Coverage
 pub mod StepParts
 pub mod Wholes

@@ -1,3 +1,4 @@
+-- Each turn halves what is left to search, and the answer stays that of the whole array.
 use Rattle.std.proofs.Common.{◌≡◌, ℕ, ◌-◌, ◌≤◌, length}
 use Rattle.pklist.specs.Pairs.{comes_to, found, order_to}
 use Rattle.pklist.proofs.pairs.found.Given as goal

@@ -1,3 +1,4 @@
+-- What a binary search finds, the array has.
 use Rattle.std.proofs.Common.{◌≡◌, true, ◌∙◌, sym}
 use Rattle.pklist.proofs.BinarySearch.{found_is_had}
 use Rattle.pklist.proofs.pairs.have.Goals as goal

@@ -1,3 +1,4 @@
+-- Behind the row and with no entry above it, a number has no entry.
 use Rattle.std.proofs.Common.{rules, arith}
 use Rattle.pkbase.proofs.Entries.{next_is_none}
 use Rattle.pkbase.proofs.numbered_map.NumberedMap.is_next.Goals as goal

@@ -1,3 +1,4 @@
+-- A place that is in use lies below the count, so one more is still a place.
 use Rattle.std.proofs.Common.{◌≡◌, ◌<◌, length, take, ap, arith}
 use Rattle.std.proofs.lemmas.List.{length-take-le}
 use Rattle.pkbase.proofs.stack_vec.StackVec.end_with.Goals as goal

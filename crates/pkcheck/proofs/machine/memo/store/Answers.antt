@@ -1,3 +1,4 @@
+-- The next number adds one entry, so it is refused exactly at the limit.
 use Rattle.std.proofs.Common.{inl, refl, arith}
 use Rattle.pkcheck.proofs.StepParts.Errs.{ok_on}
 use Rattle.pkcheck.proofs.Stored.{at_most_one_more, one_more}

@@ -1,3 +1,4 @@
+-- At the limit only a number that is in use may be stored, and then the count stays.
 use Rattle.std.proofs.Common.{◌≡◌, ◌∙◌, None, true, is_some, sym, inl, refl, arith}
 use Rattle.pkcheck.specs.Shape.{recalled}
 use Rattle.pkcheck.proofs.Absent.{has_none}

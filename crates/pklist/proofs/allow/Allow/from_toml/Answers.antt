@@ -1,3 +1,4 @@
+-- `OutOfMemory` is never the fault of a document, and a blank text has none.
 use Rattle.std.proofs.Common.{◌∙◌, sym, ap, Some}
 use Rattle.toml.specs.View.{table_view}
 use Rattle.pklist.proofs.ListFile.Index.{blank_fault}

@@ -1,3 +1,4 @@
+-- The rules still to come have the first fault, since those before them have none.
 use Rattle.std.proofs.Common.{◌≡◌}
 use Rattle.toml.specs.View.{members_view, table_view}
 use Rattle.pklist.specs.ListFile.{each_rule_fault}

@@ -1,3 +1,4 @@
+-- A module goes from the file to the index, the first of two of the same name alone.
 use Rattle.std.proofs.Common.{◌∙◌, sym, string_bytes}
 use Rattle.std.specs.BTreeMap.{get_by_text}
 use Rattle.toml.specs.View.{members_view, view}

@@ -1,3 +1,4 @@
+-- What the index has and what is still to come are together what the file lists.
 use Rattle.std.proofs.Common.{◌≡◌}
 use Rattle.std.specs.BTreeMap.{get_by_text}
 use Rattle.toml.specs.Data.{get_member}

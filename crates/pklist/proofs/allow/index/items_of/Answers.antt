@@ -1,3 +1,4 @@
+-- A value goes from the array to the set; at the end, the set has them all.
 use Rattle.std.proofs.Common.{sym}
 use Rattle.pklist.proofs.ListFile.Index.{item_step, item_end}
 use Rattle.pklist.proofs.allow.index.items_of.Goals as goal

@@ -1,3 +1,4 @@
+-- What the set has and the values still to come are together the values of the array.
 use Rattle.std.proofs.Common.{◌≡◌, ◌||◌, drop}
 use Rattle.std.specs.BTreeSet.{contains_text}
 use Rattle.toml.specs.View.{items_view}

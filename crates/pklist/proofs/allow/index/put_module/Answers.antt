@@ -1,3 +1,4 @@
+-- A module that is put changes what is found under its name, and under no other.
 use Rattle.std.proofs.Common.{Some, string_bytes}
 use Rattle.std.proofs.lemmas.Map.Text.{btree_map_updates_text}
 use Rattle.pklist.proofs.allow.index.put_module.Goals as goal

@@ -1,3 +1,4 @@
+-- A name that is put is in the set from then on, and no other one.
 use Rattle.std.proofs.Common.{true, string_bytes}
 use Rattle.std.proofs.lemmas.Map.Text.{btree_set_updates_text}
 use Rattle.pklist.proofs.allow.index.put_name.Goals as goal

@@ -1,3 +1,4 @@
+-- All values are names if those still to come are.
 use Rattle.std.proofs.Common.{◌≡◌, drop}
 use Rattle.toml.specs.View.{items_view}
 use Rattle.pklist.specs.ListFile.{are_names}

@@ -1,3 +1,4 @@
+-- A key that is none of the known ones is among those still to come, or nowhere.
 use Rattle.std.proofs.Common.{◌≡◌}
 use Rattle.toml.specs.View.{members_view, table_view}
 use Rattle.pklist.specs.ListFile.{keys_fault}

@@ -1,3 +1,4 @@
+-- The first fault of the modules is in those still to come.
 use Rattle.std.proofs.Common.{◌≡◌}
 use Rattle.toml.specs.View.{members_view, table_view}
 use Rattle.pklist.specs.ListFile.{modules_fault}

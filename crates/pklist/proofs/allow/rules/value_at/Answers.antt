@@ -1,3 +1,4 @@
+-- A look-up in a table of TOML is one among its members.
 use Rattle.toml.proofs.Views.{table_get}
 use Rattle.pklist.proofs.allow.rules.value_at.Goals as goal
 
