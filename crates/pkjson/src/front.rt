@@ -1,13 +1,14 @@
 //! The instruction at the front of the bytes of an accepted pickle.
 
-ghost use Rattle.std.specs.Prelude.{◌≡◌, ◌==◌, ℕ, Bool, IfSome, Some, position};
+ghost use Rattle.std.specs.Prelude.{◌≡◌, ℕ, Bool, IfSome, Some};
 ghost use Rattle.pkops.specs.Spelling.{layout_at};
 ghost use Rattle.pkops.specs.declared.Layout.TheVariants as layout;
 ghost use Rattle.pkops.specs.declared.Op.{Op as SpecOp};
 ghost use Rattle.pkjson.specs.Private.Fronts.{HasFront, IsFront, Measures};
 
 use pkops::laws::one_code;
-use pkops::{Inst, Layout, Limits, Op, Scan, Width, count_behind, layout_of_op, op_of_byte, scan};
+use pkops::lengths::{counted_head, end_of_line};
+use pkops::{Inst, Layout, Limits, Op, Scan, Width, layout_of_op, op_of_byte, scan};
 
 /// The instruction at the front of the bytes, and the number of bytes that spell it.
 #[inline]
@@ -92,25 +93,17 @@ fn line_length(bytes: &[u8]) -> Option<usize>
     Some(end + 2)
 }
 
-/// The offset of the first line feed.
-fn end_of_line(bytes: &[u8]) -> Option<usize>
-    ensures { result ≡ position (λ byte. byte == 10) bytes.now }
-{
-    bytes.iter().position(|byte| *byte == b'\n')
-}
-
 /// The number of bytes of an instruction with a count of this width and a payload.
 #[inline]
 fn counted_length(width: Width, bytes: &[u8]) -> Option<usize>
     ensures { IfSome result (λ n. (op : SpecOp) (signed : Bool) →
         layout_at op ≡ layout.Counted width signed → Measures op bytes.now n) }
 {
-    if bytes.len() <= width.size() {
+    let Some((head, count)) = counted_head(width, bytes) else {
         return None;
-    }
-    let count = count_behind(width, bytes);
+    };
     if count > bytes.len() as u64 {
         return None;
     }
-    Some(width.size() + 1 + count as usize)
+    Some(head + count as usize)
 }
