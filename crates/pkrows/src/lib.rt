@@ -20,6 +20,8 @@ mod judging;
 #[cfg(test)]
 mod large;
 #[cfg(test)]
+mod lengths;
+#[cfg(test)]
 mod limited;
 #[cfg(test)]
 mod listed;
