@@ -28,11 +28,12 @@ class Library(unittest.TestCase):
         return subprocess.run(words, check=True, capture_output=True, text=True).stdout
 
     @needs(COMPILER, ARCHIVE)
-    def test_a_program_under_sanitizers(self):
-        words = [*SANITIZED.split(), WRAPPED, "-pthread", *SOURCES, ARCHIVE]
-        program = compiled(self.folder, TESTS / "c_library.c", str(TESTS / "refusing.c"), *words)
-        ran = subprocess.run([program], capture_output=True, text=True)
-        self.assertEqual((ran.returncode, ran.stdout, ran.stderr), (0, "", ""))
+    def test_programs_under_sanitizers(self):
+        words = [str(TESTS / "refusing.c"), *SANITIZED.split(), WRAPPED, "-pthread", *SOURCES]
+        for name in ("c_library.c", "c_costs.c"):
+            program = compiled(self.folder, TESTS / name, *words, ARCHIVE)
+            ran = subprocess.run([program], capture_output=True, text=True)
+            self.assertEqual((ran.returncode, ran.stdout, ran.stderr), (0, "", ""), name)
 
     @needs(COMPILER, ARCHIVE, "nm", "objdump")
     def test_the_shared_library(self):
