@@ -13,7 +13,6 @@ ghost use Rattle.pkops.specs.KnownLayout.{Lies, count_in};
 use crate::arg::Arg;
 use crate::contents::numeral::{is_bool_line, number_of, value_of};
 use crate::layout::{Layout, Width};
-use crate::lengths::head_length;
 use crate::op::Op;
 use crate::table::layout_of_op;
 use byteorder::{ByteOrder, LittleEndian};
@@ -39,7 +38,8 @@ pub fn argument_of<'a>(op: Op, split: usize, bytes: &'a [u8]) -> Arg<'a>
             between(1, split + 1, bytes),
             between(split + 2, bytes.len() - 1, bytes),
         ),
-        Layout::Counted(width, _) => Arg::Counted(behind(head_length(width), bytes)),
+        // With `head_length` here, LLVM's code for this match is longer.
+        Layout::Counted(width, _) => Arg::Counted(behind(width.size() + 1, bytes)),
     }
 }
 
