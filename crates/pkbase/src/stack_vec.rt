@@ -1,7 +1,7 @@
 //! A vector that keeps its store.
 
 ghost use Rattle.std.specs.Option.{option_to_list};
-ghost use Rattle.std.specs.Prelude.{◌≡◌, ◌↔◌, [], ◌∷◌, ◌++◌, ◌+◌, ◌^◌, ◌<◌, ◌≤◌, length, set};
+ghost use Rattle.std.specs.Prelude.{◌≡◌, ◌↔◌, [], ◌∷◌, ◌++◌, ◌+◌, ◌^◌, ◌<◌, length, set};
 ghost use Rattle.std.specs.Prelude.{IsSome, OnErr, OnOk, take};
 
 use std::alloc::{AllocError, Global};
