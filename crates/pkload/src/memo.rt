@@ -23,7 +23,7 @@ pub fn next_number(memo: &Memo) -> Result<u32, Halt>
 }
 
 /// Stores what an object costs.
-#[inline(always)]
+#[inline]
 pub fn store(memo: &mut Memo, number: u32, heft: Packed) -> Result<(), Halt>
     ensures { OnOk result (memo.new ≡ stored number heft memo.old) }
 {
