@@ -9,7 +9,8 @@ import zlib
 
 from common import needs
 from storklocker.scanning import budget
-from test_readings import EVIL, SECONDS, cost_of, reports
+from test_readings import EVIL, reports
+from test_scan_costs import SECONDS, cost_of
 from test_scanning import zipped
 
 NAME = b"a"

@@ -14,7 +14,8 @@ import unittest
 
 from storklocker import AllowList
 from storklocker.scanning.sqlite_pages import DATABASE, JOURNAL, LOGS
-from test_readings import SECONDS, reports
+from test_readings import reports
+from test_scan_costs import SECONDS
 
 DAY = datetime.date(2026, 1, 1)
 DAYS = AllowList([("datetime", "date")])

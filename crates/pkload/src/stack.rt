@@ -61,8 +61,8 @@ impl Stack {
         self.codes.clear();
     }
 
-    /// Pushes a code. What is inlined always counts as part of `Machine::act`, which must stay small
-    /// enough to be inlined itself.
+    /// Pushes a code. Not `inline(always)`, which would count as part of `Machine::act`: that must
+    /// stay small enough to be inlined itself.
     #[inline]
     #[tactic(auto, using(crate::proofs::Slots::shown_append))]
     fn push_code(&mut self, code: u32) -> Result<(), Halt>
