@@ -5,6 +5,7 @@ unpickles, and what it keeps in a cache of files.
 import io
 import logging
 import pickle
+import struct
 import tempfile
 from pathlib import Path
 
@@ -72,6 +73,6 @@ def kept(client, folder, data):
     cache = client.application.cache
     cache.set("key", 1)
     path = Path(cache._get_filename("key"))
-    expiry = path.read_bytes()[: path.read_bytes().index(b"\x80")]
+    expiry = path.read_bytes()[: struct.calcsize("I")]
     path.write_bytes(expiry + data)
     return client.get("/cached")

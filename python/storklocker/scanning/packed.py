@@ -165,6 +165,9 @@ def _unpacked(place: Place, at: int, form: _Format) -> Tuple[Source, str, int]:
         at = behind_zeros(source, found.end)
         if at >= source.size:
             return in_memory(out), fault, gap
+        if form.goes_on_at and found.end < at <= found.end + BLOCK:
+            begins = _is_lzma(source.read(found.end, 32)) and not is_at(source.read(at, 32))
+            at = found.end if begins else at  # (LZMA alone may begin with zeros)
         if not is_at(source.read(at, 32)):
             return in_memory(out), f"{source.size - at:,} bytes follow what is packed", gap
         if at > found.end:
