@@ -273,6 +273,15 @@ class Readings(unittest.TestCase):
         for name in names:
             self.assertIn(RUNS, lzma.LZMAFile(io.BytesIO(HOSTILE[name])).read(), name)
 
+    def test_lzma_alone_may_begin_with_zeros(self):
+        plain = {"id": lzma.FILTER_LZMA1, "lc": 0, "lp": 0, "pb": 0, "dict_size": 1 << 18}
+        packed = lzma.compress(RUNS, lzma.FORMAT_ALONE, filters=[plain])
+        self.assertEqual(packed[:3], bytes(3))
+        nothing = b"]" + bytes(17)  # LZMA alone of no bytes
+        self.assertEqual(lzma.decompress(nothing + packed), RUNS)
+        self.assertTrue(is_finding(nothing + packed))
+        self.assertFalse(is_finding(nothing + bytes(40)))
+
     def test_readers_get_to_what_is_in_front_of_a_fault(self):
         for name, begin in (("zlib", zlib.decompressobj), ("lzma", lzma.LZMADecompressor)):
             data, made = HOSTILE[f"{name}, broken at its end"], begin()
