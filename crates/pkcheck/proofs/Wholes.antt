@@ -17,7 +17,6 @@ pub mod LentInstructions
 pub mod HeardInstructions
 pub mod WholeReports
 pub mod AnotherPickle
-pub mod WorkLeft
 pub mod RowOfPickles
 pub mod ThreeEnds
 pub mod Going

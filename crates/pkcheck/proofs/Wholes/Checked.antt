@@ -69,10 +69,6 @@ pub record Checked (setting : OldStrings) (policy : Policy) (limits : Bounds) (o
   pub off : m.off ≡ None
   pub stopped : m.stopped ≡ has_ended s
 
--- a count of bytes taken from the start of the source
-pub from_start : (taken count : ℕ) → count ≡ taken → taken ≡ 0 + count
-from_start taken count e = omega (arith, e)
-
 -- the machine is at the first instruction of a pickle whose runs begin like this
 pub record IsReady (setting : OldStrings) (policy : Policy) (limits : Bounds) (b : Beginning)
     (m : View) : Type 0 where

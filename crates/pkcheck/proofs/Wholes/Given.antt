@@ -12,12 +12,12 @@ use Rattle.pkops.specs.declared.Op.{Op}
 use Rattle.pkops.specs.declared.Op.TheVariants as op
 use Rattle.pkread.specs.Admission.{IsAllowedBy}
 use Rattle.pkread.specs.AtHand.{AreNext, IsLent, beyond}
-use Rattle.pkread.specs.Core.{Ended, Open, Phase, Refused, phase_after}
+use Rattle.pkread.specs.Core.{Open, phase_after}
 use Rattle.pkread.specs.Heads.{IsSkipped, StepsHead}
-use Rattle.pkread.specs.ReaderCalls.{Gives, ReaderState, Steps, is_ended}
+use Rattle.pkread.specs.ReaderCalls.{Gives, ReaderState, Steps}
 use Rattle.pkread.specs.Rows.{Refuses, Sight, Takes, unread}
 use Rattle.pkread.specs.Run.{HeadIsRead, HoldsTo, LentIsRead, NextIsRead, PassedIsRead, PassesTo}
-use Rattle.pkread.specs.Run.{Reads, ReadsMore, RefusalIsRead, RefusalOfHeads, SoFar}
+use Rattle.pkread.specs.Run.{Reads, ReadsMore, RefusalIsRead, RefusalOfHeads}
 use Rattle.pkread.specs.Sequence.{CountsAt, NoStop}
 use Rattle.pkread.specs.declared.Head.{Head}
 use Rattle.pkread.specs.declared.Head.TheVariants as head
@@ -29,13 +29,6 @@ use Rattle.pkcheck.specs.Private.Turns.{Gave, TurnedDown}
 last_of : {X : Type 0} (P : X → Type 0) (xs : List X) (x : X) → All P (xs ++ x ∷ []) → P x
 last_of P [] x h = h 0 x (omega arith)
 last_of P (y ∷ xs) x h = last_of P xs x (λ k d lt. h (suc k) d (omega (arith, lt)))
-
--- without a STOP among the instructions, the reader has not ended
-pub not_ended : (p : List Instruction) (f : Phase) → SoFar p f → NoStop p → is_ended f ≡ false
-not_ended p Open so none = refl
-not_ended p Ended (front, last, e, is, before) none =
-    absurd (last_of (λ i. i.op ≢ op.Stop) front last (subst (All (λ i. i.op ≢ op.Stop)) e none) is)
-not_ended p (Refused r) so none = refl
 
 -- if skipped payloads have the limit of all others, every payload has it
 one_limit : (limits : Bounds) → limits.passed ≡ limits.counted → (passed : Bool)

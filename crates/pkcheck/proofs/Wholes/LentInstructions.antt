@@ -24,13 +24,6 @@ use Rattle.pkcheck.proofs.Wholes.Given.{Took, took_lent}
 use Rattle.pkcheck.proofs.Wholes.InTurn.{lent_within}
 use Rattle.pkcheck.proofs.Wholes.Origins.{Origin}
 
--- a reader only goes forwards
-pub taken_along : (holding : Bool) (policy : Policy) (s t : ReaderState)
-    (before after : SessionView)
-    → GoesAlong holding policy s t before after → s.taken ≤ t.taken
-taken_along holding policy s t before after (inl (is, same)) = omega (arith, ap (λ u. u.taken) same)
-taken_along holding policy s t before after (inr k) = omega (arith, ap (λ u. u.taken) k.taken)
-
 drop_none : (left : Option (List ℕ)) → option_map (drop 0) left ≡ left
 drop_none None = refl
 drop_none (Some xs) = refl

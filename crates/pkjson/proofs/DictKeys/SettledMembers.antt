@@ -1,5 +1,5 @@
 -- The members that stand, as they are found, and what settled objects hold.
-use Rattle.std.proofs.Common.{◌≡◌, ℕ, zero, suc, ◌+◌, ◌<◌, ◌≤◌, List, [], ◌∷◌, ◌++◌, length, take}
+use Rattle.std.proofs.Common.{◌≡◌, ℕ, zero, suc, ◌+◌, ◌<◌, ◌≤◌, List, [], ◌∷◌, ◌++◌, length}
 use Rattle.std.proofs.Common.{drop, get_or, refl, sym, ap, ◌∙◌, subst, arith, Option, Some, None}
 use Rattle.std.proofs.Common.{Ordering, Less, Equal, Greater, drop-cons, length-drop, All}
 use Rattle.std.specs.Prelude.{option_map, slice_get}
@@ -23,8 +23,7 @@ use Rattle.pkjson.specs.Private.Settled.{AreGivenBelow, Settles, AreSettled}
 use Rattle.pkjson.specs.declared.objects.Object.{Object}
 use Rattle.pkjson.specs.declared.settled.Settled.{Settled}
 use Rattle.pkjson.specs.Private.Seen.{kept_of, kept_all}
-use Rattle.pkjson.proofs.Entries.{kept_append}
-use Rattle.pkjson.proofs.Parts.NodesHeld.{Dict, Member, take_more}
+use Rattle.pkjson.proofs.Parts.NodesHeld.{Dict, Member}
 
 abbrev by_text : Bor (List ℕ) → Bor (List ℕ) → Ordering
 by_text x y = slice_cmp nat_cmp x.now y.now
@@ -186,8 +185,3 @@ given_there n (p ∷ os) zero o h l e = subst (λ z. All (λ x. x < n) (kept_of 
     (All-head (λ k. All (λ x. x < n) k.given) (kept_of p) (kept_all os) h)
 given_there n (p ∷ os) (suc i) o h l e = given_there n os i o
     (All-tail (λ k. All (λ x. x < n) k.given) (kept_of p) (kept_all os) h) (omega (arith, l)) e
-
-pub kept_more : (os : List Object) (i : ℕ) (o : Object) → i < length os → o ≡ get_or os i o
-    → kept_all (take (i + 1) os) ≡ kept_all (take i os) ++ kept_of o ∷ []
-kept_more os i o l e = ap kept_all (take_more os i o l ∙ ap (λ z. take i os ++ z ∷ []) (sym e))
-    ∙ kept_append (take i os) o

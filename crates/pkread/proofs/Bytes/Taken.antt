@@ -92,20 +92,6 @@ lacks_all count old new r some room same still h = record {
       (omega (arith, room, still)) h;
 }
 
--- no byte more may be taken
-pub lacks_room : (count : ℕ) (old : Intake) →
-    0 < count → old.taken ≡ all_bytes → LacksSome count old old TooLarge
-lacks_room count old some e =
-    let none = took_none old in
-    record {
-      bytes = [];
-      fit = none.fit;
-      held = none.held;
-      count_is = none.count;
-      lacks = some;
-      row = (none.source, e);
-    }
-
 -- what was taken in two steps
 pub took_both : (c d : List ℕ) (old mid new : Intake) →
     Took c old mid → Took d mid new → Took (c ++ d) old new
