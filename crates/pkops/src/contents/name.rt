@@ -1,6 +1,6 @@
 //! Names in ASCII: the lines of GLOBAL, INST and PERSID.
 
-ghost use Rattle.std.specs.Prelude.{◌≡◌};
+ghost use Rattle.std.specs.Prelude.{◌≡◌, ◌+◌, ◌≤◌, length};
 ghost use Rattle.std.specs.List.{list_all};
 ghost use Rattle.std.specs.Char.{is_ascii};
 ghost use Rattle.pkops.specs.RuleTests.{is_name};
@@ -12,16 +12,58 @@ pub fn is_name(line: &[u8]) -> bool
     !line.is_empty() && is_ascii(line)
 }
 
-/// The length from which on it is faster to test many bytes at a time.
-const LONG: usize = 9;
+/// How many bytes of a long text are tested at a time.
+const BLOCK: usize = 32;
 
-/// Whether each byte is ASCII. Of a long text it looks at every byte, whatever the first ones are,
-/// which lets the compiler test sixteen at a time.
+/// Whether each byte is ASCII.
 pub fn is_ascii(bytes: &[u8]) -> bool
     ensures { result ≡ list_all is_ascii bytes.now }
 {
-    if bytes.len() < LONG {
-        return bytes.iter().all(|byte| byte.is_ascii());
+    let mut rest = bytes;
+    'blocks: while rest.len() > BLOCK {
+        if !are_ascii(&rest[..BLOCK]) {
+            return false;
+        }
+        rest = &rest[BLOCK..];
     }
+    is_ascii_block(rest)
+}
+
+/// Whether each of these bytes is ASCII, which at most `BLOCK` are. The compiler tests as many at a
+/// time as it knows that there are, so a text is tested as two pieces of a known length, which may
+/// overlap.
+#[inline(always)]
+fn is_ascii_block(bytes: &[u8]) -> bool
+    requires { length bytes.now ≤ 32 }
+    ensures { result ≡ list_all is_ascii bytes.now }
+{
+    if bytes.len() >= 16 {
+        return are_ends_ascii(bytes, 16);
+    }
+    if bytes.len() >= 8 {
+        return are_ends_ascii(bytes, 8);
+    }
+    if bytes.len() >= 4 {
+        return are_ends_ascii(bytes, 4);
+    }
+    bytes.iter().all(|byte| byte.is_ascii())
+}
+
+/// Whether each byte is ASCII, where the first `size` and the last `size` are all.
+#[inline(always)]
+fn are_ends_ascii(bytes: &[u8], size: usize) -> bool
+    requires within { size ≤ length bytes.now }
+    requires all { length bytes.now ≤ size + size }
+    ensures { result ≡ list_all is_ascii bytes.now }
+{
+    are_ascii(&bytes[..size]) & are_ascii(&bytes[bytes.len() - size..])
+}
+
+/// Whether each byte is ASCII. It looks at every byte, whatever the first ones are, which lets the
+/// compiler test them at once.
+#[inline(always)]
+fn are_ascii(bytes: &[u8]) -> bool
+    ensures { result ≡ list_all is_ascii bytes.now }
+{
     bytes.iter().fold(true, |good, byte| good & byte.is_ascii())
 }

@@ -8,17 +8,20 @@ use crate::contents::name::is_ascii;
 /// The length from which on `simdutf8` is faster than `std`.
 const LONG: usize = 40;
 
+/// The length from which on `simdutf8` is faster even for ASCII.
+const VERY_LONG: usize = 256;
+
 /// Whether the bytes are UTF-8. Long ones are checked without byte shuffles, because the shipped
 /// libraries also run on processors that lack them.
 #[inline]
 pub fn is_utf8(bytes: &[u8]) -> bool
     ensures { MatchBool result (IsUtf8 bytes.now) (¬ (IsUtf8 bytes.now)) }
 {
+    if bytes.len() < VERY_LONG && is_ascii(bytes) {
+        return true;
+    }
     if bytes.len() >= LONG {
         return simdutf8::is_utf8_baseline(bytes);
-    }
-    if is_ascii(bytes) {
-        return true;
     }
     match str::from_utf8(bytes) {
         Ok(_) => true,

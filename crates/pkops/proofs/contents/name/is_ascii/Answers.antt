@@ -1,13 +1,29 @@
--- A fold over every byte of a long text finds out whether all are ASCII.
-use Rattle.std.proofs.Common.{rules, tests, true, ◌&&◌, ◌∙◌}
+-- What was tested is ASCII, so the text is exactly if the rest is.
+use Rattle.std.proofs.Common.{◌∙◌, ◌&&◌, ap, arith, drop, sym}
+use Rattle.std.specs.List.{list_all}
 use Rattle.std.specs.Char.{is_ascii}
-use Rattle.std.proofs.lemmas.Iterator.{YieldsList-from_slice}
-use Rattle.std.proofs.lemmas.Iterator.Consumers.{fold_from_yields_List}
-use Rattle.pkops.proofs.ContentsRules.EachByte.{fold_all}
+use Rattle.std.proofs.lemmas.List.{length-take-le, take_rest}
+use Rattle.pkops.proofs.ContentsRules.EachByte.{all_of_parts}
 use Rattle.pkops.proofs.contents.name.is_ascii.Goals as goal
 
+pub slice_bounds-are_ascii-end : goal.slice_bounds-are_ascii-end
+slice_bounds-are_ascii-end c =
+    sym (length-take-le 32 c.blocks-2.rest.now (omega (arith, c.blocks-2-test.true)))
+
+pub returns-then-not-are_ascii : goal.returns-then-not-are_ascii
+returns-then-not-are_ascii c =
+    let rest = c.blocks-2.rest.now in
+    sym (c.blocks-2.invariant ∙ all_of_parts is_ascii 32 rest
+    ∙ ap (λ first. first && list_all is_ascii (drop 32 rest))
+    (sym c.are_ascii.ensures ∙ c.if-not-are_ascii.true))
+
+pub blocks-2-preserved : goal.blocks-2-preserved
+blocks-2-preserved c =
+    let rest = c.blocks-2.rest.now in
+    c.blocks-2.invariant ∙ all_of_parts is_ascii 32 rest
+    ∙ ap (λ first. first && list_all is_ascii (drop 32 rest))
+    (sym c.are_ascii.ensures ∙ c.if-not-are_ascii.false)
+    ∙ ap (list_all is_ascii) (sym (take_rest rest 32))
+
 pub returns : goal.returns
-returns c =
-    fold_from_yields_List _ (λ good byte. good && is_ascii byte) _ c.fold.result c.fold.ensures.ran
-    (YieldsList-from_slice c.args.bytes.now cc) (λ a x b q k. search (rules, tests))
-    ∙ fold_all is_ascii true c.args.bytes.now
+returns c = c.is_ascii_block.ensures ∙ sym c.blocks-2.invariant
