@@ -22,7 +22,7 @@ def files_like(pattern: str) -> int:
 # What a document may count, and the actual counts.
 COUNTS: Dict[str, Callable[[], int]] = {
     "opcodes": lambda: len(pickletools.opcodes),
-    "reasons": lambda: lines_of("crates/pkread/src/refusal.rt", r"^    [A-Z]\w*(?:\(u\d+\))?,$"),
+    "reasons": lambda: lines_of("crates/pkops/src/refusal.rt", r"^    [A-Z]\w*(?:\(u\d+\))?,$"),
     "crates": lambda: lines_of("crates.txt", r"^\w.*:"),
     "recipes": lambda: files_like("examples/recipes/*.stdout"),
     "edits that must fail": lambda: files_like("crates/*/*/*.edit"),

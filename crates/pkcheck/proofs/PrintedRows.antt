@@ -1,7 +1,7 @@
 -- Worked examples of printed refusals.
 use Rattle.std.proofs.Common.{◌≡◌, refl, codes, [], ◌∷◌, None}
 use Rattle.std.specs.Fmt.{digits}
-use Rattle.pkread.specs.declared.Reason.TheVariants as reason
+use Rattle.pkops.specs.declared.Reason.TheVariants as reason
 use Rattle.pkcheck.specs.declared.checking.No.{No}
 use Rattle.pkcheck.specs.Quoted.{quoted}
 use Rattle.pkcheck.specs.Printed.{no_text, no_all_text}

@@ -9,12 +9,12 @@ use Rattle.pkcheck.specs.declared.machine.value.Value.TheVariants.{Unknown, Made
 use Rattle.pkcheck.specs.declared.machine.value.Value.TheVariants as value
 use Rattle.pkcheck.specs.declared.effect.Move.{Move}
 use Rattle.pkcheck.specs.declared.effect.Takes.{Takes}
-use Rattle.pkread.specs.declared.Reason.{Reason}
 use Rattle.pkcheck.specs.Shape.{Breach, Entry, Mark, Item, Shape, Taken, operands, put, moved}
 use Rattle.pkcheck.specs.Shape.{marks_of, top}
 use Rattle.pkcheck.specs.Covers.{Pointwise, AlikeEntry, AlikeCell, Alike}
 use Rattle.pkcheck.specs.Private.StepErrors.{IsLack, IsFaultOf, with_item}
 use Rattle.pkops.specs.Limits.{Bounds}
+use Rattle.pkops.specs.declared.Reason.{Reason}
 use Rattle.pkcheck.specs.Runs.{Text}
 use Rattle.pkcheck.specs.Knowledge.{Known, Knowledge}
 use Rattle.pkcheck.specs.Private.Noted.{Noted}

@@ -4,11 +4,11 @@ use Rattle.pkops.specs.Contents.{IsGood}
 use Rattle.pkops.specs.Limits.{Bounds}
 use Rattle.pkops.specs.Payloads.{payload_limit}
 use Rattle.pkops.specs.Spelling.{Instruction}
+use Rattle.pkops.specs.declared.Reason.{Reason}
+use Rattle.pkops.specs.declared.Reason.TheVariants.{Source, OutOfMemory}
 use Rattle.pkread.specs.Admission.{IsAllowedBy}
 use Rattle.pkread.specs.Rows.{Sight, Takes, all_bytes}
 use Rattle.pkread.specs.Sequence.{spellings}
-use Rattle.pkread.specs.declared.Reason.{Reason}
-use Rattle.pkread.specs.declared.Reason.TheVariants.{Source, OutOfMemory}
 use Rattle.pkcheck.specs.declared.old_strings.OldStrings.{OldStrings}
 use Rattle.pkcheck.specs.Knowledge.{Policy, Asked}
 use Rattle.pkcheck.specs.declared.loading.Loading.{Loading}

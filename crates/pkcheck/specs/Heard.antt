@@ -5,12 +5,12 @@ use Rattle.std.specs.Prelude.{Result, Ok, Err, Option}
 use Rattle.pkops.specs.Limits.{Bounds}
 use Rattle.pkops.specs.Payloads.{payload_limit}
 use Rattle.pkops.specs.Spelling.{Instruction}
+use Rattle.pkops.specs.declared.Reason.{Reason}
 use Rattle.pkread.specs.Admission.{IsAllowedBy}
 use Rattle.pkread.specs.Framing.{Framed}
 use Rattle.pkread.specs.Pieces.{piece_of}
 use Rattle.pkread.specs.Rows.{Sight, Takes}
 use Rattle.pkread.specs.Sequence.{NoStop, spellings}
-use Rattle.pkread.specs.declared.Reason.{Reason}
 use Rattle.pkcheck.specs.Answered.{IsRightAnswer}
 use Rattle.pkcheck.specs.Faults.{InEachRun}
 use Rattle.pkcheck.specs.declared.old_strings.OldStrings.{OldStrings}

@@ -1,6 +1,6 @@
 -- How a refusal is printed.
 use Rattle.std.specs.Prelude.{ℕ, List, [], ◌++◌, codes, decimal, string_bytes, Option, Some}
-use Rattle.pkread.specs.Printed.{refusal_text}
+use Rattle.pkops.specs.Printed.{refusal_text}
 use Rattle.pkcheck.specs.declared.import.Asked.{Asked}
 use Rattle.pkcheck.specs.declared.import.Asked.TheVariants.{Pair}
 use Rattle.pkcheck.specs.declared.checking.No.{No}

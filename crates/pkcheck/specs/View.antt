@@ -1,8 +1,8 @@
 -- What contracts see of the machine.
 use Rattle.std.specs.Prelude.{ℕ, suc, Bool, true, false, List, [], Option, Some, None}
 use Rattle.pkops.specs.Limits.{Bounds}
-use Rattle.pkread.specs.declared.Reason.{Reason}
-use Rattle.pkread.specs.declared.Reason.TheVariants.{ImportOffList}
+use Rattle.pkops.specs.declared.Reason.{Reason}
+use Rattle.pkops.specs.declared.Reason.TheVariants.{ImportOffList}
 use Rattle.pkcheck.specs.Effects.{Effect, Operates, Stops}
 use Rattle.pkcheck.specs.declared.effect.Gives.{Gives}
 use Rattle.pkcheck.specs.declared.effect.Gives.TheVariants.{MakesText}

@@ -2,9 +2,9 @@
 use Rattle.std.specs.Prelude.{◌≡◌, ◌++◌, ℕ, List, length, Option, Result, MatchResult, option_map}
 use Rattle.pkops.specs.Limits.{Bounds}
 use Rattle.pkops.specs.Spelling.{Instruction}
+use Rattle.pkops.specs.declared.Reason.{Reason}
 use Rattle.pkread.specs.Rows.{Sight}
 use Rattle.pkread.specs.Sequence.{CountsAt}
-use Rattle.pkread.specs.declared.Reason.{Reason}
 use Rattle.pkcheck.specs.declared.old_strings.OldStrings.{OldStrings}
 use Rattle.pkcheck.specs.Accepted.{Accepted}
 use Rattle.pkcheck.specs.Covers.{Pointwise, imports_of}

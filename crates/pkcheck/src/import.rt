@@ -10,7 +10,7 @@ ghost use Rattle.pkcheck.specs.Import.{asked_shown, import_shown};
 use crate::effect::Names;
 use crate::machine::stack::Operands;
 use crate::machine::value::Value;
-use pkread::Reason;
+use pkops::Reason;
 use std::alloc::{AllocError, Global};
 
 /// An import that owns its names.

@@ -31,8 +31,8 @@ use crate::old_strings::OldStrings;
 use crate::policy::Permit;
 use crate::turned::{Failed, Turned};
 use crate::with_imports::NoWithImports;
-use pkops::{Inst, Limits, Op};
-use pkread::{Frames, Head, Next, Reader, Reason, Refusal, Source, frame_argument, lend};
+use pkops::{Inst, Limits, Op, Reason, Refusal};
+use pkread::{Frames, Head, Next, Reader, Source, frame_argument, lend};
 use std::alloc::{AllocError, Global};
 use std::marker::Model;
 

@@ -1,6 +1,6 @@
 //! Where a loop over lent instructions ends before their bytes do.
 
-use pkread::Reason;
+use pkops::Reason;
 
 /// The first instruction that a session refuses among some bytes.
 #[derive(Clone, Copy, Debug, Drop)]

@@ -1,7 +1,7 @@
 -- The numbers that C sees. They never change.
 use Rattle.std.specs.Prelude.{ℕ}
-use Rattle.pkread.specs.declared.Reason.{Reason}
-use Rattle.pkread.specs.declared.Reason.TheVariants as reason
+use Rattle.pkops.specs.declared.Reason.{Reason}
+use Rattle.pkops.specs.declared.Reason.TheVariants as reason
 use Rattle.pklist.specs.declared.AllowError.{AllowError}
 use Rattle.pklist.specs.declared.AllowError.TheVariants as fault
 use Rattle.pklist.specs.declared.Where.TheVariants as part

@@ -5,8 +5,8 @@ use Rattle.std.specs.Str.{IsUtf8}
 use Rattle.toml.specs.Data.{Members, get_member}
 use Rattle.toml.specs.Errors.{IsBlank}
 use Rattle.pkops.specs.Limits.{Bounds}
+use Rattle.pkops.specs.declared.Reason.{Reason}
 use Rattle.pkread.specs.Rows.{Sight}
-use Rattle.pkread.specs.declared.Reason.{Reason}
 use Rattle.pkcheck.specs.Knowledge.{Policy, Asked, AskedPair}
 use Rattle.pklist.specs.Allow.{are_unsaid}
 use Rattle.pklist.specs.ListFile.{cost_limits_in, limits_in, list_of, lists_in}

@@ -5,7 +5,7 @@ ghost use Rattle.pkguard.specs.Codes.{excess_code, fault_code, reason_code, reas
 
 use pklist::{AllowError, Where};
 use pkload::Excess;
-use pkread::Reason;
+use pkops::Reason;
 
 /// The number of a reason.
 pub fn reason_code(reason: Reason) -> u32

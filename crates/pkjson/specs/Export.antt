@@ -5,8 +5,8 @@ use Rattle.serde_json.specs.Data.{Data, depth}
 use Rattle.serde_json.specs.Written.{compact_text, has_float}
 use Rattle.pkops.specs.Limits.{Bounds, holding_all}
 use Rattle.pkops.specs.Spelling.{Instruction}
+use Rattle.pkops.specs.declared.Reason.TheVariants as reason
 use Rattle.pkread.specs.Rows.{Sight, in_memory}
-use Rattle.pkread.specs.declared.Reason.TheVariants as reason
 use Rattle.pkcheck.specs.declared.OldStrings.TheVariants.{Unknown}
 use Rattle.pkcheck.specs.Accepted.{Accepted}
 use Rattle.pkcheck.specs.Refused.{Refused}

@@ -1,7 +1,6 @@
 //! Why a pickle cannot be exported.
 
-use pkops::Op;
-use pkread::Refusal;
+use pkops::{Op, Refusal};
 use thiserror::Error;
 
 /// Why a pickle cannot be exported, in the order in which the causes are checked. Offsets are those

@@ -9,10 +9,10 @@ use Rattle.std.specs.Prelude.{All, ◌≢◌}
 use Rattle.pkops.specs.Limits.{Bounds}
 use Rattle.pkops.specs.Payloads.{payload_limit}
 use Rattle.pkops.specs.Spelling.{Instruction, spelling}
+use Rattle.pkops.specs.declared.Reason.{Reason}
 use Rattle.pkread.specs.Admission.{IsAllowedBy}
 use Rattle.pkread.specs.Rows.{Sight, Takes}
 use Rattle.pkread.specs.Sequence.{spellings}
-use Rattle.pkread.specs.declared.Reason.{Reason}
 use Rattle.pkcheck.specs.Accepted.{AcceptedFrom}
 use Rattle.pkcheck.specs.Heard.{refused_instruction}
 use Rattle.pkcheck.specs.Knowledge.{Asked, Policy}

@@ -8,11 +8,11 @@ use Rattle.std.specs.Prelude.{option_map}
 use Rattle.pkops.specs.Limits.{Bounds}
 use Rattle.pkops.specs.Payloads.{payload_limit}
 use Rattle.pkops.specs.Spelling.{Instruction}
+use Rattle.pkops.specs.declared.Reason.{Reason}
+use Rattle.pkops.specs.declared.Reason.TheVariants as reason
 use Rattle.pkread.specs.Rows.{Sight, Takes, all_bytes}
 use Rattle.pkread.specs.Sequence.{spellings}
 use Rattle.pkread.specs.Sequences.{OneFront, OneSequence, SequenceGoesOn}
-use Rattle.pkread.specs.declared.Reason.{Reason}
-use Rattle.pkread.specs.declared.Reason.TheVariants as reason
 use Rattle.pkcheck.specs.Exclusive.{OneBegins, RefusedBehind, YesExcludesNo, YesOfRowExcludesNo}
 use Rattle.pkcheck.specs.Import.{asked_shown}
 use Rattle.pkcheck.specs.Knowledge.{Asked, Policy}

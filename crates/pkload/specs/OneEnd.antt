@@ -2,8 +2,8 @@
 -- reads.
 use Rattle.std.specs.Prelude.{◌≡◌, ◌≢◌, ◌≤◌, List, ℕ, Result, Ok, Err, Some, length}
 use Rattle.pkops.specs.Limits.{Bounds}
+use Rattle.pkops.specs.declared.Reason.TheVariants as reason
 use Rattle.pkread.specs.Rows.{Sight, all_bytes}
-use Rattle.pkread.specs.declared.Reason.TheVariants as reason
 use Rattle.pkcheck.specs.Knowledge.{Policy}
 use Rattle.pkcheck.specs.declared.check_loop.Extent.{Extent}
 use Rattle.pkcheck.specs.declared.check_loop.RefusedPickle.{RefusedPickle}

@@ -1,4 +1,4 @@
-//! The opcodes of Python pickles, and one instruction from and to bytes.
+//! The opcodes of Python pickles, one instruction from and to bytes, and why a pickle is refused.
 #![tactic(auto)]
 
 mod arg;
@@ -17,6 +17,7 @@ mod old_bytes;
 mod op;
 mod passed;
 mod reading;
+mod refusal;
 mod scanning;
 mod table;
 mod text;
@@ -36,6 +37,7 @@ pub use lending::{argument_of, count_behind};
 pub use limits::Limits;
 pub use old_bytes::old_bytes_of;
 pub use op::{Kind, Op, Row};
+pub use refusal::{Reason, Refusal};
 pub use scanning::scan;
 pub use table::{layout_of_op, row};
 pub use text::text_of;

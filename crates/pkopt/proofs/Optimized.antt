@@ -8,10 +8,11 @@ use Rattle.pkops.specs.Limits.{Bounds, holding_all}
 use Rattle.pkops.specs.Payloads.{is_passed, payload_limit}
 use Rattle.pkops.specs.Spelling.{Instruction}
 use Rattle.pkops.specs.declared.Op.TheVariants.{Stop}
+use Rattle.pkops.specs.declared.Refusal.{Refusal}
+use Rattle.pkops.specs.declared.Reason.TheVariants.{TooLarge}
 use Rattle.pkread.specs.Admission.{IsAllowed}
 use Rattle.pkread.specs.Framing.{CountingIsExact}
 use Rattle.pkread.specs.Sequence.{IsSequence, spellings}
-use Rattle.pkread.specs.declared.Refusal.{Refusal}
 use Rattle.pkcheck.specs.declared.OldStrings.TheVariants.{Unknown}
 use Rattle.pkcheck.specs.Listing.{permitted_by}
 use Rattle.pkcheck.specs.Ends.{IsFree, WellCarriesOver, WellIsFree}
@@ -50,7 +51,6 @@ use Rattle.pkopt.proofs.SlimForm.Unchanged.{framed_places}
 use Rattle.pkopt.proofs.SlimForm.Whole.{past_found, produced_slim}
 use Rattle.pkopt.specs.declared.place.Place.{Place}
 use Rattle.std.specs.List.{list_any}
-use Rattle.pkread.specs.declared.Reason.TheVariants.{TooLarge}
 use Rattle.pkopt.proofs.SlimForm.WritesRead.{all_read, after_all-append}
 use Rattle.pkopt.proofs.OneFrame.OneSequence.{optimized_sequence}
 use Rattle.pkopt.proofs.BothRuns.SlimRuns.{AreSmall, slim_alike}

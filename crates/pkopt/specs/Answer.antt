@@ -2,12 +2,12 @@
 use Rattle.std.specs.Prelude.{◌≡◌, ℕ, ◌⊎◌, List, length, map, Option, None}
 use Rattle.pkops.specs.Limits.{Bounds, holding_all}
 use Rattle.pkops.specs.Spelling.{Instruction}
+use Rattle.pkops.specs.declared.Reason.TheVariants.{TooLarge, OutOfMemory}
+use Rattle.pkops.specs.declared.Refusal.{Refusal}
 use Rattle.pkread.specs.Framing.{Framed}
 use Rattle.pkread.specs.Pieces.{piece_of}
 use Rattle.pkread.specs.Rows.{Sight, in_memory}
 use Rattle.pkread.specs.Sequence.{IsSequence, spellings}
-use Rattle.pkread.specs.declared.Reason.TheVariants.{TooLarge, OutOfMemory}
-use Rattle.pkread.specs.declared.Refusal.{Refusal}
 use Rattle.pkcheck.specs.declared.OldStrings.TheVariants.{Unknown}
 use Rattle.pkcheck.specs.Accepted.{Accepted}
 use Rattle.pkcheck.specs.Knowledge.{Asked}

@@ -7,7 +7,7 @@
 ghost use Rattle.std.specs.Prelude.{◌≡◌, ◌<◌, ◌≤◌, ◌^◌, ◌⊎◌, IfErr, IfNone, IfOk, IfSome, OnOk};
 ghost use Rattle.std.specs.Prelude.{List, None, Some, []};
 ghost use Rattle.pkops.specs.Spelling.{Instruction};
-ghost use Rattle.pkread.specs.declared.Reason.TheVariants as reason;
+ghost use Rattle.pkops.specs.declared.Reason.TheVariants as reason;
 ghost use Rattle.pkopt.specs.Answer.{IsNotOptimized, Optimizes, Checks, FailsCheck, TakesAsChecked};
 ghost use Rattle.pkopt.specs.Private.Fates.{IsPlanFor};
 ghost use Rattle.pkopt.specs.Private.Places.{end_behind, places_behind};
@@ -24,9 +24,9 @@ use crate::trace::Trace;
 use crate::writing::{Form, Parts};
 use pkcheck::laws::same_ends;
 use pkcheck::{Policy, check, check_heard};
-use pkops::Limits;
+use pkops::{Limits, Reason, Refusal};
+use pkread::Memory;
 use pkread::laws::framed;
-use pkread::{Memory, Reason, Refusal};
 use std::alloc::{AllocError, Global};
 
 /// The refusal after a refused allocation outside the check.

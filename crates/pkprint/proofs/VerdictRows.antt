@@ -1,8 +1,8 @@
 -- Lines as the program prints them.
 use Rattle.std.proofs.Common.{◌≡◌, refl, codes, None, Err, true, false}
 use Rattle.std.specs.Fmt.{digits}
-use Rattle.pkread.specs.declared.Reason.TheVariants as reason
-use Rattle.pkread.specs.Printed.{reason_text}
+use Rattle.pkops.specs.declared.Reason.TheVariants as reason
+use Rattle.pkops.specs.Printed.{reason_text}
 use Rattle.pkcheck.specs.declared.Extent.TheVariants.{OnePickle, ToTheEnd}
 use Rattle.pkload.specs.declared.Excess.TheVariants.{DeepKey}
 use Rattle.pkprint.specs.Costs.{bill_line, costing_lines}

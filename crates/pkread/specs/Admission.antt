@@ -6,8 +6,8 @@ use Rattle.pkops.specs.Scans.{IsWithin}
 use Rattle.pkops.specs.Spelling.{Argument, Number, Instruction}
 use Rattle.pkops.specs.declared.Op.{Op}
 use Rattle.pkops.specs.declared.Op.TheVariants as op
-use Rattle.pkread.specs.declared.refusal.Reason.{Reason}
-use Rattle.pkread.specs.declared.refusal.Reason.TheVariants.{ExtensionCode, UnsupportedProtocol}
+use Rattle.pkops.specs.declared.Reason.{Reason}
+use Rattle.pkops.specs.declared.Reason.TheVariants.{ExtensionCode, UnsupportedProtocol}
 
 -- the reason for refusing an instruction that isn't admitted: a PROTO above the highest protocol,
 -- or an extension code

@@ -3,11 +3,11 @@ use Rattle.std.specs.Prelude.{◌≡◌, ⊤, ℕ, ◌<◌, List, [], ◌∷◌}
 use Rattle.pkops.specs.Limits.{Bounds}
 use Rattle.pkops.specs.declared.Op.{Op}
 use Rattle.pkops.specs.declared.Op.TheVariants.{Stop}
+use Rattle.pkops.specs.declared.Refusal.{Refusal}
 use Rattle.pkread.specs.Held.{Held}
 use Rattle.pkread.specs.Rows.{all_bytes}
 use Rattle.pkread.specs.declared.state.Phase as declared
 use Rattle.pkread.specs.declared.state.Stage as stage
-use Rattle.pkread.specs.declared.refusal.Refusal.{Refusal}
 
 -- what the next call does: read an instruction, report the end because STOP was returned, or return
 -- the same refusal

@@ -6,6 +6,7 @@ use Rattle.pkops.specs.Inst.{instruction_of}
 use Rattle.pkops.specs.Payloads.{HasCount, is_passed, payload_limit_at}
 use Rattle.pkops.specs.Spelling.{Counted, instruction, spelling}
 use Rattle.pkops.specs.declared.Op.{Op}
+use Rattle.pkops.specs.declared.Refusal.{Refusal}
 use Rattle.pkread.specs.Core.{Phase, Open, Ended, Refused}
 use Rattle.pkread.specs.Admission.{IsAllowed}
 use Rattle.pkread.specs.ReaderCalls.{Gives, ReaderState}
@@ -13,7 +14,6 @@ use Rattle.pkread.specs.Rows.{Refuses, Sight, Takes, all_bytes}
 use Rattle.pkread.specs.Sequence.{CountsAt}
 use Rattle.pkread.specs.declared.reader.Head.{Head}
 use Rattle.pkread.specs.declared.reader.Head.TheVariants as head
-use Rattle.pkread.specs.declared.refusal.Refusal.{Refusal}
 
 -- the passed opcode with this payload is an instruction that a reader returns
 pub record IsSkipped (limit : ℕ) (op : Op) (count : ℕ) (payload : List ℕ) : Type 0 where

@@ -14,5 +14,4 @@ pub mod Sequences
 pub mod Run
 pub mod Genops
 pub mod Walked
-pub mod Printed
 pub mod Private

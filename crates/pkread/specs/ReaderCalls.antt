@@ -5,6 +5,9 @@ use base.Fml.{GName}
 use Rattle.pkops.specs.Inst.{instruction_of}
 use Rattle.pkops.specs.Limits.{Bounds}
 use Rattle.pkops.specs.Spelling.{Instruction, spelling}
+use Rattle.pkops.specs.declared.Reason.{Reason}
+use Rattle.pkops.specs.declared.Reason.TheVariants.{OutOfMemory}
+use Rattle.pkops.specs.declared.Refusal.{Refusal}
 use Rattle.pkread.specs.Admission.{IsAllowed}
 use Rattle.pkread.specs.Core.{Phase, Open, Ended, Refused, CoreView, phase_after}
 use Rattle.pkread.specs.Held.{most_held}
@@ -13,9 +16,6 @@ use Rattle.pkread.specs.Sequence.{CountsAt}
 use Rattle.pkread.specs.declared.reader.Next.{Next}
 use Rattle.pkread.specs.declared.reader.Next.TheVariants as next
 use Rattle.pkread.specs.declared.reader.Reader.{Reader}
-use Rattle.pkread.specs.declared.refusal.Reason.{Reason}
-use Rattle.pkread.specs.declared.refusal.Reason.TheVariants.{OutOfMemory}
-use Rattle.pkread.specs.declared.refusal.Refusal.{Refusal}
 
 -- the source behind the `&mut` that the reader holds
 abbrev pub source_of : {R B : Type 0} → Reader R B → R

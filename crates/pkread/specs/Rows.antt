@@ -6,11 +6,11 @@ use Rattle.pkops.specs.Answer.{IsWhole}
 use Rattle.pkops.specs.Scans.{Begun, HasFault}
 use Rattle.pkops.specs.Spelling.{Instruction}
 use Rattle.pkops.specs.declared.Fault.TheVariants as fault
+use Rattle.pkops.specs.declared.Reason.{Reason}
+use Rattle.pkops.specs.declared.Reason.TheVariants.{Source, Truncated, UnknownOpcode}
+use Rattle.pkops.specs.declared.Reason.TheVariants.{BadArgument, TooLarge, ExtensionCode}
+use Rattle.pkops.specs.declared.Reason.TheVariants.{UnsupportedProtocol, OutOfMemory}
 use Rattle.pkread.specs.Admission.{objection}
-use Rattle.pkread.specs.declared.refusal.Reason.{Reason}
-use Rattle.pkread.specs.declared.refusal.Reason.TheVariants.{Source, Truncated, UnknownOpcode}
-use Rattle.pkread.specs.declared.refusal.Reason.TheVariants.{BadArgument, TooLarge, ExtensionCode}
-use Rattle.pkread.specs.declared.refusal.Reason.TheVariants.{UnsupportedProtocol, OutOfMemory}
 
 -- what contracts see of a source: the bytes left, if it reveals them, and its count of failures
 pub record Sight : Type 0 where

@@ -4,10 +4,10 @@ use Rattle.std.specs.Prelude.{Ok, Err, MatchBool}
 use Rattle.pkops.specs.Inst.{instruction_of}
 use Rattle.pkops.specs.Spelling.{Instruction}
 use Rattle.pkops.specs.declared.Inst.{Inst}
+use Rattle.pkops.specs.declared.Refusal.{Refusal}
 use Rattle.pkread.specs.Admission.{IsAllowed}
 use Rattle.pkread.specs.Genops.{GivesItem, RefusesItem, Walk, Walks, walk_of}
 use Rattle.pkread.specs.Sequence.{IsSequence, NoStop, StopIsLast, spellings}
-use Rattle.pkread.specs.declared.refusal.Refusal.{Refusal}
 
 -- an iterator in this state has returned these instructions from the start of the bytes, and no
 -- refusal

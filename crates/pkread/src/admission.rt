@@ -8,8 +8,7 @@ ghost use Rattle.pkread.specs.Admission.{objection};
 ghost use Rattle.pkread.specs.Private.Judgement.{IsFaulty, IsFine, IsSpelled, fault_reason};
 ghost use Rattle.pkread.specs.Private.Judgement.{is_plain};
 
-use crate::refusal::Reason;
-use pkops::{Arg, Fault, Inst, Op, Rule, argument_of};
+use pkops::{Arg, Fault, Inst, Op, Reason, Rule, argument_of};
 
 /// The reason with the same name as the fault.
 pub(crate) fn reason_of(fault: Fault) -> Reason

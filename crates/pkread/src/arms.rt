@@ -11,10 +11,9 @@ ghost use Rattle.pkread.specs.Private.Reads.{TakesAll};
 
 use crate::admission::{is_good, is_plain, judged};
 use crate::gathering::Gathering;
-use crate::refusal::Reason;
 use crate::source::Source;
 use pkops::laws::growth;
-use pkops::{Arg, Op, Width, count_behind, is_count, is_utf8};
+use pkops::{Arg, Op, Reason, Width, count_behind, is_count, is_utf8};
 
 /// How a count is spelled, and its limit.
 #[derive(Clone, Copy, Debug)]

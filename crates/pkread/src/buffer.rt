@@ -7,8 +7,8 @@ ghost use Rattle.pkread.specs.Rows.{sight};
 ghost use Rattle.pkread.specs.Pull.{AreAllBytes};
 ghost use Rattle.pkread.specs.Private.Reads.{PulledInto, ReadsByte, ReadsNone, ReadsSome};
 
-use crate::refusal::Reason;
 use crate::source::{ReadFailed, Source};
+use pkops::Reason;
 use std::alloc::{AllocError, Global};
 use std::marker::Model;
 

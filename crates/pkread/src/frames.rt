@@ -5,13 +5,25 @@ ghost use Rattle.pkops.specs.Inst.{instruction_of};
 ghost use Rattle.pkread.specs.Framing.{TakesPiece};
 ghost use Rattle.pkread.specs.Pieces.{number_of, role_of};
 
-use pkops::{Arg, Inst, Op};
+use pkops::{Arg, Inst, Op, Reason};
 use std::marker::Model;
 
 /// The instruction breaks the frame rules: it is a FRAME inside a frame, it crosses the end of a
 /// frame, or it is a STOP before the end of its frame.
 #[derive(Clone, Copy, Debug, Drop, PartialEq, Eq)]
 pub struct BrokenFrame;
+
+impl From<BrokenFrame> for Reason {
+    ghost use Rattle.std.specs.Prelude.{◌≡◌};
+    ghost use Rattle.pkops.specs.declared.Reason.TheVariants.{BrokenFrame};
+
+    ghost from_gives = { λ _ reason. reason ≡ BrokenFrame };
+
+    #[inline]
+    fn from(_broken: BrokenFrame) -> Reason {
+        Reason::BrokenFrame
+    }
+}
 
 /// Follows the frames of a pickle (PEP 3154), one instruction at a time. Contracts see the number
 /// of bytes left in the open frame, and 0 outside any frame.

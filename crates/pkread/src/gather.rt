@@ -11,10 +11,9 @@ ghost use Rattle.pkread.specs.Private.Reads.{TakesByte};
 
 use crate::arms::Count;
 use crate::gathering::Gathering;
-use crate::refusal::Reason;
 use crate::source::Source;
 use pkops::laws::{growth, one_answer};
-use pkops::{Layout, Op, layout_of_op, op_of_byte};
+use pkops::{Layout, Op, Reason, layout_of_op, op_of_byte};
 
 /// What was gathered: an opcode and, for an argument of two lines, the length of the first.
 #[derive(Clone, Copy, Debug)]

@@ -10,9 +10,8 @@ ghost use Rattle.pkread.specs.Private.Reads.{TakesByte};
 ghost use Rattle.pkread.specs.Private.SkippedBytes.{PassedSome};
 
 use crate::buffer::Buffer;
-use crate::refusal::Reason;
 use crate::source::Source;
-use pkops::Limits;
+use pkops::{Limits, Reason};
 use std::alloc::Global;
 use std::marker::Model;
 

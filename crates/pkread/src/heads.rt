@@ -14,11 +14,10 @@ ghost use Rattle.pkread.specs.Private.SkippedBytes.{TakesHead};
 use crate::arms::Count;
 use crate::gather::Found;
 use crate::gathering::Gathering;
-use crate::refusal::Reason;
 use crate::source::Source;
 use pkops::laws::{growth, one_answer, one_code};
 use pkops::lengths::count_width;
-use pkops::{Layout, Op, layout_of_op};
+use pkops::{Layout, Op, Reason, layout_of_op};
 
 /// What was gathered: a whole instruction, or the length of a payload that was skipped.
 #[derive(Clone, Copy, Debug)]

@@ -3,7 +3,8 @@
 //!
 //! [`genops`] iterates over a slice. A [`Reader`] takes bytes from a [`Source`], lends one
 //! instruction at a time and takes no byte after STOP; [`Reader::next_head`] holds no byte payload.
-//! [`Frames`] enforces the frame rules. Refusals are a [`Refusal`]: an offset and a [`Reason`].
+//! [`Frames`] enforces the frame rules. Refusals are a [`pkops::Refusal`]: an offset and a
+//! [`pkops::Reason`].
 #![tactic(auto)]
 
 // Rare paths are kept out of line: `X` is inlined, and calls `X_slowly` when it has to. It unpacks
@@ -22,7 +23,6 @@ mod heads;
 pub mod laws;
 mod lines;
 mod reader;
-mod refusal;
 mod slice;
 mod source;
 mod state;
@@ -31,7 +31,6 @@ mod walk;
 pub use frames::{BrokenFrame, Frames, frame_argument};
 pub use front::lend;
 pub use reader::{Head, Next, Reader};
-pub use refusal::{Reason, Refusal};
 pub use slice::genops;
 pub use source::{Input, Memory, ReadFailed, Source};
 pub use state::Core;

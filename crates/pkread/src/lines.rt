@@ -4,8 +4,8 @@ ghost use Rattle.pkread.specs.Private.Arms.{TakesLine};
 ghost use Rattle.pkread.specs.Private.Progress.{KeepsRest, intake};
 
 use crate::gathering::Gathering;
-use crate::refusal::Reason;
 use crate::source::Source;
+use pkops::Reason;
 
 impl Gathering {
     /// Takes a line of at most `most` bytes and its newline. Refuses a longer line with `TooLarge`.

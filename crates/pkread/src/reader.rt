@@ -7,10 +7,9 @@ ghost use Rattle.pkops.specs.Scans.{longest};
 ghost use Rattle.pkread.specs.Rows.{all_bytes, sight};
 
 use crate::heads::Gathered;
-use crate::refusal::Refusal;
 use crate::source::Source;
 use crate::state::{Core, Phase};
-use pkops::{Inst, Limits, Op};
+use pkops::{Inst, Limits, Op, Refusal};
 use std::alloc::Global;
 
 /// What `Reader::next` returns.

@@ -20,9 +20,8 @@ ghost use Rattle.pkread.specs.Rows.{all_bytes, sight};
 use crate::gather::Found;
 use crate::gathering::Gathering;
 use crate::heads::Gathered;
-use crate::refusal::{Reason, Refusal};
 use crate::source::Source;
-use pkops::{Inst, Limits, Op};
+use pkops::{Inst, Limits, Op, Reason, Refusal};
 use std::alloc::Global;
 use std::marker::Model;
 

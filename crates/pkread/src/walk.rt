@@ -7,9 +7,8 @@ ghost use Rattle.pkread.specs.Admission.{objection};
 ghost use Rattle.pkread.specs.Genops.{EndsOrIsAmiss, is_stop, walk_of};
 
 use crate::admission::{objection_to, reason_of};
-use crate::refusal::{Reason, Refusal};
 use pkops::laws::one_answer;
-use pkops::{Inst, Limits, Op, Scan, scan};
+use pkops::{Inst, Limits, Op, Reason, Refusal, Scan, scan};
 use std::marker::Model;
 
 /// The instructions of a slice with their offsets, up to STOP or a refusal. Made by `genops`.

@@ -1,8 +1,7 @@
 //! Worked pickles and their JSON, or why they have none.
 
 use pkjson::{ExportError, export, export_text, export_to};
-use pkops::{Limits, Op};
-use pkread::{Reason, Refusal};
+use pkops::{Limits, Op, Reason, Refusal};
 use std::test::Fail;
 
 const VALUES: [(&[u8], &str); 12] = [

@@ -4,8 +4,7 @@ use crate::giving::Filled;
 use crate::judging::{Verdict, judge, judge_each};
 use pkcheck::Policy;
 use pklist::Allow;
-use pkops::Limits;
-use pkread::Reason;
+use pkops::{Limits, Reason};
 use std::test::Fail;
 
 /// All limits but `passed`.

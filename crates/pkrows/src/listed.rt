@@ -4,8 +4,8 @@ use pkcheck::{
     Asked, Import, Machine, NoWithImports, OldStrings, Permit, Policy, Yes, check,
     check_with_imports,
 };
-use pkops::{Arg, Inst, Limits, Op, Scan, scan};
-use pkread::{Memory, Reason};
+use pkops::{Arg, Inst, Limits, Op, Reason, Scan, scan};
+use pkread::Memory;
 use std::test::Fail;
 
 const PAIR: Import<'_> = Import::Pair {

@@ -4,8 +4,7 @@
 use crate::giving::Pieces;
 use pkcheck::{Loading, Memo, NoAll, OldStrings, Permit, Policy, YesAll, check_all_loaded};
 use pklist::Allow;
-use pkops::Limits;
-use pkread::Reason;
+use pkops::{Limits, Reason};
 use std::process::Abort;
 use std::test::Fail;
 

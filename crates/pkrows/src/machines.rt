@@ -1,8 +1,7 @@
 //! The machine, step by step.
 
 use pkcheck::{Machine, Moved, Policy};
-use pkops::{Arg, Inst, Limits, Op};
-use pkread::Reason;
+use pkops::{Arg, Inst, Limits, Op, Reason};
 use std::test::Fail;
 
 fn step(machine: &mut Machine, inst: &Inst<'_>) -> Result<(), Fail> {

@@ -4,8 +4,7 @@ use crate::giving::Pieces;
 use crate::judging::{Verdict, judge_as};
 use pkcheck::{Machine, OldStrings, Policy};
 use pklist::Allow;
-use pkops::{Limits, Scan, scan};
-use pkread::Reason;
+use pkops::{Limits, Reason, Scan, scan};
 use std::process::Abort;
 use std::test::Fail;
 

@@ -3,8 +3,7 @@
 use crate::judging::{Verdict, judge_each};
 use pkcheck::Policy;
 use pklist::Allow;
-use pkops::Limits;
-use pkread::Reason;
+use pkops::{Limits, Reason};
 use std::test::Fail;
 
 const LIST: &str = "version = 1\n[imports]\nm = [\"f\"]\n";

@@ -1,9 +1,9 @@
 //! Worked pickles and their optimized forms.
 
 use pkcheck::{Policy, check};
-use pkops::Limits;
+use pkops::{Limits, Reason, Refusal};
 use pkopt::{optimize, optimized_form};
-use pkread::{Memory, Reason, Refusal};
+use pkread::Memory;
 use std::process::Abort;
 use std::test::Fail;
 

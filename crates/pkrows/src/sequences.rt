@@ -4,9 +4,9 @@
 use crate::spellings::spellings;
 use pkcheck::{Policy, check};
 use pkjson::{ExportError, export};
-use pkops::Limits;
+use pkops::{Limits, Reason};
 use pkopt::optimize;
-use pkread::{Memory, Reason};
+use pkread::Memory;
 use std::alloc::{AllocError, Global};
 use std::test::Fail;
 

@@ -4,8 +4,7 @@
 use crate::giving::Filled;
 use crate::judging::{Verdict, judge};
 use pkcheck::Policy;
-use pkops::Limits;
-use pkread::Reason;
+use pkops::{Limits, Reason};
 
 // A prefix, a byte, how often it is repeated, and a suffix.
 type Sized = (&'static [u8], u8, usize, &'static [u8], Verdict);

@@ -3,8 +3,8 @@
 use crate::judging::{Verdict, judge};
 use pkcheck::Policy;
 use pklist::Allow;
-use pkops::Limits;
-use pkread::{Input, Memory, ReadFailed, Reason, Source};
+use pkops::{Limits, Reason};
+use pkread::{Input, Memory, ReadFailed, Source};
 use std::io;
 use std::io::Read;
 use std::test::Fail;

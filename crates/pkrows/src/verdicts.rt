@@ -3,8 +3,8 @@
 use crate::judging::{Verdict, judge_each};
 use pkcheck::{Asked, Import, Policy, check};
 use pklist::Allow;
-use pkops::Limits;
-use pkread::{Memory, Reason};
+use pkops::{Limits, Reason};
+use pkread::Memory;
 use std::test::Fail;
 
 const NOTHING: &str = "version = 1\n[imports]\n";

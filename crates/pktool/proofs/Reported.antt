@@ -4,7 +4,7 @@ use Rattle.std.proofs.Common.{inl, inr, subst, Bool}
 use Rattle.std.specs.Prelude.{◌⊎◌, length, IfOk}
 use Rattle.std.specs.Io.KnownBytes.{Appends, Keeps}
 use Rattle.pkops.specs.Limits.{standard}
-use Rattle.pkread.specs.Printed.{refusal_text}
+use Rattle.pkops.specs.Printed.{refusal_text}
 use Rattle.pklist.specs.declared.Allow.{Allow}
 use Rattle.pkcheck.specs.declared.OldStrings.{OldStrings}
 use Rattle.pkargs.specs.Command.{AsksForJob, AsksForNone}

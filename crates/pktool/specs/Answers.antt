@@ -5,10 +5,10 @@ use Rattle.std.specs.Prelude.{string_bytes, IfSome}
 use Rattle.std.specs.Prelude.{Option, Some, None, Result, Ok}
 use Rattle.serde_json.specs.Data.{Data}
 use Rattle.pkops.specs.Limits.{holding_all, standard}
-use Rattle.pkread.specs.Printed.{refusal_text}
+use Rattle.pkops.specs.Printed.{refusal_text}
+use Rattle.pkops.specs.declared.Refusal.{Refusal}
+use Rattle.pkops.specs.declared.Reason.TheVariants as reason
 use Rattle.pkread.specs.Rows.{Sight}
-use Rattle.pkread.specs.declared.Refusal.{Refusal}
-use Rattle.pkread.specs.declared.Reason.TheVariants as reason
 use Rattle.pklist.specs.Allow.{are_unsaid, cost_limits_of, document_of, limits_of, lists}
 use Rattle.pkcheck.specs.Answered.{IsRightAnswer}
 use Rattle.pkcheck.specs.Heard.{Heard, IsRightAndHeard}

@@ -6,7 +6,7 @@ use Rattle.serde_json.specs.Written.{compact_text}
 use Rattle.pkops.specs.Limits.{Bounds}
 use Rattle.pkops.specs.Table.{row_of}
 use Rattle.pkops.specs.declared.Op.{Op}
-use Rattle.pkread.specs.Printed.{refusal_text}
+use Rattle.pkops.specs.Printed.{refusal_text}
 use Rattle.pkread.specs.Rows.{Sight, Takes}
 use Rattle.pkjson.specs.Export.{IsNotExported, IsValueOf}
 use Rattle.pkjson.specs.declared.ExportError.{ExportError}

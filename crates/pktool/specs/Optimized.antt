@@ -2,8 +2,8 @@
 use Rattle.std.specs.Prelude.{◌≡◌, ℕ, ⊤, List, ◌++◌, length, codes, decimal, Option, None, Some}
 use Rattle.std.specs.Io.KnownBytes.{Appends}
 use Rattle.pkops.specs.Limits.{Bounds}
-use Rattle.pkread.specs.Printed.{refusal_text}
-use Rattle.pkread.specs.declared.Refusal.{Refusal}
+use Rattle.pkops.specs.Printed.{refusal_text}
+use Rattle.pkops.specs.declared.Refusal.{Refusal}
 use Rattle.pkopt.specs.Answer.{IsNotOptimized, Optimizes, TakesAsChecked}
 use Rattle.pkprint.specs.Verdict.{no_line}
 use Rattle.pkprint.specs.declared.Outcome.{Outcome}

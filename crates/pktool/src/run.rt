@@ -2,7 +2,7 @@
 ghost use Rattle.std.specs.Prelude.{◌≡◌, ◌<◌, ◌≤◌, IfOk, map};
 ghost use Rattle.std.specs.Io.Buffered.{writer_contents, writer_inner};
 ghost use Rattle.std.specs.Io.KnownBytes.{Appends, Keeps};
-ghost use Rattle.pkread.specs.Printed.{refusal_text};
+ghost use Rattle.pkops.specs.Printed.{refusal_text};
 ghost use Rattle.pkprint.specs.Verdict.{no_line};
 ghost use Rattle.pktool.specs.Answers.{AreImports, IsAnswer, IsAnswerTo, IsCheck, IsExport};
 ghost use Rattle.pktool.specs.Answers.{IsListing, IsOptimization, IsShown};
@@ -15,9 +15,8 @@ use crate::files::{open_source, read_list, read_rest};
 use crate::host::{Host, NewFile};
 use crate::optimizing::{Unoptimized, optimize_to};
 use pkargs::{Job, Usage, command_of};
-use pkops::Limits;
+use pkops::{Limits, Reason, Refusal};
 use pkprint::{Outcome, dis_to, imports_to, write_no};
-use pkread::{Reason, Refusal};
 use std::alloc::Global;
 use std::io::{BufWriter, Write};
 

@@ -4,9 +4,9 @@ use Rattle.std.proofs.Common.{◌≡◌, ℕ, ◌<◌, Bool, List, [], Some, Non
 use Rattle.std.proofs.Common.{ap, subst, ◌∙◌, arith}
 use Rattle.pkops.specs.Spelling.{Instruction}
 use Rattle.pkops.specs.Limits.{Bounds}
+use Rattle.pkops.specs.declared.Reason.{Reason}
+use Rattle.pkops.specs.declared.Reason.TheVariants as reason
 use Rattle.pkcheck.specs.Effects.{effect_as, number_stored}
-use Rattle.pkread.specs.declared.Reason.{Reason}
-use Rattle.pkread.specs.declared.Reason.TheVariants as reason
 use Rattle.pkcheck.specs.Shape.{NoMark, NoItem, NoMemo, Odd, Extension, and_then}
 use Rattle.pkcheck.specs.Runs.{Raise, step_as}
 use Rattle.pkcheck.specs.Knowledge.{Knowledge, Policy, AskedUnknown, Progress, Refusal, Lacks}

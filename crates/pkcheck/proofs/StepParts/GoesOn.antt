@@ -4,8 +4,6 @@ use Rattle.pkops.specs.Operands.{memo_number}
 use Rattle.std.proofs.Common.{◌≡◌, ℕ, ◌<◌, ◌≤◌, ◌⊎◌, inl, inr, false, Option, is_some, List, []}
 use Rattle.std.proofs.Common.{◌∷◌, length, Some, None, Ok, refl, drop, arith, length-drop}
 use Rattle.pkcheck.specs.declared.effect.Move.{Move}
-use Rattle.pkread.specs.declared.Reason.{Reason}
-use Rattle.pkread.specs.declared.Reason.TheVariants as reason
 use Rattle.pkcheck.specs.declared.machine.operate.StepError.{StepError}
 use Rattle.pkcheck.specs.Effects.{Effect, Operates, Moves, Stops, Raises, effect_as, number_stored}
 use Rattle.pkcheck.specs.Shape.{top, Entry, and_then, moved}
@@ -13,6 +11,8 @@ use Rattle.pkops.specs.Spelling.{Instruction}
 use Rattle.pkcheck.specs.Knowledge.{Asked, Known, Knowledge, Policy, Lacks, LeftOver, TooLarge}
 use Rattle.pkcheck.specs.Knowledge.{left_over, stop_learned, learn, within, advance}
 use Rattle.pkops.specs.Limits.{Bounds}
+use Rattle.pkops.specs.declared.Reason.{Reason}
+use Rattle.pkops.specs.declared.Reason.TheVariants as reason
 use Rattle.pkcheck.specs.Private.Actions.{IsUnnamed}
 use Rattle.pkcheck.specs.Private.StepErrors.{GoesTo, IsRefusedWith, IsForMemory, IsFaultOf}
 use Rattle.pkcheck.specs.Private.StepErrors.{IsStopFault, MayWantMemory, Proceeds}

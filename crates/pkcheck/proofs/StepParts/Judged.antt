@@ -19,9 +19,9 @@ use Rattle.pkcheck.specs.Knowledge.{argument_asked, Known, Knowledge, Policy, As
 use Rattle.pkcheck.specs.Knowledge.{Progress, TooLarge, known_given, learn, within, WrongClass}
 use Rattle.pkcheck.specs.Knowledge.{wrong_first, wrong_receiver, asked_of}
 use Rattle.pkops.specs.Limits.{Bounds}
+use Rattle.pkops.specs.declared.Reason.{Reason}
+use Rattle.pkops.specs.declared.Reason.TheVariants as reason
 use Rattle.pkcheck.specs.Private.Slots.{StandsIf, known}
-use Rattle.pkread.specs.declared.Reason.{Reason}
-use Rattle.pkread.specs.declared.Reason.TheVariants as reason
 use Rattle.pkcheck.specs.declared.machine.operate.StepError.{StepError}
 use Rattle.pkcheck.specs.declared.import.Named.{Named}
 use Rattle.pkcheck.specs.Private.Noted.{named_asked}

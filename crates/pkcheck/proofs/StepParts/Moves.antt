@@ -3,9 +3,9 @@ use Rattle.std.proofs.Common.{◌≡◌, ℕ, inl, inr, List, ◌∷◌, length,
 use Rattle.std.proofs.Common.{refl, arith}
 use Rattle.pkcheck.specs.declared.effect.Move.{Move}
 use Rattle.pkcheck.specs.declared.effect.Move.TheVariants.{Duplicates, Stores, Fetches}
-use Rattle.pkread.specs.declared.Reason.{Reason}
 use Rattle.pkcheck.specs.Shape.{Shape, Item, NoMemo, top, Breach, Entry, recalled, stored, moved}
 use Rattle.pkops.specs.Limits.{Bounds}
+use Rattle.pkops.specs.declared.Reason.{Reason}
 use Rattle.pkcheck.specs.Private.StepErrors.{IsFault, IsFaultOf, MoveMayWantMemory, WantsRoom}
 use Rattle.pkcheck.specs.Private.StepErrors.{WantsMemo}
 

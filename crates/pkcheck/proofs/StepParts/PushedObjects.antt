@@ -14,7 +14,7 @@ use Rattle.pkcheck.specs.declared.old_strings.OldStrings.TheVariants.{Unknown, A
 use Rattle.pkcheck.specs.Private.Actions.{effect_by, is_reading}
 use Rattle.pkops.specs.Limits.{Bounds}
 use Rattle.pkops.specs.Spelling.{Instruction}
-use Rattle.pkread.specs.declared.Reason.{Reason}
+use Rattle.pkops.specs.declared.Reason.{Reason}
 use Rattle.pkcheck.specs.declared.effect.Gives.{Gives}
 use Rattle.pkcheck.specs.declared.effect.Names.TheVariants.{NoName}
 use Rattle.pkcheck.specs.declared.effect.Takes.TheVariants.{Objects}

@@ -5,7 +5,6 @@ use Rattle.pkops.specs.Admitted.{is_admitted_by}
 use Rattle.pkops.specs.Spelling.{Argument, Instruction}
 use Rattle.pkops.specs.declared.Op.{Op}
 use Rattle.pkops.specs.declared.Op.TheVariants as op
-use Rattle.pkread.specs.declared.Reason.{Reason}
 use Rattle.pkcheck.specs.declared.effect.Class.{Class}
 use Rattle.pkcheck.specs.declared.machine.stepping.Moved.TheVariants.{On}
 use Rattle.pkcheck.specs.Effects.{effect_as, number_stored, pushes}
@@ -13,6 +12,7 @@ use Rattle.pkcheck.specs.Shape.{and_then}
 use Rattle.pkcheck.specs.Knowledge.{Policy, TooLarge, learn, within}
 use Rattle.pkcheck.specs.Private.StepErrors.{WantsRoom, with_made}
 use Rattle.pkops.specs.Payloads.{is_passed}
+use Rattle.pkops.specs.declared.Reason.{Reason}
 use Rattle.pkcheck.specs.Step.{FailsStep, GoesOn}
 use Rattle.pkcheck.specs.View.{View, moved_as, texts_after}
 use Rattle.pkcheck.proofs.StepParts.Past.{within_fits, within_past}

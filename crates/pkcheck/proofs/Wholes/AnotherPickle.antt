@@ -2,13 +2,13 @@
 use Rattle.std.proofs.Common.{Bool, true, false, Result, Ok, Err, IfErr, IfOk, ◌≡◌, ◌≢◌, ℕ, ◌<◌}
 use Rattle.std.proofs.Common.{List, [], ◌∷◌, Option, None, Some, refl, ap, subst, ◌∙◌}
 use Rattle.std.specs.Io.KnownBytes.{IsAtEnd, prepend_known}
+use Rattle.pkops.specs.declared.Refusal.{Refusal as ReadRefusal}
+use Rattle.pkops.specs.declared.Reason.TheVariants.{Truncated}
 use Rattle.pkread.specs.Again.{RefusesAgain, NoByteIsRefused, StepsAgain, WhyNoByte}
 use Rattle.pkread.specs.ReaderCalls.{ReaderState}
 use Rattle.pkread.specs.Core.{Open, Refused}
 use Rattle.pkread.specs.Rows.{Sight, Takes, all_bytes, unread}
 use Rattle.pkread.specs.Sequence.{CountsAt}
-use Rattle.pkread.specs.declared.Refusal.{Refusal as ReadRefusal}
-use Rattle.pkread.specs.declared.Reason.TheVariants.{Truncated}
 use Rattle.pkcheck.specs.Private.NextPickle.{IsRefusedBehind}
 use Rattle.pkcheck.specs.RowOfPickles.{HasMore}
 

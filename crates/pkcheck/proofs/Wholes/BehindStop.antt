@@ -5,14 +5,14 @@ use Rattle.std.specs.Io.KnownBytes.{IsAtEnd}
 use Rattle.std.specs.Prelude.{Bool}
 use Rattle.pkops.specs.Limits.{Bounds}
 use Rattle.pkops.specs.Payloads.{payload_limit}
+use Rattle.pkops.specs.declared.Reason.{Reason}
+use Rattle.pkops.specs.declared.Refusal.{Refusal as ReadRefusal}
 use Rattle.pkread.specs.Core.{Open}
 use Rattle.pkread.specs.Heads.{StepsHeadFrom}
 use Rattle.pkread.specs.ReaderCalls.{ReaderState, has_ended}
 use Rattle.pkread.specs.Rows.{Sight, Takes, all_bytes}
 use Rattle.pkread.specs.Sequence.{CountsAt, IsSequence}
 use Rattle.pkread.specs.declared.Head.TheVariants as head
-use Rattle.pkread.specs.declared.Reason.{Reason}
-use Rattle.pkread.specs.declared.Refusal.{Refusal as ReadRefusal}
 use Rattle.pkcheck.specs.Heard.{refused_instruction}
 use Rattle.pkcheck.specs.Knowledge.{Asked, Knowledge, Policy, nothing_known}
 use Rattle.pkcheck.specs.Private.NextPickle.{IsRefusedBehind, listed_in, moved_apart, restarted}

@@ -6,6 +6,9 @@ use Rattle.std.proofs.Common.{false, inl, inr, refl, sym, ap, subst, ◌∙◌, 
 use Rattle.pkops.specs.Limits.{Bounds}
 use Rattle.pkops.specs.Payloads.{payload_limit, payload_limit_at}
 use Rattle.pkops.specs.Spelling.{Instruction, spelling}
+use Rattle.pkops.specs.declared.Reason.{Reason}
+use Rattle.pkops.specs.declared.Reason.TheVariants as reason
+use Rattle.pkops.specs.declared.Refusal.{Refusal as ReadRefusal}
 use Rattle.pkread.specs.Admission.{IsAllowedBy}
 use Rattle.pkread.specs.Core.{Open}
 use Rattle.pkread.specs.Framing.{counted, counted_all}
@@ -14,9 +17,6 @@ use Rattle.pkread.specs.ReaderCalls.{ReaderState, begun, has_ended, is_ended}
 use Rattle.pkread.specs.Run.{Reads, ReadingBegins, ReadingGoesOn}
 use Rattle.pkread.specs.Sequence.{CountsAt, IsSequence, NoStop}
 use Rattle.pkread.specs.Rows.{Sight, Takes, Refuses as ReaderRefuses}
-use Rattle.pkread.specs.declared.Reason.{Reason}
-use Rattle.pkread.specs.declared.Reason.TheVariants as reason
-use Rattle.pkread.specs.declared.Refusal.{Refusal as ReadRefusal}
 use Rattle.pkcheck.specs.Accepted.{AcceptedFrom}
 use Rattle.std.specs.Prelude.{option_map}
 use Rattle.pkcheck.specs.Import.{asked_shown, asks_more}

@@ -10,11 +10,11 @@ use Rattle.pkops.specs.Payloads.{payload_limit, payload_limit_at}
 use Rattle.pkops.specs.Scans.{Begun}
 use Rattle.pkops.specs.Spelling.{Instruction, spelling}
 use Rattle.pkops.specs.declared.Op.TheVariants as op
+use Rattle.pkops.specs.declared.Reason.{Reason}
+use Rattle.pkops.specs.declared.Reason.TheVariants as reason
 use Rattle.pkread.specs.Rows.{IsAmiss, ShowsReason, Sight, Takes, all_bytes}
 use Rattle.pkread.specs.Sequence.{spellings}
 use Rattle.pkread.specs.Sequences.{OneFront, OneSequence, SequenceGoesOn}
-use Rattle.pkread.specs.declared.Reason.{Reason}
-use Rattle.pkread.specs.declared.Reason.TheVariants as reason
 use Rattle.pkcheck.specs.declared.loading.Loading.{Loading}
 use Rattle.pkcheck.specs.declared.loading.Memo.{Memo}
 use Rattle.pkcheck.specs.declared.loading.Memo.TheVariants.{Fresh, Kept}

@@ -4,6 +4,8 @@ use Rattle.std.proofs.Common.{◌≡◌, ℕ, suc, List, [], ◌∷◌, ◌++◌
 use Rattle.std.proofs.Common.{subst, ◌∙◌}
 use Rattle.pkops.specs.Limits.{Bounds}
 use Rattle.pkops.specs.Spelling.{Instruction}
+use Rattle.pkops.specs.declared.Reason.{Reason}
+use Rattle.pkops.specs.declared.Reason.TheVariants as reason
 use Rattle.pkread.specs.Pieces.{FramesGoOn, piece_of}
 use Rattle.pkcheck.specs.Covers.{Asks, IsObject}
 use Rattle.pkcheck.proofs.Coverage.CoversBy.{FollowsBy, FollowsIfOk, any_answer, objects_grow}
@@ -11,8 +13,6 @@ use Rattle.pkcheck.proofs.Coverage.Verdicts.{StopsLast}
 use Rattle.pkcheck.specs.Knowledge.{Knowledge, Policy, Asked, AskedUnknown, Progress, advance}
 use Rattle.pkcheck.specs.Listing.{EachAsks, UnknownIsOpen}
 use Rattle.pkread.specs.Framing.{IsFramed, counted_all}
-use Rattle.pkread.specs.declared.Reason.{Reason}
-use Rattle.pkread.specs.declared.Reason.TheVariants as reason
 use Rattle.pkcheck.specs.Faults.{Arrivals, HasFaultHere, everyone}
 use Rattle.pkcheck.specs.RowRuns.{Beginning, EachIsReached}
 use Rattle.pkcheck.specs.RunFaults.{HasRunFault, IsFaultless, RunsFrom}

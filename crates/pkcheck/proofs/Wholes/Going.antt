@@ -6,11 +6,11 @@ use Rattle.std.proofs.Math.Seq.{drop-append_seam}
 use Rattle.std.specs.Prelude.{Bool, MatchResult}
 use Rattle.pkops.specs.Limits.{Bounds}
 use Rattle.pkops.specs.Spelling.{Instruction}
+use Rattle.pkops.specs.declared.Reason.{Reason}
+use Rattle.pkops.specs.declared.Refusal.{Refusal as ReadRefusal}
 use Rattle.pkread.specs.ReaderCalls.{ReaderState}
 use Rattle.pkread.specs.Rows.{Sight}
 use Rattle.pkread.specs.Sequence.{CountsAt}
-use Rattle.pkread.specs.declared.Reason.{Reason}
-use Rattle.pkread.specs.declared.Refusal.{Refusal as ReadRefusal}
 use Rattle.pkcheck.specs.Covers.{Covers}
 use Rattle.pkcheck.specs.Knowledge.{Asked, Policy}
 use Rattle.pkcheck.specs.Listing.{imports_among}

@@ -5,12 +5,12 @@ use Rattle.std.proofs.lemmas.Str.{IsUtf8-nil}
 use Rattle.std.specs.Prelude.{Bool, IfErr, Option, Result, Ok, Err}
 use Rattle.pkops.specs.Limits.{Bounds}
 use Rattle.pkops.specs.Spelling.{Instruction}
+use Rattle.pkops.specs.declared.Refusal.{Refusal}
 use Rattle.pkread.specs.ReaderCalls.{ReaderState}
 use Rattle.pkread.specs.Rows.{Sight}
 use Rattle.pkcheck.specs.Covers.{Covers}
 use Rattle.pkcheck.specs.Knowledge.{Policy, Asked}
 use Rattle.pkread.specs.Run.{LentIsRead, TakingTwice}
-use Rattle.pkread.specs.declared.Refusal.{Refusal}
 use Rattle.pkcheck.specs.Private.Judgement.{IsRefused, SessionView}
 use Rattle.pkcheck.specs.Private.Lent.{FailsLent, GoesAlong, HearsMore, RefusesLent, heard_along}
 use Rattle.pkcheck.specs.Private.Lent.{heard_before, heard_refused}

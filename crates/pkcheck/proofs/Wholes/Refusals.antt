@@ -2,9 +2,9 @@
 use Rattle.std.proofs.Common.{◌≡◌, ℕ, ◌<◌, List, inl, inr, sym, subst, arith}
 use Rattle.pkops.specs.Limits.{Bounds}
 use Rattle.pkops.specs.Spelling.{Instruction}
+use Rattle.pkops.specs.declared.Reason.{Reason}
+use Rattle.pkops.specs.declared.Reason.TheVariants as reason
 use Rattle.pkread.specs.Sequence.{CountsAt}
-use Rattle.pkread.specs.declared.Reason.{Reason}
-use Rattle.pkread.specs.declared.Reason.TheVariants as reason
 use Rattle.pkcheck.specs.Private.Judgement.{IsRefused}
 use Rattle.pkcheck.specs.Knowledge.{Policy, Refusal, reason_of, Lacks, WrongClass, NotText}
 use Rattle.pkcheck.specs.Knowledge.{UnknownImport, OffList, LeftOver, NotAscii, TooLarge}

@@ -18,8 +18,8 @@ use Rattle.pkread.specs.ReaderCalls.{ReaderState}
 use Rattle.pkread.specs.Core.{Open}
 use Rattle.pkread.specs.Rows.{Refuses, Sight, Takes, TakingLaws, all_bytes}
 use Rattle.pkread.specs.Sequence.{IsSequence, StopIsLast, spellings}
-use Rattle.pkread.specs.declared.Refusal.{Refusal as ReadRefusal}
 use Rattle.pkops.specs.declared.Op.TheVariants.{Stop}
+use Rattle.pkops.specs.declared.Refusal.{Refusal as ReadRefusal}
 use Rattle.pkcheck.proofs.Wholes.Checked.{Checked, IsReady, accepted, checked_again}
 use Rattle.pkcheck.proofs.Wholes.Checked.{refused_turned}
 use Rattle.pkcheck.proofs.Wholes.NextPickle.{begins_next, imports_more}

@@ -5,6 +5,7 @@ use Rattle.std.specs.Prelude.{⊤, Bool}
 use Rattle.pkops.specs.Limits.{Bounds}
 use Rattle.pkops.specs.Payloads.{payload_limit}
 use Rattle.pkops.specs.Spelling.{Instruction}
+use Rattle.pkops.specs.declared.Reason.{Reason}
 use Rattle.pkread.specs.Again.{NoByteIsRefused}
 use Rattle.pkread.specs.Core.{Ended, Open, Phase, Refused as HasRefused}
 use Rattle.pkread.specs.ReaderCalls.{ReaderState, is_ended}
@@ -12,7 +13,6 @@ use Rattle.pkread.specs.Rows.{Sight, Takes, TakingLaws}
 use Rattle.pkread.specs.Run.{EndOfHeads, HeadIsRead, LentIsRead, NextIsRead, PassedIsRead}
 use Rattle.pkread.specs.Run.{ReadingGoesOn, RefusalIsRead, RefusalOfHeads, SoFar, TakingTwice}
 use Rattle.pkread.specs.Sequence.{IsSequence, NoStop, spellings}
-use Rattle.pkread.specs.declared.Reason.{Reason}
 use Rattle.pkcheck.specs.Accepted.{AcceptedFrom}
 use Rattle.pkcheck.specs.Heard.{refused_instruction}
 use Rattle.pkcheck.specs.Knowledge.{Asked, Policy}

@@ -2,10 +2,10 @@
 use Rattle.std.specs.Prelude.{◌≡◌, ℕ, ◌⊎◌, Option, None, Some, length, option_map}
 use Rattle.pkops.specs.Spelling.{Instruction, spelling}
 use Rattle.pkops.specs.declared.Op.{Op}
+use Rattle.pkops.specs.declared.Reason.{Reason}
+use Rattle.pkops.specs.declared.Reason.TheVariants.{BrokenFrame}
 use Rattle.pkread.specs.Framing.{counted}
 use Rattle.pkread.specs.Pieces.{piece_of}
-use Rattle.pkread.specs.declared.Reason.{Reason}
-use Rattle.pkread.specs.declared.Reason.TheVariants.{BrokenFrame}
 use Rattle.pkcheck.specs.Import.{asked_shown}
 use Rattle.pkcheck.specs.Knowledge.{Asked, Policy}
 use Rattle.pkcheck.specs.Step.{FailsStep, GoesOn}

@@ -4,9 +4,9 @@ use Rattle.std.specs.Prelude.{ℕ, ◌≡◌, ◌≤◌, IfErr, List, None, OnEr
 use Rattle.std.specs.Prelude.{length}
 use Rattle.pkcheck.specs.declared.machine.value.Value.{Value}
 use Rattle.pkcheck.specs.Effects.{Effect}
-use Rattle.pkread.specs.declared.Reason.{Reason}
 use Rattle.pkops.specs.Spelling.{Instruction}
 use Rattle.pkops.specs.Limits.{Bounds}
+use Rattle.pkops.specs.declared.Reason.{Reason}
 use Rattle.pkcheck.specs.Shape.{Entry}
 use Rattle.pkcheck.specs.Knowledge.{Asked, Known, Policy, learn}
 use Rattle.pkcheck.specs.Private.Steps.{IsStepFault}

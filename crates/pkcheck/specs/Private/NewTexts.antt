@@ -1,6 +1,6 @@
 -- What pushing a text does to the stack and the import table.
 use Rattle.std.specs.Prelude.{ℕ, ◌≡◌, ◌≤◌, ◌∷◌, IfErr, List, OnOk, Result, Some, length, suc}
-use Rattle.pkread.specs.declared.Reason.{Reason}
+use Rattle.pkops.specs.declared.Reason.{Reason}
 use Rattle.pkcheck.specs.Private.StepErrors.{WantsRoom}
 use Rattle.pkcheck.specs.Private.NamedOperations.{AreSeen, StackAndTable}
 use Rattle.pkcheck.specs.Private.Slots.{HasMoreTexts, seen}

@@ -1,10 +1,10 @@
 -- What is kept for the next pickle of a row.
 use Rattle.std.specs.Prelude.{◌≡◌, ℕ, ◌+◌, ◌++◌, Bool, false, IfErr, IfOk, List, [], None, Ok}
 use Rattle.std.specs.Prelude.{OnErr, OnOk, Option, Result}
+use Rattle.pkops.specs.declared.Refusal.{Refusal}
 use Rattle.pkread.specs.Again.{StepsAgain, TakesOneAhead, WhyNoByte}
 use Rattle.pkread.specs.Core.{CoreView}
 use Rattle.pkread.specs.ReaderCalls.{KeepsSource, ReaderState, state}
-use Rattle.pkread.specs.declared.Refusal.{Refusal}
 use Rattle.pkread.specs.declared.reader.Reader.{Reader}
 use Rattle.pkcheck.specs.declared.row_of_pickles.PickleRow.{PickleRow}
 use Rattle.pkcheck.specs.Private.Judgement.{SessionView}

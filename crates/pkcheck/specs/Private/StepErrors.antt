@@ -12,10 +12,10 @@ use Rattle.pkcheck.specs.declared.effect.Move.TheVariants as move
 use Rattle.pkcheck.specs.Effects.{Effect, Operates, Moves, Stops, Raises, number_moved}
 use Rattle.pkcheck.specs.declared.machine.operate.StepError.{StepError}
 use Rattle.pkcheck.specs.declared.machine.stepping.Moved.{Moved}
-use Rattle.pkread.specs.declared.Reason.{Reason}
-use Rattle.pkread.specs.declared.Reason.TheVariants as reason
 use Rattle.pkops.specs.Spelling.{Instruction}
 use Rattle.pkops.specs.Limits.{Bounds}
+use Rattle.pkops.specs.declared.Reason.{Reason}
+use Rattle.pkops.specs.declared.Reason.TheVariants as reason
 use Rattle.pkcheck.specs.Shape.{Breach, Item, Shape}
 use Rattle.pkcheck.specs.Runs.{Plain}
 use Rattle.pkcheck.specs.declared.effect.Class.{Class}

@@ -13,7 +13,7 @@ use Rattle.pkcheck.specs.Shape.{and_then}
 use Rattle.pkcheck.specs.View.{texts_after}
 use Rattle.pkops.specs.Limits.{Bounds}
 use Rattle.pkops.specs.Spelling.{Instruction}
-use Rattle.pkread.specs.declared.Reason.{Reason}
+use Rattle.pkops.specs.declared.Reason.{Reason}
 
 -- the step of an instruction with this effect, with the limits checked
 abbrev pub learned : Policy → Bounds → Effect → Instruction → Knowledge → Result Progress Refusal

@@ -4,12 +4,12 @@ use Rattle.pkops.specs.Inst.{instruction_of}
 use Rattle.pkops.specs.Spelling.{Instruction}
 use Rattle.pkops.specs.declared.Inst.{Inst}
 use Rattle.pkops.specs.declared.Op.{Op}
+use Rattle.pkops.specs.declared.Refusal.{Refusal}
 use Rattle.pkread.specs.Heads.{StepsHead}
 use Rattle.pkread.specs.ReaderCalls.{ReaderState, Steps}
 use Rattle.pkread.specs.Rows.{all_bytes}
 use Rattle.pkread.specs.declared.Head.TheVariants as head
 use Rattle.pkread.specs.declared.Next.TheVariants as next
-use Rattle.pkread.specs.declared.Refusal.{Refusal}
 use Rattle.pkcheck.specs.Covers.{Covers}
 use Rattle.pkcheck.specs.Knowledge.{Policy}
 use Rattle.pkcheck.specs.Private.Judgement.{BothGoOn, HasLength, IsRefused, SessionView}

@@ -13,7 +13,7 @@ ghost use Rattle.std.specs.Str.{IsUtf8};
 use crate::import::Named;
 use crate::import_list::ImportList;
 use crate::machine::texts::Texts;
-use pkread::Reason;
+use pkops::Reason;
 use std::alloc::{AllocError, Global};
 use std::marker::Model;
 

@@ -6,8 +6,7 @@ ghost use Rattle.std.specs.Prelude.{◌≡◌, ◌≤◌, length, IfErr, OnOk};
 
 use crate::machine::packed::PackedValue;
 use pkbase::NumberedMap;
-use pkops::Limits;
-use pkread::Reason;
+use pkops::{Limits, Reason};
 
 /// What is known about the stored objects, by number.
 pub type MemoTable = NumberedMap<PackedValue>;

@@ -10,8 +10,7 @@ use crate::effect::Move;
 use crate::machine::memo::{MemoTable, store};
 use crate::machine::stack::Stack;
 use crate::machine::value::Value;
-use pkops::{Inst, Limits};
-use pkread::Reason;
+use pkops::{Inst, Limits, Reason};
 
 /// Pushes the top of the stack again.
 #[inline(always)]

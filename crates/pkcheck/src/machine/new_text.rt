@@ -16,8 +16,7 @@ use crate::machine::packed::PackedValue;
 use crate::machine::stack::Stack;
 use crate::machine::texts::text_spelled;
 use pkops::laws::{plain_line_is_text, text_is_named};
-use pkops::{Arg, Inst, Limits, Op, is_ascii, spells_itself};
-use pkread::Reason;
+use pkops::{Arg, Inst, Limits, Op, Reason, is_ascii, spells_itself};
 
 /// Adds a text to the table, and pushes its number.
 #[inline(never)]

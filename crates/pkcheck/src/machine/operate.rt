@@ -14,8 +14,7 @@ mod receiver;
 use crate::import::Asked;
 pub use named::{Spelled, operate_named};
 pub use nameless::operate_unnamed;
-use pkops::{Arg, Inst};
-use pkread::Reason;
+use pkops::{Arg, Inst, Reason};
 
 /// Why a step is refused, and the pair if it is off the list. The pair is boxed, which keeps the
 /// result of a step small. Few steps are refused.

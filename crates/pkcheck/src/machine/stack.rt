@@ -14,8 +14,7 @@ use crate::machine::packed::PackedValue;
 use crate::machine::value::Value;
 pub use operands::Operands;
 use pkbase::StackVec;
-use pkops::Limits;
-use pkread::Reason;
+use pkops::{Limits, Reason};
 pub use slots::OperandsStart;
 use slots::{
     Slot, few_objects, mark_place, marks_below, one_object, place_of, put_on_top, top, two_objects,

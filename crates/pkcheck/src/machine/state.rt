@@ -29,8 +29,7 @@ use crate::machine::operate::{Spelled, StepError, lines_of, operate_named, opera
 use crate::machine::packed::PackedValue;
 use crate::machine::stack::Stack;
 use crate::policy::Permit;
-use pkops::{Inst, Limits, Op};
-use pkread::Reason;
+use pkops::{Inst, Limits, Op, Reason};
 use std::alloc::{AllocError, Global};
 use std::marker::Model;
 use std::mem;

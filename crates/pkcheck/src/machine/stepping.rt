@@ -22,8 +22,7 @@ use crate::machine::state::MachineState;
 use crate::machine::value::int_or_bool;
 use crate::old_strings::OldStrings;
 use crate::policy::Permit;
-use pkops::Inst;
-use pkread::Reason;
+use pkops::{Inst, Reason};
 
 /// What an accepted step did.
 #[derive(Clone, Copy, Debug, PartialEq, Eq)]

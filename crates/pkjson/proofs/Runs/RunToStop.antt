@@ -11,8 +11,8 @@ use Rattle.pkops.specs.Payloads.{is_passed, payload_limit}
 use Rattle.pkops.specs.Spelling.{Instruction, spelling}
 use Rattle.pkops.specs.Answer.{Answer, Whole, More, Bad, Answers}
 use Rattle.pkops.specs.declared.Fault.{Fault}
+use Rattle.pkops.specs.declared.Reason.{Reason}
 use Rattle.pkread.specs.Rows.{Sight, in_memory}
-use Rattle.pkread.specs.declared.Reason.{Reason}
 use Rattle.pkcheck.specs.declared.OldStrings.TheVariants.{Unknown}
 use Rattle.pkcheck.specs.Knowledge.{Asked}
 use Rattle.pkcheck.specs.Refused.{Refused}

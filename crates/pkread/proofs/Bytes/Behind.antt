@@ -12,6 +12,9 @@ use Rattle.pkops.specs.declared.Layout.TheVariants as layout
 use Rattle.pkops.specs.declared.Width.{Width}
 use Rattle.pkops.specs.declared.Width.TheVariants as width
 use Rattle.pkops.specs.declared.Op.{Op}
+use Rattle.pkops.specs.declared.Reason.{Reason}
+use Rattle.pkops.specs.declared.Reason.TheVariants.{Source, Truncated, BadArgument}
+use Rattle.pkops.specs.declared.Reason.TheVariants.{TooLarge, OutOfMemory}
 use Rattle.pkread.proofs.Bytes.Taken.{AreBytes-both, AreBytes-take, lacks_after, took_both}
 use Rattle.pkread.proofs.Bytes.Taken.{took_none}
 use Rattle.pkread.specs.Private.Arms.{Counts, Grows, RowBehind, Stops}
@@ -20,9 +23,6 @@ use Rattle.pkread.specs.Rows.{FrontsBegin, Sight}
 use Rattle.pkread.specs.Private.Reads.{LackRow, LacksSome, Took, TookAll}
 use Rattle.pkread.specs.Pull.{AreAllBytes}
 use Rattle.pkread.specs.declared.arms.Count.{Count}
-use Rattle.pkread.specs.declared.refusal.Reason.{Reason}
-use Rattle.pkread.specs.declared.refusal.Reason.TheVariants.{Source, Truncated, BadArgument}
-use Rattle.pkread.specs.declared.refusal.Reason.TheVariants.{TooLarge, OutOfMemory}
 
 -- the fronts of what begins an instruction
 pub begun_fronts : BegunLaws → (limit : ℕ) (b : List ℕ) → Begun limit b → FrontsBegin limit b

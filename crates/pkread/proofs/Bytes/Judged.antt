@@ -13,6 +13,10 @@ use Rattle.pkops.specs.Spelling.{Argument, Instruction, instruction, spelling}
 use Rattle.pkops.specs.Table.{code_of}
 use Rattle.pkops.specs.declared.Fault.TheVariants as fault
 use Rattle.pkops.specs.declared.Op.{Op}
+use Rattle.pkops.specs.declared.Reason.{Reason}
+use Rattle.pkops.specs.declared.Reason.TheVariants.{Source, Truncated, UnknownOpcode}
+use Rattle.pkops.specs.declared.Reason.TheVariants.{BadArgument, TooLarge, ExtensionCode}
+use Rattle.pkops.specs.declared.Reason.TheVariants.{UnsupportedProtocol, OutOfMemory}
 use Rattle.pkread.proofs.Bytes.Behind.{fronts_more, stops_lacking}
 use Rattle.pkread.proofs.Calls.Next.{IsGathered}
 use Rattle.pkread.proofs.Bytes.LinesBehind.{stops_more}
@@ -27,10 +31,6 @@ use Rattle.pkread.specs.Rows.{FrontsBegin, IsAmiss, Refuses, ShowsReason, Sight,
 use Rattle.pkread.specs.Private.Judgement.{TakesAnyArgument}
 use Rattle.pkread.specs.Private.Reads.{LacksSome, Took}
 use Rattle.pkread.specs.declared.gather.Found.{Found}
-use Rattle.pkread.specs.declared.refusal.Reason.{Reason}
-use Rattle.pkread.specs.declared.refusal.Reason.TheVariants.{Source, Truncated, UnknownOpcode}
-use Rattle.pkread.specs.declared.refusal.Reason.TheVariants.{BadArgument, TooLarge, ExtensionCode}
-use Rattle.pkread.specs.declared.refusal.Reason.TheVariants.{UnsupportedProtocol, OutOfMemory}
 
 -- what is good is whole
 pub whole_of : (limit : ℕ) (o : Op) (arg : Argument) (split : ℕ) (b : List ℕ) →

@@ -12,6 +12,9 @@ use Rattle.pkops.specs.Table.{code_of}
 use Rattle.pkops.specs.declared.Fault.TheVariants as fault
 use Rattle.pkops.specs.declared.Layout.TheVariants as layout
 use Rattle.pkops.specs.declared.Op.{Op}
+use Rattle.pkops.specs.declared.Reason.{Reason}
+use Rattle.pkops.specs.declared.Reason.TheVariants.{Source, Truncated, TooLarge}
+use Rattle.pkops.specs.declared.Reason.TheVariants.{OutOfMemory}
 use Rattle.pkread.proofs.Bytes.Behind.{begun_fronts, fronts_more, row_behind}
 use Rattle.pkread.proofs.Bytes.Takes.{Consumes-more, Takes-more}
 use Rattle.pkread.proofs.Bytes.Taken.{took_both}
@@ -19,9 +22,6 @@ use Rattle.pkread.specs.Private.Arms.{Grows, LacksLine, LineRow, RowBehind, Stop
 use Rattle.pkread.specs.Private.Progress.{Intake}
 use Rattle.pkread.specs.Rows.{FrontsBegin, Sight, Takes}
 use Rattle.pkread.specs.Private.Reads.{Took}
-use Rattle.pkread.specs.declared.refusal.Reason.{Reason}
-use Rattle.pkread.specs.declared.refusal.Reason.TheVariants.{Source, Truncated, TooLarge}
-use Rattle.pkread.specs.declared.refusal.Reason.TheVariants.{OutOfMemory}
 
 abbrev Endless : List ℕ → Type 0
 Endless c = AllByRecursion (λ byte. byte ≢ 10) c

@@ -13,6 +13,7 @@ use Rattle.pkops.specs.Table.{code_of}
 use Rattle.pkops.specs.declared.Layout.TheVariants as layout
 use Rattle.pkops.specs.declared.Op.{Op}
 use Rattle.pkops.specs.declared.Op.TheVariants as op
+use Rattle.pkops.specs.declared.Reason.{Reason}
 use Rattle.pkread.proofs.Bytes.Behind.{payload_lie, payload_stops, payload_took}
 use Rattle.pkread.proofs.Bytes.Judged.{refuses_of}
 use Rattle.pkread.proofs.Bytes.LinesBehind.{stops_more}
@@ -29,7 +30,6 @@ use Rattle.pkread.specs.Private.Reads.{LacksSome, Took, TookAll, TookBlock}
 use Rattle.pkread.specs.Rows.{FrontsBegin, Refuses}
 use Rattle.pkread.specs.declared.arms.Count.{Count}
 use Rattle.pkread.specs.declared.gather.Found.{Found}
-use Rattle.pkread.specs.declared.refusal.Reason.{Reason}
 
 -- the argument of a passed opcode needs no look
 passed_plain : (o : Op) → is_passed o ≡ true → is_plain o ≡ true

@@ -8,15 +8,15 @@ use Rattle.std.specs.List.{AllByRecursion}
 use Rattle.std.proofs.lemmas.List.{drop-take, drop_at, get_or-drop, length-drop, length-take}
 use Rattle.std.proofs.lemmas.List.{take-take, take_at}
 use Rattle.std.proofs.Math.Seq.{take-add}
+use Rattle.pkops.specs.declared.Reason.{Reason}
+use Rattle.pkops.specs.declared.Reason.TheVariants.{Source, Truncated, TooLarge}
+use Rattle.pkops.specs.declared.Reason.TheVariants.{OutOfMemory}
 use Rattle.pkread.proofs.Bytes.Takes.{Consumes-more, Takes-more, Takes-none}
 use Rattle.pkread.specs.Rows.{Sight, Takes, all_bytes}
 use Rattle.pkread.specs.Private.Progress.{Intake}
 use Rattle.pkread.specs.Private.Reads.{LackRow, LacksSome, PulledInto, ReadsSome}
 use Rattle.pkread.specs.Private.Reads.{ReadsByte, ReadsNone, TakesAll, Took, TookAll}
 use Rattle.pkread.specs.Pull.{AreAllBytes}
-use Rattle.pkread.specs.declared.refusal.Reason.{Reason}
-use Rattle.pkread.specs.declared.refusal.Reason.TheVariants.{Source, Truncated, TooLarge}
-use Rattle.pkread.specs.declared.refusal.Reason.TheVariants.{OutOfMemory}
 
 pub AreBytes-take : (n : ℕ) (c : List ℕ) → AreAllBytes c → AreAllBytes (take n c)
 AreBytes-take zero c f i = omega arith

@@ -11,6 +11,7 @@ use Rattle.pkops.specs.Table.{code_of}
 use Rattle.pkops.specs.declared.Layout.TheVariants as layout
 use Rattle.pkops.specs.declared.Op.{Op}
 use Rattle.pkops.specs.declared.Op.TheVariants as op
+use Rattle.pkops.specs.declared.Reason.TheVariants.{BadArgument}
 use Rattle.pkread.proofs.Bytes.Behind.{payload_lie, payload_took}
 use Rattle.pkread.proofs.Bytes.Judged.{broken_of, stops_amiss}
 use Rattle.pkread.proofs.Bytes.LinesBehind.{one_lies}
@@ -20,7 +21,6 @@ use Rattle.pkread.specs.Private.Judgement.{TakesUtf8}
 use Rattle.pkread.specs.Private.Progress.{Intake}
 use Rattle.pkread.specs.Private.Reads.{Took, TookAll}
 use Rattle.pkread.specs.declared.arms.Count.{Count}
-use Rattle.pkread.specs.declared.refusal.Reason.TheVariants.{BadArgument}
 
 module _ (c : Count) (x : ℕ) (o : Op) (old mid new : Intake) (e : old.bytes ≡ code_of o ∷ [])
     (lay : layout_at o ≡ layout.Counted c.width c.signed) (k : Counts c x old mid)

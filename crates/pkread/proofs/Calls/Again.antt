@@ -3,6 +3,10 @@ use Rattle.std.proofs.Common.{◌≡◌, ◌≢◌, ℕ, ◌<◌, Bool, true, fa
 use Rattle.std.proofs.Common.{Some, Result, Ok, Err, refl, sym, subst, ◌∙◌, arith, inr}
 use Rattle.std.specs.Result.{IfErr, IfOk}
 use Rattle.pkops.specs.Growth.{BegunLaws}
+use Rattle.pkops.specs.declared.Reason.{Reason}
+use Rattle.pkops.specs.declared.Reason.TheVariants.{Source, Truncated, TooLarge}
+use Rattle.pkops.specs.declared.Reason.TheVariants.{OutOfMemory}
+use Rattle.pkops.specs.declared.Refusal.{Refusal}
 use Rattle.pkread.proofs.Calls.Next.{counts_at}
 use Rattle.pkread.proofs.Reasons.OneRow.{OneAnswer, one_row}
 use Rattle.pkread.proofs.Bytes.Taken.{takes_none}
@@ -12,10 +16,6 @@ use Rattle.pkread.specs.Private.OpenReader.{ByteCame, NoneCame}
 use Rattle.pkread.specs.Private.Reads.{ReadsNone}
 use Rattle.pkread.specs.ReaderCalls.{ReaderState, is_ended}
 use Rattle.pkread.specs.Rows.{ShowsReason, Sight, Takes, all_bytes, unread}
-use Rattle.pkread.specs.declared.refusal.Reason.{Reason}
-use Rattle.pkread.specs.declared.refusal.Reason.TheVariants.{Source, Truncated, TooLarge}
-use Rattle.pkread.specs.declared.refusal.Reason.TheVariants.{OutOfMemory}
-use Rattle.pkread.specs.declared.refusal.Refusal.{Refusal}
 
 -- a read of a byte gave none, before the end
 no_byte : (o n : Sight) (t : ℕ) (r : Reason) → r ≢ Truncated → ReadsNone o n r → WhyNoByte o n t r

@@ -7,6 +7,9 @@ use Rattle.std.proofs.lemmas.List.{take_all}
 use Rattle.pkops.specs.Answer.{IsWhole}
 use Rattle.pkops.specs.Spelling.{Instruction, spelling}
 use Rattle.pkops.specs.declared.Op.{Op}
+use Rattle.pkops.specs.declared.Reason.{Reason}
+use Rattle.pkops.specs.declared.Reason.TheVariants.{Source, OutOfMemory}
+use Rattle.pkops.specs.declared.Refusal.{Refusal}
 use Rattle.pkread.proofs.Reasons.Objections.{no_objection}
 use Rattle.pkread.specs.Admission.{IsAllowed, objection}
 use Rattle.pkread.specs.Core.{Phase, Open, Refused, phase_after}
@@ -17,9 +20,6 @@ use Rattle.pkread.specs.ReaderCalls.{ShowsFrom}
 use Rattle.pkread.specs.Rows.{Refuses, ShowsReason, Sight, all_bytes, unread}
 use Rattle.pkread.specs.Sequence.{CountsAt}
 use Rattle.pkread.specs.declared.reader.Next.{Next}
-use Rattle.pkread.specs.declared.refusal.Reason.{Reason}
-use Rattle.pkread.specs.declared.refusal.Reason.TheVariants.{Source, OutOfMemory}
-use Rattle.pkread.specs.declared.refusal.Refusal.{Refusal}
 
 -- the bytes are one admitted instruction of the opcode
 pub record IsGathered (limit : ℕ) (bytes : List ℕ) (op : Op) : Type 0 where

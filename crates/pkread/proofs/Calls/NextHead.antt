@@ -6,6 +6,7 @@ use Rattle.pkops.specs.Limits.{Bounds}
 use Rattle.pkops.specs.Payloads.{is_passed, payload_limit_at}
 use Rattle.pkops.specs.Spelling.{Instruction, spelling}
 use Rattle.pkops.specs.declared.Op.{Op}
+use Rattle.pkops.specs.declared.Refusal.{Refusal}
 use Rattle.pkread.proofs.Calls.Next.{IsGathered, come, counts_at, gives_whole, spelled}
 use Rattle.pkread.specs.Core.{Phase, Open, Refused, phase_after}
 use Rattle.pkread.specs.Heads.{GivesHead, HoldsFew, Skips, RefusesHead, ShowsHead, ShowsHeadFrom}
@@ -19,7 +20,6 @@ use Rattle.pkread.specs.declared.gather.Found.{Found}
 use Rattle.pkread.specs.declared.heads.Gathered.{Gathered}
 use Rattle.pkread.specs.declared.heads.Gathered.TheVariants as gathered
 use Rattle.pkread.specs.declared.reader.Head.{Head}
-use Rattle.pkread.specs.declared.refusal.Refusal.{Refusal}
 
 -- from an open reader a step is a gift or a refusal
 pub steps_head_open : (old new : ReaderState) (r : Result Head Refusal) → old.phase ≡ Open →

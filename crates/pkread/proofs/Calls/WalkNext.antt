@@ -7,11 +7,11 @@ use Rattle.pkops.specs.Answer.{IsWhole}
 use Rattle.pkops.specs.Inst.{instruction_of}
 use Rattle.pkops.specs.Spelling.{spelling}
 use Rattle.pkops.specs.declared.Inst.{Inst}
+use Rattle.pkops.specs.declared.Reason.{Reason}
 use Rattle.pkread.proofs.Reasons.Objections.{no_objection}
 use Rattle.pkread.proofs.Reasons.OneRow.{RefusedAlone}
 use Rattle.pkread.specs.Admission.{objection}
 use Rattle.pkread.specs.Genops.{Walk, Walks, is_stop}
-use Rattle.pkread.specs.declared.refusal.Reason.{Reason}
 
 -- the walk that goes on with these bytes
 abbrev pub going : List ℕ → ℕ → ℕ → Walk

@@ -11,6 +11,7 @@ use Rattle.pkops.specs.Spelling.{Counted, Instruction, instruction, spelling}
 use Rattle.pkops.specs.declared.Inst.{Inst}
 use Rattle.pkops.specs.declared.Op.{Op}
 use Rattle.pkops.specs.declared.Op.TheVariants as op
+use Rattle.pkops.specs.declared.Refusal.{Refusal}
 use Rattle.pkread.proofs.Bytes.Takes.{Takes-more}
 use Rattle.pkread.proofs.Calls.AtHand.{next_behind, takes_lent}
 use Rattle.pkread.specs.Admission.{IsAllowed, IsAllowedBy}
@@ -28,7 +29,6 @@ use Rattle.pkread.specs.declared.reader.Head.{Head}
 use Rattle.pkread.specs.declared.reader.Head.TheVariants as head
 use Rattle.pkread.specs.declared.reader.Next.{Next}
 use Rattle.pkread.specs.declared.reader.Next.TheVariants as next
-use Rattle.pkread.specs.declared.refusal.Refusal.{Refusal}
 
 -- one instruction more is spelled behind the others
 pub spellings-more : (p : List Instruction) (i : Instruction)

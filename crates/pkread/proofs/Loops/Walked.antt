@@ -9,12 +9,12 @@ use Rattle.pkops.specs.Spelling.{Instruction, spelling}
 use Rattle.pkops.specs.declared.Inst.{Inst}
 use Rattle.pkops.specs.declared.Op.{Op}
 use Rattle.pkops.specs.declared.Op.TheVariants as op
+use Rattle.pkops.specs.declared.Refusal.{Refusal}
 use Rattle.pkread.proofs.Loops.Run.{spellings-more}
 use Rattle.pkread.specs.Admission.{IsAllowed}
 use Rattle.pkread.specs.Genops.{GivesItem, RefusesItem, Walk, Yields, is_stop}
 use Rattle.pkread.specs.Sequence.{NoStop, StopIsLast, spellings}
 use Rattle.pkread.specs.Walked.{EndIsWalked, ItemIsWalked, RefusalIsWalked, WalkBegins}
-use Rattle.pkread.specs.declared.refusal.Refusal.{Refusal}
 
 pub walk_begins : WalkBegins
 walk_begins bytes limit = record {

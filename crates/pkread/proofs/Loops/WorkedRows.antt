@@ -6,6 +6,7 @@ use Rattle.pkops.specs.Limits.{Bounds, standard}
 use Rattle.pkops.specs.Payloads.{payload_limit, payload_limit_at}
 use Rattle.pkops.specs.Spelling.{Instruction, Nothing, Number, Pair, instruction}
 use Rattle.pkops.specs.declared.Op.TheVariants as op
+use Rattle.pkops.specs.declared.Reason.TheVariants.{ExtensionCode, UnsupportedProtocol}
 use Rattle.pkread.specs.Admission.{IsAllowed, objection}
 use Rattle.pkread.specs.Framing.{Piece, Role, frame_spans, counted, frame, other, refused_at, stop}
 use Rattle.pkread.specs.Framing.{total}
@@ -13,7 +14,6 @@ use Rattle.pkread.specs.Genops.{most_items, walk_of}
 use Rattle.pkread.specs.Pieces.{piece_of}
 use Rattle.pkread.specs.Rows.{IsAmiss, Takes}
 use Rattle.pkread.specs.Sequence.{IsSequence, spellings}
-use Rattle.pkread.specs.declared.refusal.Reason.TheVariants.{ExtensionCode, UnsupportedProtocol}
 
 -- a piece of this length
 abbrev one : ℕ → Role → Piece

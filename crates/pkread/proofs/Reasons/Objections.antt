@@ -6,10 +6,10 @@ use Rattle.pkops.specs.Answer.{IsWhole}
 use Rattle.pkops.specs.Spelling.{Argument, Number, Instruction}
 use Rattle.pkops.specs.declared.Op.{Op}
 use Rattle.pkops.specs.declared.Op.TheVariants as op
+use Rattle.pkops.specs.declared.Reason.{Reason}
+use Rattle.pkops.specs.declared.Reason.TheVariants.{ExtensionCode, UnsupportedProtocol}
 use Rattle.pkread.specs.Admission.{objection, unadmitted_by}
 use Rattle.pkread.specs.Rows.{IsAmiss}
-use Rattle.pkread.specs.declared.refusal.Reason.{Reason}
-use Rattle.pkread.specs.declared.refusal.Reason.TheVariants.{ExtensionCode, UnsupportedProtocol}
 
 -- the reasons that an objection may have
 abbrev IsObjection : Reason → Type 0

@@ -3,14 +3,14 @@ use Rattle.std.proofs.Common.{◌≡◌, ◌≢◌, ℕ, ◌+◌, ◌%◌, ◌^�
 use Rattle.std.proofs.Common.{arith, inl, inr}
 use Rattle.pkops.specs.Answer.{Answer, Answers, Bad, More, Whole}
 use Rattle.pkops.specs.declared.Fault.TheVariants as fault
+use Rattle.pkops.specs.declared.Reason.{Reason}
+use Rattle.pkops.specs.declared.Reason.TheVariants.{Source, Truncated, UnknownOpcode}
+use Rattle.pkops.specs.declared.Reason.TheVariants.{BadArgument, TooLarge, ExtensionCode}
+use Rattle.pkops.specs.declared.Reason.TheVariants.{UnsupportedProtocol, OutOfMemory}
 use Rattle.pkread.specs.Admission.{objection}
 use Rattle.pkread.specs.Private.Judgement.{fault_reason}
 use Rattle.pkread.specs.Genops.{EndsOrIsAmiss}
 use Rattle.pkread.specs.Rows.{IsAmiss, ShowsReason, Sight, all_bytes}
-use Rattle.pkread.specs.declared.refusal.Reason.{Reason}
-use Rattle.pkread.specs.declared.refusal.Reason.TheVariants.{Source, Truncated, UnknownOpcode}
-use Rattle.pkread.specs.declared.refusal.Reason.TheVariants.{BadArgument, TooLarge, ExtensionCode}
-use Rattle.pkread.specs.declared.refusal.Reason.TheVariants.{UnsupportedProtocol, OutOfMemory}
 
 -- what `pkops` promises of the answers of a scan
 abbrev pub OneAnswer : Type 0

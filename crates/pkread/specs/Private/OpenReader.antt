@@ -2,6 +2,7 @@
 use Rattle.std.specs.Io.KnownBytes.{IsAtEnd}
 use Rattle.std.specs.Prelude.{◌≡◌, ◌≤◌, ℕ, List, [], ◌∷◌, Option, length, max, ⊤, Result}
 use Rattle.std.specs.Prelude.{MatchResult}
+use Rattle.pkops.specs.declared.Refusal.{Refusal}
 use Rattle.pkread.specs.Core.{CoreView, Open, Phase, Refused, phase_after}
 use Rattle.pkread.specs.Held.{most_held}
 use Rattle.pkread.specs.Private.Arms.{Gathers, IsFound}
@@ -11,7 +12,6 @@ use Rattle.pkread.specs.Rows.{Refuses, Sight, Takes, all_bytes, sight, unread}
 use Rattle.pkread.specs.declared.gather.Found.{Found}
 use Rattle.pkread.specs.declared.heads.Gathered.{Gathered}
 use Rattle.pkread.specs.declared.heads.Gathered.TheVariants as gathered
-use Rattle.pkread.specs.declared.refusal.Refusal.{Refusal}
 
 module _ {R : Type 0} (left : R → Option (List ℕ)) (failures : R → ℕ) where
   -- the state before the next instruction

@@ -6,8 +6,7 @@ ghost use Rattle.pkcheck.specs.Private.StepErrors.{WantsRoom};
 
 use crate::machine::packed::PackedValue;
 use crate::machine::stack::Stack;
-use pkops::Limits;
-use pkread::Reason;
+use pkops::{Limits, Reason};
 
 /// Replaces the operands with a value. Without a value, it keeps the first operand and removes the
 /// others. `marks` is the number of marks below the place.

@@ -23,8 +23,7 @@ use crate::machine::operate::receiver::receiver_fault;
 use crate::machine::stack::{Operands, Stack};
 use crate::machine::value::value_of;
 use crate::policy::Permit;
-use pkops::{Arg, Inst, Op};
-use pkread::Reason;
+use pkops::{Arg, Inst, Op, Reason};
 use std::alloc::Global;
 
 /// An opcode with its two lines, if it has them. It stands for the instruction, which would need a

@@ -15,8 +15,7 @@ use crate::machine::operate::receiver::receiver_fault;
 use crate::machine::packed::PackedValue;
 use crate::machine::stack::Stack;
 use crate::machine::value::value_of;
-use pkops::{Limits, Op};
-use pkread::Reason;
+use pkops::{Limits, Op, Reason};
 
 /// Finds the operands and replaces them with the result.
 #[inline(always)]

@@ -11,7 +11,7 @@ use crate::machine::import_table::ImportTable;
 use crate::machine::operate::StepError;
 use crate::policy::{Permit, Policy};
 use pklist::pairs;
-use pkread::Reason;
+use pkops::Reason;
 use std::alloc::Global;
 
 /// Refuses an import that the policy does not permit, with `UnknownImport` or `ImportOffList`.

@@ -13,7 +13,7 @@ use crate::effect::{SliceRule, Takes};
 use crate::machine::packed::PackedValue;
 use crate::machine::value::Value;
 use pkbase::StackVec;
-use pkread::Reason;
+use pkops::Reason;
 use std::alloc::AllocError;
 
 /// Where the operands of an operation begin.

@@ -1,6 +1,6 @@
 -- A scan has one answer, so its fault, or the objection, is the only reason to refuse.
 use Rattle.std.proofs.Common.{sym, ◌∙◌}
-use Rattle.pkread.specs.declared.refusal.Reason.TheVariants.{Truncated}
+use Rattle.pkops.specs.declared.Reason.TheVariants.{Truncated}
 use Rattle.pkread.proofs.Bytes.Takes.{fault_is_amiss}
 use Rattle.pkread.proofs.Reasons.Objections.{objection_is_amiss}
 use Rattle.pkread.proofs.Reasons.OneRow.{alone, amiss_alone}

@@ -3,7 +3,7 @@ use Rattle.std.proofs.Common.{◌∙◌, None, Some, arith, inl, refl, sym, true
 use Rattle.std.proofs.lemmas.Grind.{common_steps}
 use Rattle.std.proofs.lemmas.Result.{err_from_is_err_and}
 use Rattle.pkops.specs.Inst.{instruction_of}
-use Rattle.pkread.specs.declared.Reason.TheVariants as reason
+use Rattle.pkops.specs.declared.Reason.TheVariants as reason
 use Rattle.pkcheck.specs.declared.effect.Class.TheVariants as class
 use Rattle.pkcheck.specs.Effects.{Raises}
 use Rattle.pkcheck.specs.declared.effect.Gives.TheVariants.{Answers, Makes, MakesText}

@@ -3,7 +3,7 @@ use Rattle.std.proofs.Common.{◌∙◌, [], None, ap, inl, refl, sym}
 use Rattle.std.proofs.lemmas.Result.{err_from_is_err_and}
 use Rattle.pkops.specs.declared.Op.TheVariants as op
 use Rattle.pkops.specs.Spelling.{Nothing, instruction}
-use Rattle.pkread.specs.declared.Reason.TheVariants as reason
+use Rattle.pkops.specs.declared.Reason.TheVariants as reason
 use Rattle.pkcheck.specs.declared.effect.Names.TheVariants.{NoName}
 use Rattle.pkcheck.specs.Knowledge.{WrongClass}
 use Rattle.pkcheck.specs.Private.Slots.{seen}

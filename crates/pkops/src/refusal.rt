@@ -1,10 +1,8 @@
 //! Why a pickle is refused, and where.
 
 ghost use Rattle.std.specs.Prelude.{◌≡◌};
-ghost use Rattle.pkread.specs.Printed.{reason_name, number_told};
+ghost use Rattle.pkops.specs.Printed.{reason_name, number_told};
 
-use crate::frames::BrokenFrame;
-use crate::source::ReadFailed;
 use std::alloc::{AllocError, AllocFailed};
 use std::error::Error;
 use std::fmt;
@@ -59,7 +57,7 @@ pub enum Reason {
 /// A reason is printed by its name, with its number in parentheses if it has one.
 impl fmt::Display for Reason {
     ghost use Rattle.std.specs.Prelude.{Some};
-    ghost use Rattle.pkread.specs.Printed.{reason_text};
+    ghost use Rattle.pkops.specs.Printed.{reason_text};
 
     ghost output = { λ reason. Some (reason_text reason) };
 
@@ -111,33 +109,9 @@ fn number_of(reason: Reason) -> Option<u32>
     }
 }
 
-impl From<ReadFailed> for Reason {
-    ghost use Rattle.std.specs.Prelude.{◌≡◌};
-    ghost use Rattle.pkread.specs.declared.refusal.Reason.TheVariants.{Source};
-
-    ghost from_gives = { λ _ reason. reason ≡ Source };
-
-    #[inline]
-    fn from(_failed: ReadFailed) -> Reason {
-        Reason::Source
-    }
-}
-
-impl From<BrokenFrame> for Reason {
-    ghost use Rattle.std.specs.Prelude.{◌≡◌};
-    ghost use Rattle.pkread.specs.declared.refusal.Reason.TheVariants.{BrokenFrame};
-
-    ghost from_gives = { λ _ reason. reason ≡ BrokenFrame };
-
-    #[inline]
-    fn from(_broken: BrokenFrame) -> Reason {
-        Reason::BrokenFrame
-    }
-}
-
 impl From<AllocError> for Reason {
     ghost use Rattle.std.specs.Prelude.{◌≡◌};
-    ghost use Rattle.pkread.specs.declared.refusal.Reason.TheVariants.{OutOfMemory};
+    ghost use Rattle.pkops.specs.declared.refusal.Reason.TheVariants.{OutOfMemory};
 
     ghost from_gives = { λ _ reason. reason ≡ OutOfMemory };
 
@@ -149,7 +123,7 @@ impl From<AllocError> for Reason {
 
 impl<T: Drop> From<AllocFailed<T>> for Reason {
     ghost use Rattle.std.specs.Prelude.{◌≡◌};
-    ghost use Rattle.pkread.specs.declared.refusal.Reason.TheVariants.{OutOfMemory};
+    ghost use Rattle.pkops.specs.declared.refusal.Reason.TheVariants.{OutOfMemory};
 
     ghost from_gives = { λ _ reason. reason ≡ OutOfMemory };
 
@@ -172,7 +146,7 @@ pub struct Refusal {
 /// A refusal is printed as `at P: REASON`.
 impl fmt::Display for Refusal {
     ghost use Rattle.std.specs.Prelude.{Some};
-    ghost use Rattle.pkread.specs.Printed.{refusal_text};
+    ghost use Rattle.pkops.specs.Printed.{refusal_text};
 
     ghost output = { λ refusal. Some (refusal_text refusal) };
 
