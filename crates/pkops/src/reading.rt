@@ -59,26 +59,6 @@ fn line(most: usize, from: &[u8]) -> Result<(&[u8], &[u8]), Unread>
     }
 }
 
-/// A payload without its count, and the bytes after it.
-#[tactic(auto, unfolding(crate::specs::Private::FirstFaults::payload_at))]
-fn payload<'a>(
-    limit: u64,
-    width: Width,
-    signed: bool,
-    from: &'a [u8],
-) -> Result<(&'a [u8], &'a [u8]), Unread>
-    ensures { ReturnsAs (λ x. (x.0.now, x.1.now)) result (payload_at limit width signed from.now) }
-{
-    let (count, rest) = number(width.size(), from)?;
-    if !is_count(width, signed, count) {
-        return Err(Unread::Bad(Fault::BadArgument));
-    }
-    if count > limit {
-        return Err(Unread::Bad(Fault::TooLarge));
-    }
-    bytes(count as usize, rest)
-}
-
 /// An unsigned number as an argument, and the bytes after it.
 fn unsigned(width: usize, from: &[u8]) -> Result<(Arg<'_>, &[u8]), Unread>
     requires { (width ≡ 1) ⊎ (width ≡ 2) ⊎ (width ≡ 4) ⊎ (width ≡ 8) }
@@ -133,6 +113,7 @@ fn pair(most: usize, from: &[u8]) -> Result<(Arg<'_>, &[u8]), Unread>
 }
 
 /// A payload as an argument, and the bytes after it.
+#[tactic(auto, unfolding(crate::specs::Private::FirstFaults::payload_at))]
 fn counted<'a>(
     limit: u64,
     width: Width,
@@ -143,8 +124,15 @@ fn counted<'a>(
         (payload_at limit width signed from.now and_then λ payload.
         Ok (Counted payload.0, payload.1)) }
 {
-    let (text, rest) = payload(limit, width, signed, from)?;
-    Ok((Arg::Counted(text), rest))
+    let (count, rest) = number(width.size(), from)?;
+    if !is_count(width, signed, count) {
+        return Err(Unread::Bad(Fault::BadArgument));
+    }
+    if count > limit {
+        return Err(Unread::Bad(Fault::TooLarge));
+    }
+    let (payload, rest) = bytes(count as usize, rest)?;
+    Ok((Arg::Counted(payload), rest))
 }
 
 /// An argument of the layout, and the bytes after it.

@@ -2,7 +2,7 @@
 
 ghost use Rattle.std.specs.Prelude.{◌≡◌, not, position};
 ghost use Rattle.std.specs.Char.{is_ascii_digit};
-ghost use Rattle.pkops.specs.RuleTests.{after_digits, is_after_whole, is_decimal, is_digits};
+ghost use Rattle.pkops.specs.RuleTests.{after_digits, is_after_whole, is_decimal};
 ghost use Rattle.pkops.specs.RuleTests.{is_exponent_or_end, is_float_line, is_signed_digits};
 ghost use Rattle.pkops.specs.RuleTests.{is_unsigned, starts_with_digit};
 
@@ -55,15 +55,9 @@ fn is_signed_digits(text: &[u8]) -> bool
     ensures { result ≡ is_signed_digits text.now }
 {
     match text {
-        [b'+' | b'-', digits @ ..] => is_digits(digits),
+        [b'+' | b'-', digits @ ..] => starts_with_digit(digits) && are_digits(digits),
         _ => false,
     }
-}
-
-fn is_digits(text: &[u8]) -> bool
-    ensures { result ≡ is_digits text.now }
-{
-    starts_with_digit(text) && are_digits(text)
 }
 
 fn starts_with_digit(text: &[u8]) -> bool
