@@ -2,7 +2,7 @@
 
 ghost use Rattle.std.specs.Prelude.{◌≡◌, ◌⊎◌, ◌≤◌, ◌<◌, ◌^◌, ℕ, List, IfOk, Ok};
 ghost use Rattle.std.specs.Int.{cast_signed, w32};
-ghost use Rattle.pkops.specs.Spelling.{Argument, Number, Signed, Float, Line, Pair, Counted};
+ghost use Rattle.pkops.specs.Spelling.{Argument, Number, Signed, Line, Pair, Counted};
 ghost use Rattle.pkops.specs.Spelling.{shown_arg};
 ghost use Rattle.pkops.specs.Private.FirstFaults.{ReturnsAs, pair_at, ◌>>=◌ as ◌and_then◌};
 ghost use Rattle.pkops.specs.Private.FirstFaults.{bytes_at};
@@ -84,15 +84,6 @@ fn signed(from: &[u8]) -> Result<(Arg<'_>, &[u8]), Unread>
     Ok((Arg::I4((n as u32).cast_signed()), rest))
 }
 
-/// The bytes of a float as an argument, and the bytes after them.
-fn float(from: &[u8]) -> Result<(Arg<'_>, &[u8]), Unread>
-    ensures { ReturnsAs {Y = Argument × List ℕ} (λ x. (shown_arg x.0, x.1.now)) result
-        (bytes_at 8 from.now and_then λ eight. Ok (Float eight.0, eight.1)) }
-{
-    let (eight, rest) = bytes(8, from)?;
-    Ok((Arg::F8(eight), rest))
-}
-
 /// A line as an argument, and the bytes after its line feed.
 fn text(most: usize, from: &[u8]) -> Result<(Arg<'_>, &[u8]), Unread>
     ensures { ReturnsAs {Y = Argument × List ℕ} (λ x. (shown_arg x.0, x.1.now)) result
@@ -151,7 +142,10 @@ pub fn argument<'a>(
         Layout::U4 => unsigned(4, from),
         Layout::U8 => unsigned(8, from),
         Layout::I4 => signed(from),
-        Layout::F8 => float(from),
+        Layout::F8 => {
+            let (eight, rest) = bytes(8, from)?;
+            Ok((Arg::F8(eight), rest))
+        }
         Layout::Line(most) => text(most, from),
         Layout::Pair(most) => pair(most, from),
         Layout::Counted(width, is_signed) => counted(limit, width, is_signed, from),

@@ -11,15 +11,23 @@ const LONG: usize = 40;
 /// The length from which on `simdutf8` is faster even for ASCII.
 const VERY_LONG: usize = 256;
 
-/// Whether the bytes are UTF-8. Long ones are checked without byte shuffles, because the shipped
-/// libraries also run on processors that lack them.
-#[inline]
+/// Whether the bytes are UTF-8. Most are ASCII, and not long.
+#[inline(always)]
 pub fn is_utf8(bytes: &[u8]) -> bool
     ensures { MatchBool result (IsUtf8 bytes.now) (¬ (IsUtf8 bytes.now)) }
 {
     if bytes.len() < VERY_LONG && is_ascii(bytes) {
         return true;
     }
+    is_any_utf8(bytes)
+}
+
+/// Whether the bytes are UTF-8, which may be any. Long ones are checked without byte shuffles,
+/// because the shipped libraries also run on processors that lack them.
+#[inline(never)]
+fn is_any_utf8(bytes: &[u8]) -> bool
+    ensures { MatchBool result (IsUtf8 bytes.now) (¬ (IsUtf8 bytes.now)) }
+{
     if bytes.len() >= LONG {
         return simdutf8::is_utf8_baseline(bytes);
     }
