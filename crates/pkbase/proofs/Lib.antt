@@ -1,2 +1,3 @@
--- The lemmas of the containers: entries in parts.
+-- The lemmas of the containers: entries in parts, and their number.
 pub mod Entries
+pub mod Stored

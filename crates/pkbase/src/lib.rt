@@ -8,5 +8,5 @@
 mod numbered_map;
 mod stack_vec;
 
-pub use numbered_map::NumberedMap;
+pub use numbered_map::{NotStored, NumberedMap};
 pub use stack_vec::StackVec;

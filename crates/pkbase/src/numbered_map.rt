@@ -4,12 +4,22 @@ ghost use Rattle.std.specs.BTreeMap.{insert_entry, is_at};
 ghost use Rattle.std.specs.List.Sorted.{IsStrictlySortedBy};
 ghost use Rattle.std.specs.Map.{keys_of, lookup};
 ghost use Rattle.std.specs.Ordering.{nat_cmp};
-ghost use Rattle.std.specs.Prelude.{◌≡◌, ◌↔◌, [], length, IsTrue, None, OnErr, OnOk};
+ghost use Rattle.std.specs.Prelude.{◌≡◌, ◌↔◌, ◌<◌, ◌≤◌, [], length, IfErr, IsTrue, None, OnErr};
+ghost use Rattle.std.specs.Prelude.{OnOk};
 
 use crate::stack_vec::StackVec;
 use std::alloc::{AllocError, Global};
 use std::collections::BTreeMap;
 use std::marker::Model;
+
+/// Why a value isn't stored.
+#[derive(Clone, Copy, Debug, Drop, PartialEq, Eq)]
+pub enum NotStored {
+    /// The map would have more entries than it may.
+    Full,
+    /// An allocation was refused, or the number has more than 32 bits and isn't the next in order.
+    OutOfMemory,
+}
 
 /// Values by number. A contract sees the entries as they stand in a `BTreeMap`, by rising number.
 ///
@@ -98,7 +108,7 @@ impl<V: Copy + Drop> NumberedMap<V> {
 
     /// Whether a number is the next in order: `store` then appends its value. No entry has it.
     #[inline(always)]
-    pub fn is_next(&self, number: u64) -> bool
+    fn is_next(&self, number: u64) -> bool
         ensures { IsTrue result → lookup (is_at (nat_cmp number)) self.now ≡ None }
     {
         let next = u64::from(self.first) + self.ordered.len() as u64;
@@ -117,6 +127,60 @@ impl<V: Copy + Drop> NumberedMap<V> {
             return self.ordered.push(value);
         }
         self.store_apart(number, value)
+    }
+
+    /// Stores a value as `store` does, unless the map would then have more than `most` entries.
+    #[inline(always)]
+    pub fn store_within(&mut self, most: u64, number: u64, value: V) -> Result<(), NotStored>
+        requires { length self.old ≤ most }
+        ensures ok { OnOk result (self.new ≡ insert_entry nat_cmp self.old number value) }
+        ensures room { OnOk result (length self.new ≤ most) }
+        ensures kept { OnErr result (self.new ≡ self.old) }
+        ensures full { IfErr result (λ why. why ≡ NotStored.Full
+            → most < length (insert_entry nat_cmp self.old number value)) }
+    {
+        if self.is_next(number) {
+            if self.len() >= most {
+                return Err(NotStored::Full);
+            }
+            return self.store_allowed(number, value);
+        }
+        self.store_other_within(most, number, value)
+    }
+
+    /// `store_within` for a number that isn't the next in order.
+    #[inline(never)]
+    fn store_other_within(&mut self, most: u64, number: u64, value: V) -> Result<(), NotStored>
+        requires { length self.old ≤ most }
+        ensures ok { OnOk result (self.new ≡ insert_entry nat_cmp self.old number value) }
+        ensures room { OnOk result (length self.new ≤ most) }
+        ensures kept { OnErr result (self.new ≡ self.old) }
+        ensures full { IfErr result (λ why. why ≡ NotStored.Full
+            → most < length (insert_entry nat_cmp self.old number value)) }
+    {
+        let Ok(key) = u32::try_from(number) else {
+            return Err(NotStored::OutOfMemory);
+        };
+        if self.len() < most {
+            return self.store_allowed(number, value);
+        }
+        if self.get(key).is_none() {
+            return Err(NotStored::Full);
+        }
+        self.store_allowed(number, value)
+    }
+
+    /// Stores a value as `store` does, and says why it doesn't.
+    #[inline(always)]
+    fn store_allowed(&mut self, number: u64, value: V) -> Result<(), NotStored>
+        ensures ok { OnOk result (self.new ≡ insert_entry nat_cmp self.old number value) }
+        ensures kept { OnErr result (self.new ≡ self.old) }
+        ensures why { IfErr result (λ why. why ≡ NotStored.OutOfMemory) }
+    {
+        match self.store(number, value) {
+            Ok(()) => Ok(()),
+            Err(_) => Err(NotStored::OutOfMemory),
+        }
     }
 
     /// Stores a value under a number that isn't the next in order.

@@ -5,8 +5,6 @@ pub mod Wholes
 -- the fields of the machine: the stack, the memo, the texts, the imports
 pub mod Shown
 pub mod Bars
-pub mod Absent
-pub mod Stored
 pub mod JoinedTexts
 pub mod ResolvedEntries
 pub mod NotedImports

@@ -1,6 +1,6 @@
 //! A map in which each part is in use.
 
-use pkbase::NumberedMap;
+use pkbase::{NotStored, NumberedMap};
 use std::test::Fail;
 
 /// What is stored, in turn: in order from 5 on, below that, again, far above, and in between.
@@ -60,6 +60,20 @@ fn a_cleared_map_begins_anew(rt: HostRuntime) -> Result<(), Fail> {
     assert!(rt; map.store(1 << 33, 9).is_err());
     assert_eq!(rt; map.get(u32::MAX), Some(7));
     assert_eq!(rt; map.get(0), Some(8));
+    assert_eq!(rt; map.len(), 2);
+    Ok(())
+}
+
+#[test]
+fn a_full_map_takes_only_numbers_that_it_has(rt: HostRuntime) -> Result<(), Fail> {
+    let mut map = NumberedMap::new(rt.alloc(), 0);
+    assert_eq!(rt; map.store_within(2, 5, 50), Ok(()));
+    assert_eq!(rt; map.store_within(2, 1 << 33, 9), Err(NotStored::OutOfMemory));
+    assert_eq!(rt; map.store_within(2, 9, 90), Ok(()));
+    assert_eq!(rt; map.store_within(2, 6, 60), Err(NotStored::Full));
+    assert_eq!(rt; map.store_within(2, 7, 70), Err(NotStored::Full));
+    assert_eq!(rt; map.store_within(2, 9, 91), Ok(()));
+    assert_eq!(rt; map.get(9), Some(91));
     assert_eq!(rt; map.len(), 2);
     Ok(())
 }

@@ -1,17 +1,25 @@
--- Storing under a new number adds an entry to the memo, and storing under a used one doesn't.
+-- Storing under a new number adds an entry to a map, and storing under a used one doesn't.
 use Rattle.std.proofs.Common.{◌≡◌, ℕ, ◌+◌, ◌≤◌, List, [], ◌∷◌, length, Option, Some, None, true}
-use Rattle.std.proofs.Common.{is_some, ap, refl, arith}
+use Rattle.std.proofs.Common.{false, is_some, refl, arith}
 use Rattle.std.proofs.lemmas.Cmp.{nat_cmp_total}
 use Rattle.std.proofs.lemmas.List.Sums.{sum_by-cons}
 use Rattle.std.proofs.lemmas.Map.Entries.{length-values_of, sum_by-insert_entry}
 use Rattle.std.specs.List.Sorted.{IsStrictlySortedBy}
 use Rattle.std.specs.List.{sum_by}
-use Rattle.std.specs.Map.{keys_of, values_of}
+use Rattle.std.specs.BTreeMap.{insert_entry, is_at}
+use Rattle.std.specs.Map.{keys_of, lookup, values_of}
 use Rattle.std.specs.Option.{unwrap_or, option_map}
 use Rattle.std.specs.Ordering.{nat_cmp}
-use Rattle.pkcheck.specs.Shape.{recalled, stored}
 
 module _ {A : Type 0} where
+  -- the entries with this one
+  abbrev pub stored : ℕ → A → List (ℕ × A) → List (ℕ × A)
+  stored number value es = insert_entry nat_cmp es number value
+
+  -- the value of a number
+  abbrev pub recalled : ℕ → List (ℕ × A) → Option A
+  recalled number es = lookup (is_at (nat_cmp number)) es
+
   ones : (xs : List A) → sum_by (λ x. 1) xs ≡ length xs
   ones [] = refl
   ones (x ∷ xs) = omega (arith, sum_by-cons (λ x. 1) x xs, ones xs)
@@ -34,9 +42,14 @@ module _ {A : Type 0} where
       pub at_most_one_more : length (stored n v es) ≤ length es + 1
       at_most_one_more = omega (arith, counted)
 
-      pub one_more : recalled n es ≡ None → length (stored n v es) ≡ length es + 1
-      one_more none =
-          omega (arith, counted, ap {B = ℕ} (λ o. unwrap_or (option_map (λ x. 1) o) 0) none)
+      pub one_more : is_some (recalled n es) ≡ false → length (stored n v es) ≡ length es + 1
+      one_more none = by (recalled n es) none counted
+        where
+          by : (o : Option A) → is_some o ≡ false
+              → length (stored n v es) + unwrap_or (option_map (λ x. 1) o) 0 ≡ length es + 1
+              → length (stored n v es) ≡ length es + 1
+          by None h e = omega (arith, e)
+          by (Some x) h e = cc
 
       pub as_many : is_some (recalled n es) ≡ true → length (stored n v es) ≡ length es
       as_many some = by (recalled n es) some counted
