@@ -52,7 +52,7 @@ impl Gathering {
             Layout::Line(most) => self.one_line(source, op, most)?,
             Layout::Pair(most) => return self.two_lines(source, op, most),
             Layout::Counted(width, signed) => {
-                let limit = self.limit_held();
+                let limit = self.limits().counted();
                 let count = Count {
                     width,
                     signed,
@@ -76,7 +76,7 @@ impl Gathering {
         let Some(byte) = self.first() else {
             return self.take_byte(source);
         };
-        self.count_first();
+        self.count_lent(1);
         Ok(byte)
     }
 
@@ -119,19 +119,6 @@ impl Gathering {
         Ok(Found { op, split })
     }
 
-    /// Takes an instruction, with a contract that only joins those of its parts.
-    #[inline]
-    fn gather_parts<R: Source>(&mut self, source: &mut R) -> Result<Found, Reason>
-        requires { AtMostOneAhead self.old.buffer.bytes self.old.taken }
-        ensures keeps { KeepsRest self.old self.new }
-        ensures takes { TakesFound self.old.limits.counted result
-            (intake_start R.left R.failures source.old self.old)
-            (intake R.left R.failures source.new self.new) }
-    {
-        let op = self.take_op(source)?;
-        self.gather_behind(source, op, layout_of_op(op))
-    }
-
     /// Takes bytes until they spell an instruction: first the code, unless the buffer already holds
     /// it, then what its layout needs.
     #[inline]
@@ -145,6 +132,7 @@ impl Gathering {
     {
         growth();
         one_answer();
-        self.gather_parts(source)
+        let op = self.take_op(source)?;
+        self.gather_behind(source, op, layout_of_op(op))
     }
 }

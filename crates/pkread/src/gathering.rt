@@ -75,22 +75,6 @@ impl Gathering {
         &self.limits
     }
 
-    /// The limit on a payload that is held.
-    #[inline]
-    pub(crate) fn limit_held(&self) -> u64
-        ensures { result ≡ self.now.limits.counted }
-    {
-        self.limits.counted()
-    }
-
-    /// The limit on a payload that is skipped.
-    #[inline]
-    pub(crate) fn limit_skipped(&self) -> u64
-        ensures { result ≡ self.now.limits.passed }
-    {
-        self.limits.passed()
-    }
-
     /// The most bytes ever held.
     pub(crate) fn most(&self) -> usize
         ensures { result ≡ most_held self.now.buffer }
@@ -140,16 +124,8 @@ impl Gathering {
         self.buffer.cut(count);
     }
 
-    /// Counts the byte that was read ahead as taken.
-    #[inline]
-    pub(crate) fn count_first(&mut self)
-        requires { self.old.taken < all_bytes }
-        ensures { self.new ≡ record self.old { taken = self.old.taken + 1 } }
-    {
-        self.room -= 1;
-    }
-
-    /// Counts an instruction of `count` bytes that is lent from where it lies, as if it were held.
+    /// Counts bytes as taken: those of an instruction that is lent from where it lies, as if it
+    /// were held, or the one that was read ahead.
     #[inline(always)]
     pub(crate) fn count_lent(&mut self, count: usize)
         requires { self.old.taken + count ≤ all_bytes }

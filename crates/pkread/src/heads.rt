@@ -122,7 +122,7 @@ impl Gathering {
             (intake R.left R.failures source.new self.new) }
     {
         growth();
-        let limit = self.limit_skipped();
+        let limit = self.limits().passed();
         let count = Count {
             width: count_width(op),
             signed: false,

@@ -329,17 +329,10 @@ fn ask<R: Source>(source: &mut R, gathering: &mut Gathering) -> Result<bool, Rea
     }
     match gathering.take_ahead(source) {
         Ok(_) => Ok(true),
-        Err(reason) => none_or(reason),
-    }
-}
-
-/// Turns `Truncated` into `false`, because no byte arrived. Passes on any other reason.
-fn none_or(reason: Reason) -> Result<bool, Reason>
-    ensures end { IfOk result (λ more. (more ≡ false) × (reason ≡ Reason.Truncated)) }
-    ensures err { IfErr result (λ r. (r ≡ reason) × (reason ≢ Reason.Truncated)) }
-{
-    match reason {
-        Reason::Truncated => Ok(false),
-        _ => Err(reason),
+        Err(reason) => match reason {
+            // No byte arrived.
+            Reason::Truncated => Ok(false),
+            _ => Err(reason),
+        },
     }
 }

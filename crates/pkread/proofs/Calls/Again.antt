@@ -1,6 +1,6 @@
 -- One call of `again`.
 use Rattle.std.proofs.Common.{◌≡◌, ◌≢◌, ℕ, ◌<◌, Bool, true, false, List, [], ◌∷◌, Option, None}
-use Rattle.std.proofs.Common.{Some, Result, Ok, Err, refl, sym, subst, ◌∙◌, arith, inr}
+use Rattle.std.proofs.Common.{Some, Result, Ok, Err, refl, sym, ◌∙◌, arith, inr}
 use Rattle.std.specs.Result.{IfErr, IfOk}
 use Rattle.pkops.specs.Growth.{BegunLaws}
 use Rattle.pkops.specs.declared.Reason.{Reason}
@@ -18,18 +18,13 @@ use Rattle.pkread.specs.ReaderCalls.{ReaderState, is_ended}
 use Rattle.pkread.specs.Rows.{ShowsReason, Sight, Takes, all_bytes, unread}
 
 -- a read of a byte gave none, before the end
-no_byte : (o n : Sight) (t : ℕ) (r : Reason) → r ≢ Truncated → ReadsNone o n r → WhyNoByte o n t r
+pub no_byte : (o n : Sight) (t : ℕ) (r : Reason) → r ≢ Truncated → ReadsNone o n r →
+    WhyNoByte o n t r
 no_byte o n t Source ne h = record { between = o.left; bytes = (takes_none o).bytes; count = h }
 no_byte o n t Truncated ne h = absurd (ne refl)
 no_byte o n t OutOfMemory ne h = h
 no_byte o n t TooLarge ne h = absurd h
 no_byte o n t _ ne h = absurd h
-
--- the same, of an answer
-pub answers_none : (o n : Sight) (t : ℕ) (r : Reason) (x : Result Bool Reason) → ReadsNone o n r →
-    IfErr x (λ y. (y ≡ r) × (r ≢ Truncated)) → IfErr x (WhyNoByte o n t)
-answers_none o n t r (Ok more) h k = tt
-answers_none o n t r (Err y) h k = subst (WhyNoByte o n t) (sym k.0) (no_byte o n t r k.1 h)
 
 pub is_ended_so : (p : Phase) → is_ended p ≡ true → p ≡ Ended
 is_ended_so Ended e = refl
