@@ -15,7 +15,8 @@ ghost use Rattle.pkload.specs.Private.Told.{bytes_before, skipped_memory};
 use crate::halt::Halt;
 use crate::memo::{self, Memo};
 use pkcheck::effect::Move;
-use pkops::{Arg, Inst, Op, is_ascii, spells_itself};
+use pkops::lengths::{count_width, head_length};
+use pkops::{Arg, Inst, Op, Width, is_ascii, spells_itself};
 
 /// So much more than any memory that sums of some of them fit 64 bits.
 const MOST: u64 = 1_125_899_906_842_624;
@@ -249,16 +250,18 @@ pub fn after_move(what: Move, grown: u32, memory: u64) -> Result<u64, Halt>
     plus(memory, more)
 }
 
-/// The bytes of an instruction with a payload that may be skipped, before its payload.
+/// The bytes of an instruction with a payload that may be skipped, before its payload. Nothing is
+/// told of another opcode: it counts as one with a count of eight bytes.
 #[inline]
 pub fn bytes_before(op: Op) -> u64
     ensures { result ≡ bytes_before op }
 {
-    match op {
-        Op::ShortBinBytes => 2,
-        Op::BinBytes => 5,
-        _ => 9,
-    }
+    let width = if op.passed() {
+        count_width(op)
+    } else {
+        Width::Eight
+    };
+    head_length(width) as u64
 }
 
 /// The memory after an instruction that makes an object of a payload of this size.
