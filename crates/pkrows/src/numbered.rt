@@ -68,7 +68,10 @@ fn a_cleared_map_begins_anew(rt: HostRuntime) -> Result<(), Fail> {
 fn a_full_map_takes_only_numbers_that_it_has(rt: HostRuntime) -> Result<(), Fail> {
     let mut map = NumberedMap::new(rt.alloc(), 0);
     assert_eq!(rt; map.store_within(2, 5, 50), Ok(()));
-    assert_eq!(rt; map.store_within(2, 1 << 33, 9), Err(NotStored::OutOfMemory));
+    assert_eq!(rt;
+        map.store_within(2, 1 << 33, 9),
+        Err(NotStored::OutOfMemory)
+    );
     assert_eq!(rt; map.store_within(2, 9, 90), Ok(()));
     assert_eq!(rt; map.store_within(2, 6, 60), Err(NotStored::Full));
     assert_eq!(rt; map.store_within(2, 7, 70), Err(NotStored::Full));
