@@ -5,10 +5,8 @@ pub mod Wholes
 -- the fields of the machine: the stack, the memo, the texts, the imports
 pub mod Shown
 pub mod Bars
-pub mod JoinedTexts
 pub mod ResolvedEntries
-pub mod NotedImports
-pub mod Copies
+pub mod AskedOperands
 pub mod Topmost
 pub mod Numbered
 pub mod Places

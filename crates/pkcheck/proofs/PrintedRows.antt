@@ -1,18 +1,9 @@
 -- Worked examples of printed refusals.
-use Rattle.std.proofs.Common.{◌≡◌, refl, codes, [], ◌∷◌, None}
+use Rattle.std.proofs.Common.{◌≡◌, refl, codes, None}
 use Rattle.std.specs.Fmt.{digits}
 use Rattle.pkops.specs.declared.Reason.TheVariants as reason
 use Rattle.pkcheck.specs.declared.checking.No.{No}
-use Rattle.pkcheck.specs.Quoted.{quoted}
 use Rattle.pkcheck.specs.Printed.{no_text, no_all_text}
-
-plain : quoted (codes "a b~") ≡ codes "\"a b~\""
-plain = refl
-
-escaped :
-    quoted (0x22 ∷ 0x00 ∷ 0x5c ∷ 0x7f ∷ 0xe9 ∷ [])
-    ≡ codes "\"\\x22\\x00\\x5c\\x7f\\xe9\""
-escaped = refl
 
 abbrev left_over : No
 left_over = record { at = 28; reason = reason.LeftOver; pair = None }

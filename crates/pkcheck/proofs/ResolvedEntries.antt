@@ -17,9 +17,9 @@ use Rattle.pkops.specs.Limits.{Bounds}
 use Rattle.pkops.specs.declared.Reason.{Reason}
 use Rattle.pkcheck.specs.Runs.{Text}
 use Rattle.pkcheck.specs.Knowledge.{Known, Knowledge}
-use Rattle.pkcheck.specs.Private.Noted.{Noted}
+use Rattle.pkimport.specs.Table.{Noted, HasMoreTexts}
 use Rattle.pkcheck.specs.Private.Slots.{IsNumbered, known, seen, remembered, resolved, StandsAs}
-use Rattle.pkcheck.specs.Private.Slots.{StandsIf, Sees, Resolves, HasMoreTexts}
+use Rattle.pkcheck.specs.Private.Slots.{StandsIf, Sees, Resolves}
 use Rattle.pkcheck.proofs.Coverage.Alike.{SameResult, Pointwise-map, Pointwise-append}
 use Rattle.pkcheck.proofs.Coverage.Alike.{AlikeEntry-map, AlikeTaken, operands_alike, front_alike}
 use Rattle.pkcheck.proofs.Coverage.Alike.{moved_alike}

@@ -9,7 +9,8 @@ use Rattle.pkread.specs.Rows.{Sight, all_bytes}
 use Rattle.pkread.specs.Sequence.{IsSequence, spellings}
 use Rattle.pkcheck.specs.declared.old_strings.OldStrings.{OldStrings}
 use Rattle.pkcheck.specs.Faults.{everyone}
-use Rattle.pkcheck.specs.Knowledge.{Policy, Asked}
+use Rattle.pkcheck.specs.Knowledge.{Policy}
+use Rattle.pkimport.specs.Import.{Asked}
 use Rattle.pkcheck.specs.Refused.{Refused}
 use Rattle.pkcheck.specs.RunFaults.{HasRunFault, RunsBehind}
 

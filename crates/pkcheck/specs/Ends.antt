@@ -1,6 +1,6 @@
 -- Runs that end the same way, and what the end of one says about the other.
 use Rattle.std.specs.Prelude.{◌≡◌, ℕ, ⊤, Bool, List, []}
-use Rattle.pkcheck.specs.Knowledge.{Asked}
+use Rattle.pkimport.specs.Import.{Asked}
 use Rattle.pkcheck.specs.Listing.{ImportsAreListed}
 use Rattle.pkcheck.specs.Runs.{Event, State, WentOn, Raised, Stopped, Stuck}
 use Rattle.pkcheck.specs.WholeRuns.{Ended, Reached, EndedBy, EndsWell}

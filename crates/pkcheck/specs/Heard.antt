@@ -15,7 +15,8 @@ use Rattle.pkcheck.specs.Answered.{IsRightAnswer}
 use Rattle.pkcheck.specs.Faults.{InEachRun}
 use Rattle.pkcheck.specs.declared.old_strings.OldStrings.{OldStrings}
 use Rattle.pkcheck.specs.declared.old_strings.OldStrings.TheVariants.{Unknown}
-use Rattle.pkcheck.specs.Knowledge.{Policy, Asked}
+use Rattle.pkcheck.specs.Knowledge.{Policy}
+use Rattle.pkimport.specs.Import.{Asked}
 use Rattle.pkcheck.specs.Refused.{Why, reading, judging, growing}
 use Rattle.pkcheck.specs.RowRuns.{Afresh, Beginning}
 use Rattle.pkcheck.specs.RunFaults.{IsFaultless, RunsBehind}

@@ -1,11 +1,11 @@
 -- How a refusal is printed.
 use Rattle.std.specs.Prelude.{ℕ, List, [], ◌++◌, codes, decimal, string_bytes, Option, Some}
 use Rattle.pkops.specs.Printed.{refusal_text}
-use Rattle.pkcheck.specs.declared.import.Asked.{Asked}
-use Rattle.pkcheck.specs.declared.import.Asked.TheVariants.{Pair}
+use Rattle.pkimport.specs.declared.import.Asked.{Asked}
+use Rattle.pkimport.specs.declared.import.Asked.TheVariants.{Pair}
 use Rattle.pkcheck.specs.declared.checking.No.{No}
 use Rattle.pkcheck.specs.declared.row_of_pickles.NoAll.{NoAll}
-use Rattle.pkcheck.specs.Quoted.{quoted}
+use Rattle.pkimport.specs.Quoted.{quoted}
 
 -- an import off the list: `("MODULE","NAME")`
 abbrev pub pair_text : Option Asked → List ℕ

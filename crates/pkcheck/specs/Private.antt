@@ -3,10 +3,8 @@
 pub mod Packed
 pub mod Places
 pub mod Slots
-pub mod Noted
-pub mod Joined
+pub mod Asking
 pub mod StepErrors
-pub mod SameImports
 pub mod Spelled
 pub mod Actions
 pub mod Judgement

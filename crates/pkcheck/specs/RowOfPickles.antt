@@ -16,8 +16,8 @@ use Rattle.pkcheck.specs.declared.loading.Memo.{Memo}
 use Rattle.pkcheck.specs.declared.loading.Memo.TheVariants.{Fresh, Kept}
 use Rattle.pkcheck.specs.declared.old_strings.OldStrings.{OldStrings}
 use Rattle.pkcheck.specs.Accepted.{AcceptedFrom}
-use Rattle.pkcheck.specs.Import.{asked_shown}
-use Rattle.pkcheck.specs.Knowledge.{Policy, Asked}
+use Rattle.pkimport.specs.Import.{asked_shown, Asked}
+use Rattle.pkcheck.specs.Knowledge.{Policy}
 use Rattle.pkcheck.specs.Refused.{RefusedFrom}
 use Rattle.pkcheck.specs.RowRuns.{Beginning, Afresh, Behind, Pickle, imports_of_all, sequences_of}
 use Rattle.pkcheck.specs.declared.row_of_pickles.YesAll.{YesAll}

@@ -3,7 +3,7 @@
 use Rattle.std.specs.Prelude.{◌≡◌, All, List, [], ◌∷◌, ◌++◌, map, flat_map, Option, Some, None}
 use Rattle.pkops.specs.Spelling.{Instruction}
 use Rattle.pkcheck.specs.declared.old_strings.OldStrings.{OldStrings}
-use Rattle.pkcheck.specs.Knowledge.{Asked}
+use Rattle.pkimport.specs.Import.{Asked}
 use Rattle.pkcheck.specs.Runs.{State, Outcome, CanCome, Stopped, start}
 use Rattle.pkcheck.specs.WholeRuns.{Ended, EndedBy, CanGetTo, GetsTo, run_as}
 

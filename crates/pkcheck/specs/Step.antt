@@ -8,11 +8,10 @@ use Rattle.pkcheck.specs.declared.machine.stepping.Moved.{Moved}
 use Rattle.pkcheck.specs.declared.old_strings.OldStrings.{OldStrings}
 use Rattle.pkcheck.specs.Effects.{effect_as}
 use Rattle.pkcheck.specs.Runs.{State, Outcome, AnswersCanBe, CanCome, step_as}
-use Rattle.pkcheck.specs.Knowledge.{Policy, Asked, AskedPair, AskedUnknown, Knowledge, Progress}
-use Rattle.pkcheck.specs.Knowledge.{Refusal, reason_of, advance}
+use Rattle.pkcheck.specs.Knowledge.{Policy, Knowledge, Progress, Refusal, reason_of, advance}
+use Rattle.pkimport.specs.Import.{Asked, AskedPair, AskedUnknown, asks_more}
 use Rattle.pkcheck.specs.Covers.{Covers, Follows}
 use Rattle.pkcheck.specs.Faults.{Arrivals, AsksForTwo, HasNoFault, IsFirstFault}
-use Rattle.pkcheck.specs.Import.{asks_more}
 use Rattle.pkcheck.specs.Memory.{WantsNoMemory}
 use Rattle.pkcheck.specs.View.{View, moved_as, stopped_by, texts_after, off_pair}
 

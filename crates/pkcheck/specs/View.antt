@@ -9,7 +9,8 @@ use Rattle.pkcheck.specs.declared.effect.Gives.TheVariants.{MakesText}
 use Rattle.pkcheck.specs.declared.old_strings.OldStrings.{OldStrings}
 use Rattle.pkcheck.specs.declared.machine.stepping.Moved.{Moved}
 use Rattle.pkcheck.specs.declared.machine.stepping.Moved.TheVariants.{On, Import, Stopped}
-use Rattle.pkcheck.specs.Knowledge.{Knowledge, Asked, AskedPair, Refusal, OffList, nothing_known}
+use Rattle.pkcheck.specs.Knowledge.{Knowledge, Refusal, OffList, nothing_known}
+use Rattle.pkimport.specs.Import.{Asked, AskedPair}
 
 -- the knowledge, the limits, the decoding of old strings, the imports so far, the pair that was off
 -- the list, the reason of the refusal, whether STOP was accepted, and the number of texts in the

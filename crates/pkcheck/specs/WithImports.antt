@@ -9,8 +9,8 @@ use Rattle.pkcheck.specs.declared.old_strings.OldStrings.{OldStrings}
 use Rattle.pkcheck.specs.Accepted.{Accepted}
 use Rattle.pkcheck.specs.Covers.{Pointwise, imports_of}
 use Rattle.pkcheck.specs.Faults.{InEachRun}
-use Rattle.pkcheck.specs.Import.{asked_shown}
-use Rattle.pkcheck.specs.Knowledge.{Asked, Policy}
+use Rattle.pkimport.specs.Import.{asked_shown, Asked}
+use Rattle.pkcheck.specs.Knowledge.{Policy}
 use Rattle.pkcheck.specs.Listing.{EachAsks, ImportsAreListed, StandsFor, UnknownIsOpen}
 use Rattle.pkcheck.specs.Listing.{imports_among}
 use Rattle.pkcheck.specs.Refused.{RefusedFrom}

@@ -5,16 +5,16 @@
 
 ghost use Rattle.std.specs.Prelude.{◌≡◌, IfErr, IfOk, MatchResult, true};
 ghost use Rattle.pkread.specs.Rows.{sight};
-ghost use Rattle.pkcheck.specs.Import.{permit_of};
+ghost use Rattle.pkcheck.specs.Policies.{permit_of};
 ghost use Rattle.pkcheck.specs.ThreeEnds.{AnswersTold, CountsTold, StopsTold};
 
 use crate::audience::Audience;
 use crate::checking::No;
-use crate::imports::Imports;
 use crate::loading::Loading;
 use crate::policy::Permit;
 use crate::row_of_pickles::{PickleRow, YesAll};
 use crate::session::Session;
+use pkimport::Imports;
 use pklist::laws::bounded_names;
 use pkops::Limits;
 use pkread::laws::{frames, heads, nexts, rows};

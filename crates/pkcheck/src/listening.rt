@@ -7,7 +7,7 @@ ghost use Rattle.pkops.specs.Limits.{holding_all};
 ghost use Rattle.pkread.specs.Rows.{sight};
 ghost use Rattle.pkcheck.specs.Answered.{CountsFailures};
 ghost use Rattle.pkcheck.specs.Heard.{Heard, IsCutShort, IsRightAndHeard, heard};
-ghost use Rattle.pkcheck.specs.Import.{policy_of};
+ghost use Rattle.pkcheck.specs.Policies.{policy_of};
 
 use crate::check_loop::{Extent, Terms, check_pickles};
 use crate::checking::{No, Yes};

@@ -1,18 +1,18 @@
 //! The symbolic machine, which knows what holds in every run and executes nothing.
 
+mod asking;
 mod config;
 pub(crate) mod effects;
-pub(crate) mod import_table;
 mod memo;
 mod moves;
 mod new_text;
 mod old_text;
 mod operate;
 mod packed;
+mod spelled_text;
 pub(crate) mod stack;
 mod state;
 mod stepping;
-pub(crate) mod texts;
 pub(crate) mod value;
 
 ghost use Rattle.std.specs.Prelude.{◌≡◌, option_map, is_some, IfOk, IfErr, IsTrue};
@@ -24,7 +24,8 @@ ghost use Rattle.pkops.specs.Spelling.{Instruction};
 ghost use Rattle.pkcheck.specs.Shape.{marks_of};
 ghost use Rattle.pkcheck.specs.Runs.{State, start};
 ghost use Rattle.pkcheck.specs.Covers.{Covers};
-ghost use Rattle.pkcheck.specs.Import.{asked_shown, pair_shown, permit_of, policy_of};
+ghost use Rattle.pkcheck.specs.Policies.{permit_of, policy_of};
+ghost use Rattle.pkimport.specs.Import.{asked_shown, pair_shown};
 ghost use Rattle.pkcheck.specs.Private.NextPickle.{moved_apart, restarted};
 ghost use Rattle.pkops.specs.Payloads.{is_passed};
 ghost use Rattle.pkcheck.specs.Step.{AnswersAsBefore, AppendsPermitted, FailsStep, GoesOn};
@@ -34,17 +35,14 @@ ghost use Rattle.pkcheck.specs.Step.{PassesNoFault, RefusesForGood, UnknownIsNee
 ghost use Rattle.pkcheck.specs.Texts.{texts_then};
 ghost use Rattle.pkcheck.specs.View.{fresh, has_off_list, stopped_by};
 
-use crate::import::Asked;
-use crate::import_list::ImportList;
-use crate::imports::Imports;
 use crate::loading::Memo;
 use crate::machine::config::MachineConfig;
 use crate::machine::effects::class_passed;
-use crate::machine::import_table::ImportTable;
 use crate::machine::state::MachineState;
 use crate::machine::stepping::advance;
 use crate::old_strings::OldStrings;
 use crate::policy::{Permit, Policy};
+use pkimport::{Asked, ImportList, ImportTable, Imports};
 use pklist::laws::bounded_names;
 use pkops::{Inst, Limits, Op, Reason};
 use std::alloc::{AllocError, Global};
@@ -70,7 +68,7 @@ impl Model for Machine {
     ghost Value = { View };
 
     ghost use Rattle.std.specs.Prelude.{◌≡◌, None, is_some, option_map};
-    ghost use Rattle.pkcheck.specs.Import.{asked_shown, pair_shown};
+    ghost use Rattle.pkimport.specs.Import.{asked_shown, pair_shown};
     ghost use Rattle.pkcheck.specs.Private.StepErrors.{FitsLimits};
     ghost use Rattle.pkcheck.specs.View.{has_off_list};
 

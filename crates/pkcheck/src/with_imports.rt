@@ -1,16 +1,16 @@
 //! A check that also gives the imports of a refused pickle.
 
 ghost use Rattle.pkread.specs.Rows.{sight};
-ghost use Rattle.pkcheck.specs.Import.{permit_of};
+ghost use Rattle.pkcheck.specs.Policies.{permit_of};
 ghost use Rattle.pkcheck.specs.WithImports.{CountsWithImports, IsRightWithImports};
 
 use crate::audience::Silent;
 use crate::check_loop::{Extent, RefusedPickle, Terms, check_pickles};
 use crate::checking::{No, Yes};
-use crate::imports::Imports;
 use crate::loading::{Loading, Memo};
 use crate::old_strings::OldStrings;
 use crate::policy::Permit;
+use pkimport::Imports;
 use pkops::Limits;
 use pkread::Source;
 use std::alloc::Global;

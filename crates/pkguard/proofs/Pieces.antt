@@ -6,7 +6,7 @@ use Rattle.std.specs.List.{flat_map, slice_get}
 use Rattle.std.proofs.lemmas.Grind.{flat_map-append}
 use Rattle.toml.specs.View.{view, items_view}
 use Rattle.toml.specs.declared.Value.{Value}
-use Rattle.pkcheck.specs.Knowledge.{Asked}
+use Rattle.pkimport.specs.Import.{Asked}
 use Rattle.pkguard.specs.Encoding.{encoded, encoded_all}
 use Rattle.pkguard.specs.Listed.{pair_in, pairs_among}
 use Rattle.pkguard.specs.Private.Written.{IsWritten}

@@ -6,7 +6,8 @@ use Rattle.pkops.specs.declared.Reason.{Reason}
 use Rattle.pkops.specs.declared.Reason.TheVariants as reason
 use Rattle.pkread.specs.Rows.{Sight}
 use Rattle.pkcheck.specs.Faults.{Arrivals, IsPairOf}
-use Rattle.pkcheck.specs.Knowledge.{Asked, AskedPair, AskedUnknown, Policy}
+use Rattle.pkcheck.specs.Knowledge.{Policy}
+use Rattle.pkimport.specs.Import.{Asked, AskedPair, AskedUnknown}
 use Rattle.pkcheck.specs.Refused.{Why, growing, judging, reading}
 use Rattle.pkcheck.specs.RowRuns.{Afresh, Beginning}
 use Rattle.pkcheck.specs.WithImports.{RefusedWithImports}

@@ -1,7 +1,7 @@
 -- How pairs are encoded in the caller's buffer.
 use Rattle.std.specs.Prelude.{◌++◌, ◌-◌, ◌^◌, ℕ, List, length, min, flat_map}
 use Rattle.std.specs.Int.{to_le_bytes, w64}
-use Rattle.pkcheck.specs.Knowledge.{Asked, AskedPair, AskedUnknown}
+use Rattle.pkimport.specs.Import.{Asked, AskedPair, AskedUnknown}
 
 -- the greatest number that eight bytes hold
 abbrev pub greatest_number : ℕ

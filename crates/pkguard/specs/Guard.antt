@@ -7,7 +7,8 @@ use Rattle.toml.specs.Errors.{IsBlank}
 use Rattle.pkops.specs.Limits.{Bounds}
 use Rattle.pkops.specs.declared.Reason.{Reason}
 use Rattle.pkread.specs.Rows.{Sight}
-use Rattle.pkcheck.specs.Knowledge.{Policy, Asked, AskedPair}
+use Rattle.pkcheck.specs.Knowledge.{Policy}
+use Rattle.pkimport.specs.Import.{Asked, AskedPair}
 use Rattle.pklist.specs.Allow.{are_unsaid}
 use Rattle.pklist.specs.ListFile.{cost_limits_in, limits_in, list_of, lists_in}
 use Rattle.pkcheck.specs.Accepted.{Accepted}

@@ -4,7 +4,7 @@ use Rattle.std.specs.Prelude.{Option, Some}
 use Rattle.toml.specs.Data.{Data, string, table, array, Items, no_items, item, Members, no_members}
 use Rattle.toml.specs.Data.{member}
 use Rattle.pkops.specs.Limits.{Bounds, greatest}
-use Rattle.pkcheck.specs.Knowledge.{Asked, AskedPair}
+use Rattle.pkimport.specs.Import.{Asked, AskedPair}
 use Rattle.pkguard.specs.declared.settings.Settings.{Settings}
 
 -- the pair of a module and one of its names

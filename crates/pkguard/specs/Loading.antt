@@ -3,7 +3,7 @@ use Rattle.std.specs.Prelude.{◌≡◌, ◌≢◌, ◌==◌, ◌&&◌, ◌⊎�
 use Rattle.std.specs.Prelude.{Option, Some, None, if◌then◌else◌, option_map, unwrap_or, Ok}
 use Rattle.toml.specs.Data.{Members}
 use Rattle.pkops.specs.Limits.{Bounds}
-use Rattle.pkcheck.specs.Import.{asked_shown}
+use Rattle.pkimport.specs.Import.{asked_shown}
 use Rattle.pkcheck.specs.Knowledge.{Policy}
 use Rattle.pklist.specs.ListFile.{list_of}
 use Rattle.pklist.specs.declared.CostLimits.{CostLimits}

@@ -1,7 +1,7 @@
 //! Writes pairs to the caller's buffer. They are written twice: first to an empty buffer, to count
 //! the bytes they need, and then to the caller's, if it has room for them.
 ghost use Rattle.std.specs.Prelude.{◌≡◌, ◌++◌, ℕ, List};
-ghost use Rattle.pkcheck.specs.Import.{import_shown};
+ghost use Rattle.pkimport.specs.Import.{import_shown};
 ghost use Rattle.pkguard.specs.Encoding.{eight_bytes, encoded, encoded_all};
 ghost use Rattle.pkguard.specs.Encoding.{encoded_text, wanted_by};
 ghost use Rattle.pkguard.specs.Guard.{placed};

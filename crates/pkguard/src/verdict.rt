@@ -1,6 +1,6 @@
 //! Verdicts for C.
 ghost use Rattle.std.specs.Prelude.{◌≡◌, ◌++◌, length, option_map};
-ghost use Rattle.pkcheck.specs.Import.{asked_shown};
+ghost use Rattle.pkimport.specs.Import.{asked_shown};
 ghost use Rattle.pkguard.specs.Guard.{placed, verdict_of_fault, verdict_of_no, verdict_of_yes};
 ghost use Rattle.pkguard.specs.Guard.{names_placed, nothing_told, verdict_behind, verdict_of_usage};
 ghost use Rattle.pkguard.specs.Loading.{verdict_of_excess};

@@ -10,7 +10,7 @@ use Rattle.pkread.specs.Rows.{Sight, in_memory}
 use Rattle.pkcheck.specs.declared.OldStrings.TheVariants.{Unknown}
 use Rattle.pkcheck.specs.Accepted.{Accepted}
 use Rattle.pkcheck.specs.Refused.{Refused}
-use Rattle.pkcheck.specs.Knowledge.{Asked}
+use Rattle.pkimport.specs.Import.{Asked}
 use Rattle.pkcheck.specs.Runs.{Event, State, Stopped, start}
 use Rattle.pkcheck.specs.WholeRuns.{EndedBy}
 use Rattle.pkjson.specs.declared.error.ExportError.{ExportError}

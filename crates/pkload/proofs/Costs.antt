@@ -15,7 +15,8 @@ use Rattle.pkread.specs.Rows.{Sight, Takes}
 use Rattle.pkread.specs.Sequence.{spellings}
 use Rattle.pkcheck.specs.Accepted.{AcceptedFrom}
 use Rattle.pkcheck.specs.Heard.{refused_instruction}
-use Rattle.pkcheck.specs.Knowledge.{Asked, Policy}
+use Rattle.pkcheck.specs.Knowledge.{Policy}
+use Rattle.pkimport.specs.Import.{Asked}
 use Rattle.pkcheck.specs.Refused.{RefusedFrom, Why, reading, judging, growing}
 use Rattle.pkcheck.specs.NewRuns.{InEachNewRun}
 use Rattle.pkcheck.specs.Reports.{AreReportsBehind, Report}

@@ -7,7 +7,8 @@ use Rattle.pkops.specs.Payloads.{payload_limit}
 use Rattle.pkops.specs.declared.Reason.{Reason}
 use Rattle.pkread.specs.Rows.{Sight}
 use Rattle.pkread.specs.Sequence.{IsSequence, spellings}
-use Rattle.pkcheck.specs.Knowledge.{Asked, Policy}
+use Rattle.pkcheck.specs.Knowledge.{Policy}
+use Rattle.pkimport.specs.Import.{Asked}
 use Rattle.pkcheck.specs.NewRuns.{FaultlessIsRun}
 use Rattle.pkcheck.specs.Reports.{Report}
 use Rattle.pkcheck.specs.RowOfPickles.{AreAccepted, IsAcceptedBehind, bytes_of_all}

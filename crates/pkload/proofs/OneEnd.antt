@@ -14,8 +14,8 @@ use Rattle.pkread.specs.Rows.{Sight, Takes, all_bytes}
 use Rattle.pkread.specs.Sequence.{spellings}
 use Rattle.pkread.specs.Sequences.{OneFront, OneSequence, SequenceGoesOn}
 use Rattle.pkcheck.specs.Exclusive.{OneBegins, RefusedBehind, YesExcludesNo, YesOfRowExcludesNo}
-use Rattle.pkcheck.specs.Import.{asked_shown}
-use Rattle.pkcheck.specs.Knowledge.{Asked, Policy}
+use Rattle.pkimport.specs.Import.{Asked, asked_shown}
+use Rattle.pkcheck.specs.Knowledge.{Policy}
 use Rattle.pkcheck.specs.Refused.{RefusedFrom}
 use Rattle.pkcheck.specs.RowOfPickles.{AreAccepted, begins, bytes_of_all}
 use Rattle.pkcheck.specs.RowRuns.{Pickle, sequences_of}

@@ -12,7 +12,8 @@ use Rattle.pkops.specs.declared.Reason.{Reason}
 use Rattle.pkread.specs.Rows.{Sight}
 use Rattle.pkread.specs.Sequence.{spellings}
 use Rattle.pkcheck.specs.Heard.{refused_instruction}
-use Rattle.pkcheck.specs.Knowledge.{Asked, Policy}
+use Rattle.pkcheck.specs.Knowledge.{Policy}
+use Rattle.pkimport.specs.Import.{Asked}
 use Rattle.pkcheck.specs.Refused.{RefusedFrom}
 use Rattle.pkcheck.specs.Reports.{AreReportsBehind, Report}
 use Rattle.pkcheck.specs.RowOfPickles.{AreAccepted, begins, bytes_of_all}

@@ -18,7 +18,8 @@ use Rattle.pkread.specs.Sequence.{spellings}
 use Rattle.pkread.specs.Sequences.{OneFront, SequenceGoesOn}
 use Rattle.pkcheck.specs.Accepted.{AcceptedFrom}
 use Rattle.pkcheck.specs.Exclusive.{OneBegins, RefusedBehind}
-use Rattle.pkcheck.specs.Knowledge.{Asked, Policy}
+use Rattle.pkcheck.specs.Knowledge.{Policy}
+use Rattle.pkimport.specs.Import.{Asked}
 use Rattle.pkcheck.specs.Refused.{RefusedFrom}
 use Rattle.pkcheck.specs.RowOfPickles.{begins, bytes_of_all}
 use Rattle.pkcheck.specs.RowRuns.{Pickle, sequences_of}

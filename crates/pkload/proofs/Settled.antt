@@ -5,7 +5,7 @@ use Rattle.std.specs.Option.{MatchOption}
 use Rattle.std.specs.Prelude.{◌≢◌, ⊤, IfErr, MatchResult, option_map}
 use Rattle.pkops.specs.Limits.{Bounds}
 use Rattle.pkread.specs.Rows.{Sight}
-use Rattle.pkcheck.specs.Import.{asked_shown}
+use Rattle.pkimport.specs.Import.{asked_shown}
 use Rattle.pkcheck.specs.Knowledge.{Policy}
 use Rattle.pkcheck.specs.NewRuns.{FaultlessIsRun}
 use Rattle.pkcheck.specs.Reports.{Report}

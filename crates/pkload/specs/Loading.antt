@@ -5,7 +5,7 @@ use Rattle.pkops.specs.Limits.{Bounds}
 use Rattle.pkops.specs.Spelling.{Instruction}
 use Rattle.pkread.specs.Rows.{Sight}
 use Rattle.pkcheck.specs.Accepted.{AcceptedFrom}
-use Rattle.pkcheck.specs.Import.{asked_shown}
+use Rattle.pkimport.specs.Import.{asked_shown}
 use Rattle.pkcheck.specs.Knowledge.{Policy}
 use Rattle.pkcheck.specs.NewRuns.{InEachNewRun}
 use Rattle.pkcheck.specs.RowOfPickles.{AcceptedRow, RefusedInRow, begins}

@@ -6,7 +6,8 @@ use Rattle.pkops.specs.declared.Reason.TheVariants.{Source, OutOfMemory, TooLarg
 use Rattle.pkread.specs.Rows.{Sight, all_bytes, in_memory}
 use Rattle.pkcheck.specs.declared.OldStrings.TheVariants.{Unknown}
 use Rattle.pkcheck.specs.Accepted.{Accepted}
-use Rattle.pkcheck.specs.Knowledge.{Policy, Asked}
+use Rattle.pkcheck.specs.Knowledge.{Policy}
+use Rattle.pkimport.specs.Import.{Asked}
 use Rattle.pkcheck.specs.Refused.{Refused}
 use Rattle.pkopt.specs.Answer.{Optimizes}
 

@@ -6,7 +6,7 @@ use Rattle.hex.specs.Hex.{encode_with}
 use Rattle.pkops.specs.Spelling.{Nothing, Number, Signed, Pair, Counted, instruction}
 use Rattle.pkops.specs.declared.Op.TheVariants as op
 use Rattle.pkcheck.specs.Heard.{heard}
-use Rattle.pkcheck.specs.Knowledge.{AskedPair, AskedUnknown}
+use Rattle.pkimport.specs.Import.{AskedPair, AskedUnknown}
 use Rattle.pkprint.specs.Imports.{import_line}
 use Rattle.pkprint.specs.Listing.{listing_line, position_text, highest, highest_line, indent}
 

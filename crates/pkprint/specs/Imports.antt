@@ -1,10 +1,10 @@
 -- The imports of a pickle: a line for each, then the line of the verdict.
 use Rattle.std.specs.Prelude.{ℕ, List, [], ◌++◌, codes, Result, Ok, Err}
 use Rattle.std.specs.List.{flat_map}
-use Rattle.pkcheck.specs.Knowledge.{Asked, AskedPair, AskedUnknown}
+use Rattle.pkimport.specs.Import.{Asked, AskedPair, AskedUnknown}
 use Rattle.pkcheck.specs.declared.Yes.{Yes}
 use Rattle.pkcheck.specs.declared.No.{No}
-use Rattle.pkcheck.specs.Quoted.{quoted}
+use Rattle.pkimport.specs.Quoted.{quoted}
 use Rattle.pkprint.specs.Verdict.{verdict_line}
 
 -- `"MODULE" "NAME"`, or `unknown` if the pickle does not show the pair

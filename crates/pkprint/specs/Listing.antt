@@ -12,7 +12,7 @@ use Rattle.pkcheck.specs.Heard.{Heard}
 use Rattle.pkcheck.specs.declared.Yes.{Yes}
 use Rattle.pkcheck.specs.declared.No.{No}
 use Rattle.pkcheck.specs.Printed.{no_text}
-use Rattle.pkcheck.specs.Quoted.{quoted}
+use Rattle.pkimport.specs.Quoted.{quoted}
 use Rattle.pkprint.specs.Verdict.{no_line}
 
 -- the offset of an instruction, right-aligned in 5 columns, or wider if needed

@@ -4,7 +4,7 @@ ghost use Rattle.std.specs.Io.KnownBytes.{Appends};
 ghost use Rattle.pkread.specs.Rows.{sight};
 ghost use Rattle.pkcheck.specs.declared.OldStrings.TheVariants.{Unknown};
 ghost use Rattle.pkcheck.specs.Answered.{CountsFailures, IsRightAnswer};
-ghost use Rattle.pkcheck.specs.Import.{policy_of};
+ghost use Rattle.pkcheck.specs.Policies.{policy_of};
 ghost use Rattle.pkcheck.specs.declared.Policy.TheVariants.{AnyImport};
 ghost use Rattle.pkcheck.specs.declared.Yes.{Yes};
 ghost use Rattle.pkcheck.specs.declared.No.{No};

@@ -6,7 +6,7 @@ ghost use Rattle.pkops.specs.Limits.{holding_all};
 ghost use Rattle.pkread.specs.Rows.{sight};
 ghost use Rattle.pkcheck.specs.Answered.{CountsFailures};
 ghost use Rattle.pkcheck.specs.Heard.{Heard, IsRightAndHeard};
-ghost use Rattle.pkcheck.specs.Import.{policy_of};
+ghost use Rattle.pkcheck.specs.Policies.{policy_of};
 ghost use Rattle.pkcheck.specs.declared.Policy.TheVariants.{AnyImport};
 ghost use Rattle.pkcheck.specs.declared.Yes.{Yes};
 ghost use Rattle.pkcheck.specs.declared.No.{No};

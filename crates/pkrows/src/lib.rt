@@ -54,4 +54,6 @@ mod sources;
 #[cfg(test)]
 mod spellings;
 #[cfg(test)]
+mod tables;
+#[cfg(test)]
 mod verdicts;

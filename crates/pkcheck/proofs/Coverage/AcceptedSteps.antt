@@ -22,12 +22,12 @@ use Rattle.pkcheck.specs.Runs.{Import, Did, State, Outcome, Raise, Go, Stepped, 
 use Rattle.pkcheck.specs.Runs.{NoImport, Pair, NotTexts, class_at, texts_named, named, asks}
 use Rattle.pkcheck.specs.Runs.{given, come_of, operated, move_step, stop_step, operate_step}
 use Rattle.pkcheck.specs.Runs.{perform, step_as}
-use Rattle.pkcheck.specs.Knowledge.{argument_asked, Known, Knowledge, Policy, Asked, AskedPair}
-use Rattle.pkcheck.specs.Knowledge.{AskedUnknown, Progress, Refusal, WrongClass, OffList}
-use Rattle.pkcheck.specs.Knowledge.{TooLarge, wrong_receiver, permitted, unknown_pair}
-use Rattle.pkcheck.specs.Knowledge.{operands_asked, asked_of, known_given, is_past, within}
-use Rattle.pkcheck.specs.Knowledge.{left_over, move_learned, stop_learned, operate_learned, learn}
-use Rattle.pkcheck.specs.Knowledge.{advance}
+use Rattle.pkcheck.specs.Knowledge.{argument_asked, Known, Knowledge, Policy, Progress, Refusal}
+use Rattle.pkcheck.specs.Knowledge.{WrongClass, OffList, TooLarge, wrong_receiver, permitted}
+use Rattle.pkcheck.specs.Knowledge.{unknown_pair, operands_asked, asked_of, known_given, is_past}
+use Rattle.pkcheck.specs.Knowledge.{within, left_over, move_learned, stop_learned, operate_learned}
+use Rattle.pkcheck.specs.Knowledge.{learn, advance}
+use Rattle.pkimport.specs.Import.{Asked, AskedPair, AskedUnknown}
 use Rattle.pkops.specs.Limits.{Bounds}
 use Rattle.pkcheck.specs.Covers.{Pointwise, AlikeEntry, AlikeCell, Alike, imports_of, IsAsked, Adds}
 use Rattle.pkcheck.proofs.Coverage.CoversBy.{TrueBy, CoversBy, Choose, AnswerHolds, OutcomeHolds}

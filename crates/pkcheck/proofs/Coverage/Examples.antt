@@ -10,9 +10,9 @@ use Rattle.pkops.specs.declared.Op.TheVariants as op
 use Rattle.pkops.specs.Spelling.{Instruction, Nothing, Number, Pair, Counted, instruction}
 use Rattle.pkops.specs.Limits.{standard}
 use Rattle.pkcheck.specs.Shape.{NoItem, NoMemo, Odd}
-use Rattle.pkcheck.specs.Knowledge.{Policy, Asked, AskedPair, AskedUnknown, Lacks, WrongClass}
-use Rattle.pkcheck.specs.Knowledge.{NotText, UnknownImport, OffList, LeftOver, NotAscii, TooLarge}
-use Rattle.pkcheck.specs.Knowledge.{nothing_known}
+use Rattle.pkcheck.specs.Knowledge.{Policy, Lacks, WrongClass, NotText, UnknownImport, OffList}
+use Rattle.pkcheck.specs.Knowledge.{LeftOver, NotAscii, TooLarge, nothing_known}
+use Rattle.pkimport.specs.Import.{Asked, AskedPair, AskedUnknown}
 use Rattle.pkcheck.proofs.Coverage.Verdicts.{Verdict, Yes, No, verdict}
 
 abbrev pub bare : Op → Instruction

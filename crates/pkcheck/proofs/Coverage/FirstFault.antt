@@ -9,9 +9,10 @@ use Rattle.pkops.specs.declared.Reason.TheVariants as reason
 use Rattle.pkcheck.specs.Effects.{effect_as, number_stored}
 use Rattle.pkcheck.specs.Shape.{NoMark, NoItem, NoMemo, Odd, Extension, and_then}
 use Rattle.pkcheck.specs.Runs.{Raise, step_as}
-use Rattle.pkcheck.specs.Knowledge.{Knowledge, Policy, AskedUnknown, Progress, Refusal, Lacks}
-use Rattle.pkcheck.specs.Knowledge.{WrongClass, NotText, UnknownImport, OffList, LeftOver, NotAscii}
-use Rattle.pkcheck.specs.Knowledge.{TooLarge, reason_of, learn, within, advance}
+use Rattle.pkcheck.specs.Knowledge.{Knowledge, Policy, Progress, Refusal, Lacks, WrongClass}
+use Rattle.pkcheck.specs.Knowledge.{NotText, UnknownImport, OffList, LeftOver, NotAscii, TooLarge}
+use Rattle.pkcheck.specs.Knowledge.{reason_of, learn, within, advance}
+use Rattle.pkimport.specs.Import.{AskedUnknown}
 use Rattle.pkcheck.specs.Faults.{Arrivals, everyone, IsOff, AsksOtherThan, AsksForTwo, AsksOffList}
 use Rattle.pkcheck.specs.Faults.{HasFaultHere, rank, IsPairOf, IsFirstFault, HasNoFault}
 use Rattle.pkcheck.specs.View.{off_pair}

@@ -19,12 +19,12 @@ use Rattle.pkcheck.specs.Runs.{Foreign, Object, State, Outcome, Go, Stepped, Wen
 use Rattle.pkcheck.specs.Runs.{Stopped, Stuck, Named, NoImport, Pair, NotTexts, class_at}
 use Rattle.pkcheck.specs.Runs.{texts_named, of_two, named, asks, come_of, operated, move_step}
 use Rattle.pkcheck.specs.Runs.{stop_step, operate_step, perform}
-use Rattle.pkcheck.specs.Knowledge.{argument_asked, Known, Knowledge, Policy, Asked, AskedPair}
-use Rattle.pkcheck.specs.Knowledge.{AskedUnknown, Progress, Refusal, Lacks, WrongClass, NotText}
-use Rattle.pkcheck.specs.Knowledge.{UnknownImport, OffList, LeftOver, NotAscii, TooLarge}
-use Rattle.pkcheck.specs.Knowledge.{wrong_receiver, permitted, unknown_pair, text_fault}
-use Rattle.pkcheck.specs.Knowledge.{operands_asked, asked_of, left_over, move_learned}
+use Rattle.pkcheck.specs.Knowledge.{argument_asked, Known, Knowledge, Policy, Progress, Refusal}
+use Rattle.pkcheck.specs.Knowledge.{Lacks, WrongClass, NotText, UnknownImport, OffList, LeftOver}
+use Rattle.pkcheck.specs.Knowledge.{NotAscii, TooLarge, wrong_receiver, permitted, unknown_pair}
+use Rattle.pkcheck.specs.Knowledge.{text_fault, operands_asked, asked_of, left_over, move_learned}
 use Rattle.pkcheck.specs.Knowledge.{stop_learned, operate_learned, learn}
+use Rattle.pkimport.specs.Import.{Asked, AskedPair, AskedUnknown}
 use Rattle.pkcheck.specs.Covers.{Pointwise, Alike}
 use Rattle.pkcheck.proofs.Coverage.CoversBy.{TrueBy, CoversBy, Choose, OutcomeHolds, IsAnswer}
 use Rattle.pkcheck.specs.Faults.{AsksFor}

@@ -18,12 +18,13 @@ use Rattle.pkcheck.specs.Runs.{argument_named, Text, Plain, Foreign, Object, Imp
 use Rattle.pkcheck.specs.Runs.{Outcome, Raise, Go, Stepped, WentOn, Raised, Stopped, Stuck, Named}
 use Rattle.pkcheck.specs.Runs.{Pair, class_at, texts_named, named, asks, come_of, operated}
 use Rattle.pkcheck.specs.Runs.{move_step, stop_step, operate_step, perform, step_as}
-use Rattle.pkcheck.specs.Knowledge.{argument_asked, Known, Knowledge, Policy, Asked, AskedPair}
-use Rattle.pkcheck.specs.Knowledge.{Progress, Refusal, Lacks, WrongClass, NotText, UnknownImport}
-use Rattle.pkcheck.specs.Knowledge.{OffList, LeftOver, NotAscii, TooLarge, suits, wrong_first}
-use Rattle.pkcheck.specs.Knowledge.{wrong_receiver, permitted, unknown_pair, operands_asked}
-use Rattle.pkcheck.specs.Knowledge.{asked_of, is_past, within, left_over, move_learned}
-use Rattle.pkcheck.specs.Knowledge.{stop_learned, operate_learned, learn, advance}
+use Rattle.pkcheck.specs.Knowledge.{argument_asked, Known, Knowledge, Policy, Progress, Refusal}
+use Rattle.pkcheck.specs.Knowledge.{Lacks, WrongClass, NotText, UnknownImport, OffList, LeftOver}
+use Rattle.pkcheck.specs.Knowledge.{NotAscii, TooLarge, suits, wrong_first, wrong_receiver}
+use Rattle.pkcheck.specs.Knowledge.{permitted, unknown_pair, operands_asked, asked_of, is_past}
+use Rattle.pkcheck.specs.Knowledge.{within, left_over, move_learned, stop_learned, operate_learned}
+use Rattle.pkcheck.specs.Knowledge.{learn, advance}
+use Rattle.pkimport.specs.Import.{Asked, AskedPair}
 use Rattle.pkops.specs.Limits.{Bounds}
 use Rattle.pkcheck.specs.Covers.{Pointwise, AlikeEntry, AlikeCell, Alike, Adds}
 use Rattle.pkcheck.proofs.Coverage.CoversBy.{TrueBy, CoversBy, OutcomeHolds, FollowsBy, FollowsIfOk}

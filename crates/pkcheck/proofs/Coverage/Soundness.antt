@@ -10,10 +10,11 @@ use Rattle.pkcheck.specs.Shape.{top, Breach, Entry, Taken, and_then, unless, ope
 use Rattle.pkops.specs.Spelling.{Instruction}
 use Rattle.pkcheck.specs.Runs.{Text, Plain, Foreign, Event, Import, Did, State, Outcome, Stepped}
 use Rattle.pkcheck.specs.Runs.{WentOn, Raised, Stopped, Stuck, step_as}
-use Rattle.pkcheck.specs.Knowledge.{argument_asked, Known, Knowledge, Asked, AskedPair}
-use Rattle.pkcheck.specs.Knowledge.{AskedUnknown, Progress, Refusal, WrongClass, OffList, TooLarge}
-use Rattle.pkcheck.specs.Knowledge.{lacking, permitted, operands_asked, asked_of, is_past, within}
-use Rattle.pkcheck.specs.Knowledge.{left_over, move_learned, stop_learned, learn, advance}
+use Rattle.pkcheck.specs.Knowledge.{argument_asked, Known, Knowledge, Progress, Refusal, WrongClass}
+use Rattle.pkcheck.specs.Knowledge.{OffList, TooLarge, lacking, permitted, operands_asked, asked_of}
+use Rattle.pkcheck.specs.Knowledge.{is_past, within, left_over, move_learned, stop_learned, learn}
+use Rattle.pkcheck.specs.Knowledge.{advance}
+use Rattle.pkimport.specs.Import.{Asked, AskedPair, AskedUnknown}
 use Rattle.pkops.specs.Limits.{Bounds}
 use Rattle.pkcheck.specs.Covers.{Pointwise, AlikeEntry, IsObject, imports_of, IsAsked, Adds}
 use Rattle.pkcheck.specs.Step.{IsPermitted}

@@ -3,7 +3,8 @@ use Rattle.std.proofs.Common.{◌≡◌, ℕ, Bool, true, false, List, [], ◌�
 use Rattle.std.proofs.Common.{inl, inr, sym, ap, subst, ◌∙◌}
 use Rattle.std.proofs.lemmas.List.{append_cancel_left}
 use Rattle.pkcheck.specs.Runs.{Event, State, Stepped, WentOn, Raised, Stopped, Stuck}
-use Rattle.pkcheck.specs.Knowledge.{Asked, AskedPair, AskedUnknown, Progress}
+use Rattle.pkcheck.specs.Knowledge.{Progress}
+use Rattle.pkimport.specs.Import.{Asked, AskedPair, AskedUnknown}
 use Rattle.pkcheck.specs.Covers.{IsObject, imports_of, IsAsked, Adds}
 use Rattle.pkcheck.proofs.Coverage.CoversBy.{FollowsBy}
 use Rattle.pkcheck.specs.Faults.{AsksFor}

@@ -4,7 +4,8 @@ use Rattle.std.specs.Prelude.{◌≢◌, ℕ, suc, List, [], ◌∷◌, Option, 
 use Rattle.pkops.specs.Spelling.{Instruction}
 use Rattle.pkops.specs.Limits.{Bounds}
 use Rattle.pkops.specs.declared.Op.TheVariants as op
-use Rattle.pkcheck.specs.Knowledge.{Knowledge, Policy, Asked, Progress, Refusal, advance}
+use Rattle.pkcheck.specs.Knowledge.{Knowledge, Policy, Progress, Refusal, advance}
+use Rattle.pkimport.specs.Import.{Asked}
 
 -- the knowledge at the end with the imports, one entry for each instruction; or the number of the
 -- refused instruction and the reason

@@ -12,13 +12,13 @@ use Rattle.pkcheck.specs.declared.machine.stepping.Moved.{Moved}
 use Rattle.pkcheck.specs.Effects.{effect_as}
 use Rattle.pkcheck.specs.Runs.{step_as}
 use Rattle.pkcheck.specs.Shape.{NoMark, NoItem, NoMemo, Odd, Extension}
-use Rattle.pkcheck.specs.Knowledge.{Policy, Asked, AskedUnknown, Progress, Refusal, Lacks}
-use Rattle.pkcheck.specs.Knowledge.{WrongClass, NotText, UnknownImport, OffList, LeftOver, NotAscii}
-use Rattle.pkcheck.specs.Knowledge.{TooLarge, Knowledge, advance, reason_of}
+use Rattle.pkcheck.specs.Knowledge.{Policy, Progress, Refusal, Lacks, WrongClass, NotText}
+use Rattle.pkcheck.specs.Knowledge.{UnknownImport, OffList, LeftOver, NotAscii, TooLarge, Knowledge}
+use Rattle.pkcheck.specs.Knowledge.{advance, reason_of}
+use Rattle.pkimport.specs.Import.{Asked, AskedUnknown, asks_more}
 use Rattle.pkcheck.specs.Covers.{IsObject}
 use Rattle.pkcheck.proofs.Coverage.CoversBy.{FollowsIfOk, any_answer, objects_grow}
 use Rattle.pkcheck.specs.Faults.{IsFirstFault}
-use Rattle.pkcheck.specs.Import.{asks_more}
 use Rattle.pkcheck.specs.Private.StepErrors.{IsRefusedFor, IsWantOfMemory, MayWantMemory}
 use Rattle.pkcheck.specs.View.{View}
 use Rattle.pkcheck.specs.Step.{CoveredBy, AppendsPermitted, FailsStep, GoesOn, IsNoFalseAlarm}

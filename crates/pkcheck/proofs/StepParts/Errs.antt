@@ -25,10 +25,6 @@ pub on_both : {A E : Type 0} (R P : Type 0) (Q : E → Type 0) (x : Result A E) 
 on_both R P Q (Ok a) f g h k = f h
 on_both R P Q (Err e) f g h k = g e k
 
-pub on_each : {A E R P Q : Type 0} (x : Result A E) → (P → R) → (Q → R) → OnOk x P → OnErr x Q → R
-on_each (Ok a) f g h k = f h
-on_each (Err e) f g h k = g k
-
 pub on_err : {A E : Type 0} (P : E → Type 0) (Q : Type 0) (x : Result A E) → ((r : E) → P r → Q)
     → IfErr x P → OnErr x Q
 on_err P Q (Ok a) f h = h

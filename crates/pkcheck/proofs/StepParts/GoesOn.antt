@@ -8,8 +8,9 @@ use Rattle.pkcheck.specs.declared.machine.operate.StepError.{StepError}
 use Rattle.pkcheck.specs.Effects.{Effect, Operates, Moves, Stops, Raises, effect_as, number_stored}
 use Rattle.pkcheck.specs.Shape.{top, Entry, and_then, moved}
 use Rattle.pkops.specs.Spelling.{Instruction}
-use Rattle.pkcheck.specs.Knowledge.{Asked, Known, Knowledge, Policy, Lacks, LeftOver, TooLarge}
-use Rattle.pkcheck.specs.Knowledge.{left_over, stop_learned, learn, within, advance}
+use Rattle.pkcheck.specs.Knowledge.{Known, Knowledge, Policy, Lacks, LeftOver, TooLarge, left_over}
+use Rattle.pkcheck.specs.Knowledge.{stop_learned, learn, within, advance}
+use Rattle.pkimport.specs.Import.{Asked}
 use Rattle.pkops.specs.Limits.{Bounds}
 use Rattle.pkops.specs.declared.Reason.{Reason}
 use Rattle.pkops.specs.declared.Reason.TheVariants as reason

@@ -15,16 +15,17 @@ use Rattle.pkcheck.specs.Effects.{Operates}
 use Rattle.pkcheck.specs.Shape.{put, Breach, Entry, Item, Taken, and_then, operands}
 use Rattle.pkops.specs.Spelling.{Instruction}
 use Rattle.pkcheck.specs.Runs.{Text, Plain, Foreign}
-use Rattle.pkcheck.specs.Knowledge.{argument_asked, Known, Knowledge, Policy, Asked, Refusal, Lacks}
+use Rattle.pkcheck.specs.Knowledge.{argument_asked, Known, Knowledge, Policy, Refusal, Lacks}
 use Rattle.pkcheck.specs.Knowledge.{Progress, TooLarge, known_given, learn, within, WrongClass}
 use Rattle.pkcheck.specs.Knowledge.{wrong_first, wrong_receiver, asked_of}
+use Rattle.pkimport.specs.Import.{Asked, asks_more}
 use Rattle.pkops.specs.Limits.{Bounds}
 use Rattle.pkops.specs.declared.Reason.{Reason}
 use Rattle.pkops.specs.declared.Reason.TheVariants as reason
 use Rattle.pkcheck.specs.Private.Slots.{StandsIf, known}
 use Rattle.pkcheck.specs.declared.machine.operate.StepError.{StepError}
-use Rattle.pkcheck.specs.declared.import.Named.{Named}
-use Rattle.pkcheck.specs.Private.Noted.{named_asked}
+use Rattle.pkimport.specs.declared.import.Named.{Named}
+use Rattle.pkimport.specs.Table.{named_asked}
 use Rattle.pkcheck.specs.declared.machine.value.Value.{Value}
 use Rattle.pkcheck.specs.declared.machine.value.Value.TheVariants.{Unknown, Made}
 use Rattle.pkcheck.specs.declared.machine.value.Value.TheVariants as value
@@ -33,7 +34,6 @@ use Rattle.std.specs.List.{slice_get}
 use Rattle.pkcheck.specs.Private.StepErrors.{ruled, judged, IsRefusedWith, IsForMemory, IsLack}
 use Rattle.pkcheck.specs.Private.StepErrors.{MayGive, MayName, MayOperate, Proceeds, WantsRoom}
 use Rattle.pkcheck.specs.Private.StepErrors.{HasFirst, WellGiven}
-use Rattle.pkcheck.specs.Import.{asks_more}
 use Rattle.pkcheck.proofs.StepParts.Past.{within_past}
 
 abbrev pub ruled_any : Policy → Option Asked → Result (Option Asked) Refusal

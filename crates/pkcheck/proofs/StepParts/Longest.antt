@@ -8,7 +8,7 @@ use Rattle.pkcheck.specs.declared.policy.Policy.TheVariants.{Listed, AnyImport}
 use Rattle.pklist.specs.Allow.{lists}
 use Rattle.pklist.specs.Bounded.{HasLongest, NamesAreBounded}
 use Rattle.pklist.specs.Pairs.{found, have}
-use Rattle.pkcheck.specs.Import.{permit_of}
+use Rattle.pkcheck.specs.Policies.{permit_of}
 use Rattle.std.proofs.lemmas.List.Elements.{All-replicate}
 use Rattle.std.proofs.lemmas.Str.{IsUtf8-from_ascii}
 use Rattle.std.proofs.lemmas.Str.Ascii.{IsAscii-from_all}

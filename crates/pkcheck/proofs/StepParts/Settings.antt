@@ -22,7 +22,8 @@ use Rattle.pkcheck.specs.declared.old_strings.OldStrings.TheVariants.{Unknown, A
 use Rattle.pkcheck.specs.Effects.{Effect, Operates, Moves, Stops, Raises, ascii_string, effect_as}
 use Rattle.pkcheck.specs.Effects.{effect_of, is_old_string, pushes}
 use Rattle.pkops.specs.Limits.{Bounds}
-use Rattle.pkcheck.specs.Knowledge.{Asked, Knowledge, Policy, Progress, advance}
+use Rattle.pkcheck.specs.Knowledge.{Knowledge, Policy, Progress, advance}
+use Rattle.pkimport.specs.Import.{Asked}
 use Rattle.pkcheck.specs.Memory.{WantsNoMemory}
 use Rattle.pkcheck.specs.Private.StepErrors.{MayWantMemory}
 use Rattle.pkcheck.specs.Texts.{makes_text, texts_then}

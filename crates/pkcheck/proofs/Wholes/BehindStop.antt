@@ -14,7 +14,8 @@ use Rattle.pkread.specs.Rows.{Sight, Takes, all_bytes}
 use Rattle.pkread.specs.Sequence.{CountsAt, IsSequence}
 use Rattle.pkread.specs.declared.Head.TheVariants as head
 use Rattle.pkcheck.specs.Heard.{refused_instruction}
-use Rattle.pkcheck.specs.Knowledge.{Asked, Knowledge, Policy, nothing_known}
+use Rattle.pkcheck.specs.Knowledge.{Knowledge, Policy, nothing_known}
+use Rattle.pkimport.specs.Import.{Asked}
 use Rattle.pkcheck.specs.Private.NextPickle.{IsRefusedBehind, listed_in, moved_apart, restarted}
 use Rattle.pkcheck.specs.ThreeEnds.{AcceptedAndTold, AreReportsOf}
 use Rattle.pkcheck.specs.Refused.{RefusedFrom}

@@ -19,10 +19,10 @@ use Rattle.pkread.specs.Sequence.{CountsAt, IsSequence, NoStop}
 use Rattle.pkread.specs.Rows.{Sight, Takes, Refuses as ReaderRefuses}
 use Rattle.pkcheck.specs.Accepted.{AcceptedFrom}
 use Rattle.std.specs.Prelude.{option_map}
-use Rattle.pkcheck.specs.Import.{asked_shown, asks_more}
+use Rattle.pkimport.specs.Import.{asked_shown, asks_more, Asked}
 use Rattle.pkcheck.specs.Private.Judgement.{IsNoAt, BothGoOn, BreaksFrame, IsRefusedByMachine}
 use Rattle.pkcheck.specs.Private.Judgement.{IsRefused}
-use Rattle.pkcheck.specs.Knowledge.{Policy, Asked, Refusal, reason_of, advance, nothing_known}
+use Rattle.pkcheck.specs.Knowledge.{Policy, Refusal, reason_of, advance, nothing_known}
 use Rattle.pkcheck.specs.Listing.{imports_among, ImportsAreListed, permitted_by}
 use Rattle.pkcheck.specs.Refused.{RefusedFrom, Why, reading, judging, growing, HasFirstFault}
 use Rattle.pkcheck.specs.RowRuns.{Afresh, Beginning, listed_before}

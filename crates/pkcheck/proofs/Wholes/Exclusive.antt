@@ -27,7 +27,8 @@ use Rattle.pkread.specs.Rows.{IsAmiss, IsBarred, ShowsReason, Sight, Takes, all_
 use Rattle.pkread.specs.Sequence.{IsSequence, spellings}
 use Rattle.pkread.specs.Sequences.{GoesOnBehind, OneFront, SequenceGoesOn}
 use Rattle.pkcheck.specs.declared.old_strings.OldStrings.{OldStrings}
-use Rattle.pkcheck.specs.Knowledge.{Policy, Asked}
+use Rattle.pkcheck.specs.Knowledge.{Policy}
+use Rattle.pkimport.specs.Import.{Asked}
 use Rattle.pkcheck.specs.Faults.{Arrivals, AsksOnce, HasFaultHere, InEachRun, everyone}
 use Rattle.pkcheck.specs.Refused.{RefusedFrom, Why, reading, judging, growing}
 use Rattle.pkcheck.specs.RunFaults.{HasRunFault, RunsFrom}

@@ -21,7 +21,8 @@ use Rattle.pkcheck.specs.declared.loading.Memo.TheVariants.{Fresh, Kept}
 use Rattle.pkcheck.specs.declared.old_strings.OldStrings.{OldStrings}
 use Rattle.pkcheck.specs.Exclusive.{YesOfRowExcludesNo}
 use Rattle.pkcheck.specs.Faults.{Arrivals, everyone}
-use Rattle.pkcheck.specs.Knowledge.{Asked, Policy}
+use Rattle.pkcheck.specs.Knowledge.{Policy}
+use Rattle.pkimport.specs.Import.{Asked}
 use Rattle.pkcheck.specs.Refused.{RefusedFrom, Why, growing, judging, reading}
 use Rattle.pkcheck.specs.RowOfPickles.{AreAccepted, HasMore, begins, bytes_of_all}
 use Rattle.pkcheck.specs.RowRuns.{Beginning, Pickle, run_row, sequences_of}

@@ -10,7 +10,8 @@ use Rattle.pkread.specs.Pieces.{FramesGoOn, piece_of}
 use Rattle.pkcheck.specs.Covers.{Asks, IsObject}
 use Rattle.pkcheck.proofs.Coverage.CoversBy.{FollowsBy, FollowsIfOk, any_answer, objects_grow}
 use Rattle.pkcheck.proofs.Coverage.Verdicts.{StopsLast}
-use Rattle.pkcheck.specs.Knowledge.{Knowledge, Policy, Asked, AskedUnknown, Progress, advance}
+use Rattle.pkcheck.specs.Knowledge.{Knowledge, Policy, Progress, advance}
+use Rattle.pkimport.specs.Import.{Asked, AskedUnknown}
 use Rattle.pkcheck.specs.Listing.{EachAsks, UnknownIsOpen}
 use Rattle.pkread.specs.Framing.{IsFramed, counted_all}
 use Rattle.pkcheck.specs.Faults.{Arrivals, HasFaultHere, everyone}

@@ -9,7 +9,8 @@ use Rattle.pkops.specs.declared.Refusal.{Refusal}
 use Rattle.pkread.specs.ReaderCalls.{ReaderState}
 use Rattle.pkread.specs.Rows.{Sight}
 use Rattle.pkcheck.specs.Covers.{Covers}
-use Rattle.pkcheck.specs.Knowledge.{Policy, Asked}
+use Rattle.pkcheck.specs.Knowledge.{Policy}
+use Rattle.pkimport.specs.Import.{Asked}
 use Rattle.pkread.specs.Run.{LentIsRead, TakingTwice}
 use Rattle.pkcheck.specs.Private.Judgement.{IsRefused, SessionView}
 use Rattle.pkcheck.specs.Private.Lent.{FailsLent, GoesAlong, HearsMore, RefusesLent, heard_along}

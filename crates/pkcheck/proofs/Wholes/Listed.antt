@@ -12,14 +12,13 @@ use Rattle.pkops.specs.Operands.{memo_number}
 use Rattle.pkcheck.specs.Runs.{State, Event, Outcome, Raise, Go, Stepped, WentOn, Raised, Stopped}
 use Rattle.pkcheck.specs.Runs.{Stuck, Named, NoImport, Pair, NotTexts, asks, come_of, operated}
 use Rattle.pkcheck.specs.Runs.{move_step, operate_step, perform, step_as, effect_asks}
-use Rattle.pkcheck.specs.Knowledge.{Knowledge, Policy, Asked, AskedPair, AskedUnknown, Progress}
-use Rattle.pkcheck.specs.Knowledge.{advance}
+use Rattle.pkcheck.specs.Knowledge.{Knowledge, Policy, Progress, advance}
+use Rattle.pkimport.specs.Import.{Asked, AskedPair, AskedUnknown, asks_more}
 use Rattle.pkops.specs.Limits.{Bounds}
 use Rattle.pkcheck.specs.Covers.{Pointwise, IsObject, imports_of, IsAsked, Adds}
 use Rattle.pkcheck.proofs.StepParts.Settings.{only_stop as never_stops}
 use Rattle.pkcheck.proofs.Coverage.CoversBy.{any_answer, CoversBy, FollowsBy, FollowsIfOk}
 use Rattle.pkcheck.proofs.Coverage.CoversBy.{objects_grow}
-use Rattle.pkcheck.specs.Import.{asks_more}
 use Rattle.pkcheck.specs.WholeRuns.{Ended, first_outcome, outcomes_after, go_on, run_as, EndsWell}
 use Rattle.pkcheck.specs.WholeRuns.{AllListed}
 use Rattle.pkcheck.proofs.Coverage.Verdicts.{Yes, verdict, IsYes}

@@ -13,9 +13,8 @@ use Rattle.pkread.specs.Admission.{IsAllowedBy}
 use Rattle.pkread.specs.Rows.{Sight}
 use Rattle.pkcheck.specs.Effects.{effect_as, number_stored}
 use Rattle.pkcheck.specs.Faults.{everyone}
-use Rattle.pkcheck.specs.Knowledge.{Asked, Knowledge}
-use Rattle.pkcheck.specs.Knowledge.{Policy, Progress}
-use Rattle.pkcheck.specs.Knowledge.{advance, learn, nothing_known}
+use Rattle.pkcheck.specs.Knowledge.{Knowledge, Policy, Progress, advance, learn, nothing_known}
+use Rattle.pkimport.specs.Import.{Asked}
 use Rattle.pkcheck.specs.Listing.{imports_among}
 use Rattle.pkcheck.specs.NewRuns.{AnswersNew, FaultlessIsRun, GetsPast, If, IfStopped, IfWentOn}
 use Rattle.pkcheck.specs.NewRuns.{InSomeNewRun, IsNew, Obeys, RowObeys}

@@ -15,7 +15,8 @@ use Rattle.pkread.specs.Sequence.{IsSequence}
 use Rattle.pkcheck.specs.Covers.{IsObject, Pointwise}
 use Rattle.pkcheck.specs.Covers.{imports_of as imported}
 use Rattle.pkcheck.specs.Effects.{Effect, Operates, Moves, Stops, Raises, effect_as, number_stored}
-use Rattle.pkcheck.specs.Knowledge.{Knowledge, Policy, Asked, Progress, advance, learn}
+use Rattle.pkcheck.specs.Knowledge.{Knowledge, Policy, Progress, advance, learn}
+use Rattle.pkimport.specs.Import.{Asked}
 use Rattle.pkcheck.specs.Listing.{StandsFor, ImportsAreListed, imports_among, permitted_by}
 use Rattle.pkcheck.specs.RowRuns.{Behind, Pickle, imports_of_all, next_from, run_row, sequences_of}
 use Rattle.pkcheck.specs.Runs.{CanCome, Object, Outcome, State, Text, Stepped, WentOn, Raised}

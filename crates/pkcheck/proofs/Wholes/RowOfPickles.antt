@@ -31,7 +31,8 @@ use Rattle.pkcheck.specs.declared.loading.Memo.{Memo}
 use Rattle.pkcheck.specs.declared.loading.Memo.TheVariants.{Fresh, Kept}
 use Rattle.pkcheck.specs.View.{View}
 use Rattle.pkcheck.specs.Accepted.{AcceptedFrom}
-use Rattle.pkcheck.specs.Knowledge.{Knowledge, Policy, Asked, nothing_known}
+use Rattle.pkcheck.specs.Knowledge.{Knowledge, Policy, nothing_known}
+use Rattle.pkimport.specs.Import.{Asked}
 use Rattle.pkcheck.specs.Listing.{imports_among}
 use Rattle.pkcheck.specs.Private.NextPickle.{IsRefusedBehind, listed_apart, listed_in, moved_apart}
 use Rattle.pkcheck.specs.Private.NextPickle.{restarted}

@@ -15,7 +15,8 @@ use Rattle.pkread.specs.Run.{ReadingGoesOn, RefusalIsRead, RefusalOfHeads, SoFar
 use Rattle.pkread.specs.Sequence.{IsSequence, NoStop, spellings}
 use Rattle.pkcheck.specs.Accepted.{AcceptedFrom}
 use Rattle.pkcheck.specs.Heard.{refused_instruction}
-use Rattle.pkcheck.specs.Knowledge.{Asked, Policy}
+use Rattle.pkcheck.specs.Knowledge.{Policy}
+use Rattle.pkimport.specs.Import.{Asked}
 use Rattle.pkcheck.specs.Listing.{imports_among}
 use Rattle.pkcheck.specs.ThreeEnds.{AcceptedAndTold, AreReportsOf, RefusedAndTold}
 use Rattle.pkcheck.specs.ThreeEnds.{StoppedAndTold, StoppedFrom}

@@ -9,9 +9,10 @@ use Rattle.pkops.specs.Payloads.{payload_limit}
 use Rattle.pkops.specs.Spelling.{Instruction}
 use Rattle.pkread.specs.Admission.{IsAllowedBy}
 use Rattle.pkcheck.specs.Faults.{Arrivals, HasFaultHere, everyone}
-use Rattle.pkcheck.specs.Knowledge.{Asked, Knowledge, Lacks, LeftOver, NotAscii, NotText, OffList}
-use Rattle.pkcheck.specs.Knowledge.{Policy, Progress, Refusal, TooLarge, UnknownImport, WrongClass}
-use Rattle.pkcheck.specs.Knowledge.{advance, reason_of}
+use Rattle.pkcheck.specs.Knowledge.{Knowledge, Lacks, LeftOver, NotAscii, NotText, OffList, Policy}
+use Rattle.pkcheck.specs.Knowledge.{Progress, Refusal, TooLarge, UnknownImport, WrongClass, advance}
+use Rattle.pkcheck.specs.Knowledge.{reason_of}
+use Rattle.pkimport.specs.Import.{Asked}
 use Rattle.pkcheck.specs.RowRuns.{Beginning}
 use Rattle.pkcheck.specs.RunFaults.{HasRunFault, IsFaultless, RunsFrom}
 use Rattle.pkcheck.specs.Shape.{Extension, NoItem, NoMark, NoMemo, Odd}

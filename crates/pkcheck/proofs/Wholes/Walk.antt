@@ -8,7 +8,8 @@ use Rattle.pkcheck.specs.Effects.{effect_as, number_stored}
 use Rattle.std.proofs.lemmas.List.Elements.{All-nil}
 use Rattle.pkops.specs.Spelling.{Instruction}
 use Rattle.pkcheck.specs.Runs.{CanCome, Text, State, Outcome, step_as, effect_asks}
-use Rattle.pkcheck.specs.Knowledge.{Knowledge, Policy, Asked, Progress, Refusal, learn, advance}
+use Rattle.pkcheck.specs.Knowledge.{Knowledge, Policy, Progress, Refusal, learn, advance}
+use Rattle.pkimport.specs.Import.{Asked}
 use Rattle.pkops.specs.Limits.{Bounds}
 use Rattle.pkcheck.specs.Covers.{IsObject}
 use Rattle.pkcheck.proofs.Coverage.CoversBy.{any_answer, CoversBy, FollowsBy, FollowsIfOk}

@@ -6,8 +6,8 @@ use Rattle.pkops.specs.declared.Reason.{Reason}
 use Rattle.pkops.specs.declared.Reason.TheVariants.{BrokenFrame}
 use Rattle.pkread.specs.Framing.{counted}
 use Rattle.pkread.specs.Pieces.{piece_of}
-use Rattle.pkcheck.specs.Import.{asked_shown}
-use Rattle.pkcheck.specs.Knowledge.{Asked, Policy}
+use Rattle.pkimport.specs.Import.{asked_shown, Asked}
+use Rattle.pkcheck.specs.Knowledge.{Policy}
 use Rattle.pkcheck.specs.Step.{FailsStep, GoesOn}
 use Rattle.pkcheck.specs.View.{View}
 use Rattle.pkcheck.specs.declared.checking.No.{No}

@@ -9,7 +9,8 @@ use Rattle.pkcheck.specs.Effects.{Effect}
 use Rattle.pkcheck.specs.Knowledge.{Known, Knowledge, Policy, learn}
 use Rattle.pkcheck.specs.Private.Steps.{IsStepFault}
 use Rattle.pkcheck.specs.Private.StepErrors.{Proceeds, pair_of_error}
-use Rattle.pkcheck.specs.Private.Noted.{Noted, Spells}
+use Rattle.pkimport.specs.Table.{Noted}
+use Rattle.pkcheck.specs.Private.Asking.{Spells}
 use Rattle.pkcheck.specs.Private.Slots.{Sees, seen}
 use Rattle.pkcheck.specs.Shape.{Entry}
 use Rattle.pkops.specs.Limits.{Bounds}

@@ -8,7 +8,8 @@ use Rattle.pkops.specs.Spelling.{Instruction}
 use Rattle.pkops.specs.Limits.{Bounds}
 use Rattle.pkops.specs.declared.Reason.{Reason}
 use Rattle.pkcheck.specs.Shape.{Entry}
-use Rattle.pkcheck.specs.Knowledge.{Asked, Known, Policy, learn}
+use Rattle.pkcheck.specs.Knowledge.{Known, Policy, learn}
+use Rattle.pkimport.specs.Import.{Asked}
 use Rattle.pkcheck.specs.Private.Steps.{IsStepFault}
 use Rattle.pkcheck.specs.Private.StepErrors.{Proceeds}
 use Rattle.pkcheck.specs.Private.Slots.{Sees, seen}

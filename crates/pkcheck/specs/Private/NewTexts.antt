@@ -3,7 +3,8 @@ use Rattle.std.specs.Prelude.{ℕ, ◌≡◌, ◌≤◌, ◌∷◌, IfErr, List,
 use Rattle.pkops.specs.declared.Reason.{Reason}
 use Rattle.pkcheck.specs.Private.StepErrors.{WantsRoom}
 use Rattle.pkcheck.specs.Private.NamedOperations.{AreSeen, StackAndTable}
-use Rattle.pkcheck.specs.Private.Slots.{HasMoreTexts, seen}
+use Rattle.pkcheck.specs.Private.Slots.{seen}
+use Rattle.pkimport.specs.Table.{HasMoreTexts}
 use Rattle.pkcheck.specs.Runs.{Text}
 use Rattle.pkcheck.specs.Shape.{Item}
 

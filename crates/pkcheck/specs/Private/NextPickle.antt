@@ -10,7 +10,7 @@ use Rattle.pkcheck.specs.declared.row_of_pickles.PickleRow.{PickleRow}
 use Rattle.pkcheck.specs.Private.Judgement.{SessionView}
 use Rattle.pkcheck.specs.declared.loading.Memo.{Memo}
 use Rattle.pkcheck.specs.declared.loading.Memo.TheVariants.{Fresh, Kept}
-use Rattle.pkcheck.specs.Knowledge.{Asked}
+use Rattle.pkimport.specs.Import.{Asked}
 use Rattle.pkcheck.specs.RowRuns.{Pickle, imports_of_all}
 use Rattle.pkcheck.specs.View.{View, fresh}
 

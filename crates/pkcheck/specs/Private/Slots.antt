@@ -10,7 +10,8 @@ use Rattle.pkcheck.specs.declared.effect.Takes.TheVariants.{Objects, Slice, Slic
 use Rattle.pkcheck.specs.Runs.{Text, Plain}
 use Rattle.pkcheck.specs.Shape.{Entry, Mark, Item, Shape, Taken}
 use Rattle.pkcheck.specs.Covers.{Pointwise, AlikeEntry, Alike}
-use Rattle.pkcheck.specs.Knowledge.{Asked, Known, Knowledge}
+use Rattle.pkcheck.specs.Knowledge.{Known, Knowledge}
+use Rattle.pkimport.specs.Import.{Asked}
 
 -- the entry that a slot means
 abbrev pub entry_of : Slot → Entry Value
@@ -112,8 +113,3 @@ pub record StateView : Type 0 where
   pub knowledge : Knowledge
   pub texts : ℕ
   pub imports : List Asked
-
--- the new table begins with the old one
-pub record HasMoreTexts (before after : List (List ℕ)) : Type 0 where
-  pub more : List (List ℕ)
-  pub is : after ≡ before ++ more

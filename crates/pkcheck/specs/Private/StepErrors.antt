@@ -19,10 +19,9 @@ use Rattle.pkops.specs.declared.Reason.TheVariants as reason
 use Rattle.pkcheck.specs.Shape.{Breach, Item, Shape}
 use Rattle.pkcheck.specs.Runs.{Plain}
 use Rattle.pkcheck.specs.declared.effect.Class.{Class}
-use Rattle.pkcheck.specs.Knowledge.{Policy, Asked, AskedPair, AskedUnknown, Known, Knowledge}
-use Rattle.pkcheck.specs.Knowledge.{Progress, Refusal, Lacks, WrongClass, reason_of, permitted}
-use Rattle.pkcheck.specs.Knowledge.{unknown_pair, wrong_receiver, asked_of}
-use Rattle.pkcheck.specs.Import.{asked_shown, asks_more}
+use Rattle.pkcheck.specs.Knowledge.{Policy, Known, Knowledge, Progress, Refusal, Lacks, WrongClass}
+use Rattle.pkcheck.specs.Knowledge.{reason_of, permitted, unknown_pair, wrong_receiver, asked_of}
+use Rattle.pkimport.specs.Import.{Asked, AskedPair, AskedUnknown, asked_shown, asks_more}
 use Rattle.pkcheck.specs.View.{off_pair, moved_as}
 
 -- the reason for something that is missing

@@ -4,7 +4,8 @@ use Rattle.pkcheck.specs.declared.machine.stepping.Moved.{Moved}
 use Rattle.pkcheck.specs.declared.machine.stepping.Moved.TheVariants.{On}
 use Rattle.pkcheck.specs.declared.machine.config.MachineConfig.{MachineConfig}
 use Rattle.pkcheck.specs.Effects.{Effect, effect_as, is_old_string, number_stored}
-use Rattle.pkcheck.specs.Knowledge.{Asked, Knowledge, Policy, Progress, Refusal, learn, within}
+use Rattle.pkcheck.specs.Knowledge.{Knowledge, Policy, Progress, Refusal, learn, within}
+use Rattle.pkimport.specs.Import.{Asked}
 use Rattle.pkcheck.specs.Private.StepErrors.{FitsLimits, GoesTo, IsRefusedFor, IsWantOfMemory}
 use Rattle.pkcheck.specs.Private.StepErrors.{MayWantMemory}
 use Rattle.pkcheck.specs.Private.Slots.{StateView}

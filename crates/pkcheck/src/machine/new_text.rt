@@ -11,10 +11,10 @@ ghost use Rattle.pkcheck.specs.Private.Spelled.{IsSpelled};
 ghost use Rattle.pkcheck.specs.Runs.{text};
 
 use crate::machine::config::MachineConfig;
-use crate::machine::import_table::ImportTable;
 use crate::machine::packed::PackedValue;
+use crate::machine::spelled_text::text_spelled;
 use crate::machine::stack::Stack;
-use crate::machine::texts::text_spelled;
+use pkimport::ImportTable;
 use pkops::laws::{plain_line_is_text, text_is_named};
 use pkops::{Arg, Inst, Limits, Op, Reason, is_ascii, spells_itself};
 

@@ -11,9 +11,9 @@ mod nameless;
 mod permitted;
 mod receiver;
 
-use crate::import::Asked;
 pub use named::{Spelled, operate_named};
 pub use nameless::operate_unnamed;
+use pkimport::Asked;
 use pkops::{Arg, Inst, Reason};
 
 /// Why a step is refused, and the pair if it is off the list. The pair is boxed, which keeps the

@@ -9,7 +9,7 @@ ghost use Rattle.pkcheck.specs.Private.StepErrors.{IsFaultOf, IsStopFault, Proce
 ghost use Rattle.pkcheck.specs.Private.StepErrors.{pair_of_error, with_item, with_made};
 ghost use Rattle.pkcheck.specs.Private.Spelled.{IsSpelled};
 ghost use Rattle.pkcheck.specs.Runs.{Text, text};
-ghost use Rattle.pkcheck.specs.Import.{permit_of};
+ghost use Rattle.pkcheck.specs.Policies.{permit_of};
 ghost use Rattle.pkcheck.specs.Knowledge.{learn, stop_learned, nothing_known};
 ghost use Rattle.pkcheck.specs.Knowledge.{Policy as Pairs};
 ghost use Rattle.pkops.specs.Spelling.{Instruction};
@@ -18,10 +18,7 @@ ghost use Rattle.pkops.specs.Inst.{instruction_of};
 ghost use Rattle.pkops.specs.Operands.{memo_number};
 
 use crate::effect::{Class, Move};
-use crate::import_list::ImportList;
-use crate::imports::Imports;
 use crate::machine::config::MachineConfig;
-use crate::machine::import_table::ImportTable;
 use crate::machine::memo::MemoTable;
 use crate::machine::moves::apply;
 use crate::machine::new_text::make_text;
@@ -29,6 +26,7 @@ use crate::machine::operate::{Spelled, StepError, lines_of, operate_named, opera
 use crate::machine::packed::PackedValue;
 use crate::machine::stack::Stack;
 use crate::policy::Permit;
+use pkimport::{ImportList, ImportTable, Imports};
 use pkops::{Inst, Limits, Op, Reason};
 use std::alloc::{AllocError, Global};
 use std::marker::Model;

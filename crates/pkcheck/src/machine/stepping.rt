@@ -9,11 +9,11 @@ ghost use Rattle.pkcheck.specs.Private.Steps.{IsOldString, IsStepFault, LeadsTo}
 ghost use Rattle.pkcheck.specs.Shape.{top};
 ghost use Rattle.pkcheck.specs.View.{texts_after};
 ghost use Rattle.pkops.specs.Inst.{instruction_of};
-ghost use Rattle.pkcheck.specs.Import.{asked_shown, permit_of};
+ghost use Rattle.pkcheck.specs.Policies.{permit_of};
+ghost use Rattle.pkimport.specs.Import.{asked_shown};
 ghost use Rattle.pkcheck.specs.Private.StepErrors.{FitsLimits, IsStopFault, pair_of_error};
 
 use crate::effect::Class;
-use crate::import::Asked;
 use crate::machine::config::MachineConfig;
 use crate::machine::effects::{Action, action_of};
 use crate::machine::old_text::is_ascii_string;
@@ -22,6 +22,7 @@ use crate::machine::state::MachineState;
 use crate::machine::value::int_or_bool;
 use crate::old_strings::OldStrings;
 use crate::policy::Permit;
+use pkimport::Asked;
 use pkops::{Inst, Reason};
 
 /// What an accepted step did.

@@ -14,7 +14,7 @@ use Rattle.pkops.specs.declared.Fault.{Fault}
 use Rattle.pkops.specs.declared.Reason.{Reason}
 use Rattle.pkread.specs.Rows.{Sight, in_memory}
 use Rattle.pkcheck.specs.declared.OldStrings.TheVariants.{Unknown}
-use Rattle.pkcheck.specs.Knowledge.{Asked}
+use Rattle.pkimport.specs.Import.{Asked}
 use Rattle.pkcheck.specs.Refused.{Refused}
 use Rattle.pkjson.specs.declared.error.ExportError.{ExportError}
 use Rattle.pkread.specs.Admission.{IsAllowed}

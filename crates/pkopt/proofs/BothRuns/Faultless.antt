@@ -20,7 +20,8 @@ use Rattle.pkcheck.specs.Effects.{Effect, Operates, effect_of}
 use Rattle.pkcheck.specs.Ends.{SameEnd}
 use Rattle.pkcheck.specs.Faults.{AsksAlways, AsksFor, AsksOnce, HasNonText, HasWrongReceiver}
 use Rattle.pkcheck.specs.Faults.{InEachRun, IsRaise, IsStuck, LeavesMore, RaisesThere, everyone}
-use Rattle.pkcheck.specs.Knowledge.{Policy, AskedPair}
+use Rattle.pkcheck.specs.Knowledge.{Policy}
+use Rattle.pkimport.specs.Import.{AskedPair}
 use Rattle.pkcheck.specs.RowRuns.{Afresh, Arrives}
 use Rattle.pkcheck.specs.RunFaults.{HasRunFault, RunsBehind}
 use Rattle.pkcheck.specs.Runs.{Event, State, Outcome, Raise, Stepped, WentOn, Raised, Stopped}

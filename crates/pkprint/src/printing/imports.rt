@@ -1,7 +1,7 @@
 //! The lines of the imports of a pickle.
 ghost use Rattle.std.specs.Prelude.{OnOk, flat_map};
 ghost use Rattle.std.specs.Io.KnownBytes.{Appends};
-ghost use Rattle.pkcheck.specs.Import.{import_shown};
+ghost use Rattle.pkimport.specs.Import.{import_shown};
 ghost use Rattle.pkprint.specs.Imports.{import_line, import_lines};
 
 use pkcheck::{Import, Imports, No, Quoted, Yes};

@@ -3,8 +3,9 @@ ghost use Rattle.std.specs.Prelude.{◌≡◌, ◌⊎◌, ◌≤◌, length, map
 ghost use Rattle.std.specs.Prelude.{IfSome, Ok};
 ghost use Rattle.pkcheck.specs.Private.NamedOperations.{AreSeen, HasImported};
 ghost use Rattle.pkcheck.specs.Private.Slots.{known};
-ghost use Rattle.pkcheck.specs.Import.{permit_of};
-ghost use Rattle.pkcheck.specs.Private.Noted.{AreNumbered, IsNamedIf, Spells, named_asked};
+ghost use Rattle.pkcheck.specs.Policies.{permit_of};
+ghost use Rattle.pkcheck.specs.Private.Asking.{AreNumbered, Spells};
+ghost use Rattle.pkimport.specs.Table.{IsNamedIf, named_asked};
 ghost use Rattle.pkcheck.specs.Private.StepErrors.{judged, IgnoresArgument, IsForMemory};
 ghost use Rattle.pkcheck.specs.Private.StepErrors.{IsRefusedWith, MayName, WellGiven};
 ghost use Rattle.pkcheck.specs.Private.Actions.{IsOperation, effect_in};
@@ -12,10 +13,9 @@ ghost use Rattle.pkcheck.specs.Effects.{effect_of};
 ghost use Rattle.pkops.specs.Contents.{IsGood};
 ghost use Rattle.pkops.specs.Spelling.{Instruction, Pair, instruction};
 
-use crate::import::{Named, asked_by};
+use crate::machine::asking::asked_by;
 use crate::machine::config::MachineConfig;
 use crate::machine::effects::{Operation, operation_of};
-use crate::machine::import_table::ImportTable;
 use crate::machine::operate::StepError;
 use crate::machine::operate::given::give;
 use crate::machine::operate::permitted::permit;
@@ -23,6 +23,7 @@ use crate::machine::operate::receiver::receiver_fault;
 use crate::machine::stack::{Operands, Stack};
 use crate::machine::value::value_of;
 use crate::policy::Permit;
+use pkimport::{ImportTable, Named};
 use pkops::{Arg, Inst, Op, Reason};
 use std::alloc::Global;
 

@@ -1,15 +1,15 @@
 //! Checks an import against the policy.
 ghost use Rattle.std.specs.Prelude.{◌≡◌, ◌⊎◌, IfOk, IfErr, OnOk, Some, Ok, Err, if◌then◌else◌};
 ghost use Rattle.std.specs.Prelude.{is_none};
-ghost use Rattle.pkcheck.specs.Import.{asked_shown, permit_of};
-ghost use Rattle.pkcheck.specs.Private.Noted.{named_asked};
-ghost use Rattle.pkcheck.specs.Knowledge.{AskedPair, OffList, permitted};
+ghost use Rattle.pkcheck.specs.Policies.{permit_of};
+ghost use Rattle.pkimport.specs.Import.{asked_shown, AskedPair};
+ghost use Rattle.pkimport.specs.Table.{named_asked};
+ghost use Rattle.pkcheck.specs.Knowledge.{OffList, permitted};
 ghost use Rattle.pkcheck.specs.Private.StepErrors.{ruled, IsRefusedWith, IsForMemory};
 
-use crate::import::{Asked, Named, pair_of};
-use crate::machine::import_table::ImportTable;
 use crate::machine::operate::StepError;
 use crate::policy::{Permit, Policy};
+use pkimport::{Asked, ImportTable, Named, pair_of};
 use pklist::pairs;
 use pkops::Reason;
 use std::alloc::Global;

@@ -1,5 +1,5 @@
 -- Each turn writes one more import behind those written.
-use Rattle.pkcheck.specs.Import.{import_shown}
+use Rattle.pkimport.specs.Import.{import_shown}
 use Rattle.pkguard.specs.Encoding.{encoded}
 use Rattle.pkguard.proofs.Pieces.{flat_map_next}
 use Rattle.pkguard.proofs.encoding.put_imports.Goals as goal

@@ -2,7 +2,8 @@
 use Rattle.std.proofs.Common.{◌∙◌, Some, ap, option_map, sym}
 use Rattle.pkops.specs.Inst.{instruction_of}
 use Rattle.pkcheck.specs.Knowledge.{Knowledge}
-use Rattle.pkcheck.specs.Import.{asked_shown, permit_of}
+use Rattle.pkcheck.specs.Policies.{permit_of}
+use Rattle.pkimport.specs.Import.{asked_shown}
 use Rattle.pkcheck.specs.View.{View}
 use Rattle.pkcheck.proofs.StepParts.Longest.{longest}
 use Rattle.pkcheck.proofs.StepParts.CoveredStep.{errs, fails, goes_on}

@@ -1,7 +1,8 @@
 -- A skipped payload makes bytes or a bytearray whatever it holds, so one step stands for all.
 use Rattle.std.proofs.Common.{◌≤◌, None, Some, option_map, length, ap, subst, sym, ◌∙◌}
 use Rattle.pkcheck.specs.Effects.{effect_of}
-use Rattle.pkcheck.specs.Import.{asked_shown, permit_of}
+use Rattle.pkcheck.specs.Policies.{permit_of}
+use Rattle.pkimport.specs.Import.{asked_shown}
 use Rattle.pkcheck.specs.Knowledge.{Knowledge}
 use Rattle.pkcheck.specs.declared.machine.stepping.Moved.TheVariants.{On}
 use Rattle.pkops.specs.Payloads.{is_passed}

@@ -4,7 +4,7 @@ use Rattle.std.proofs.lemmas.Result.{err_from_is_err_and}
 use Rattle.pkops.specs.Inst.{instruction_of}
 use Rattle.pkcheck.specs.declared.effect.Gives.TheVariants.{Makes, MakesIntOrBool, MakesText}
 use Rattle.pkcheck.specs.Effects.{Moves, effect_as, effect_of}
-use Rattle.pkcheck.specs.Import.{permit_of}
+use Rattle.pkcheck.specs.Policies.{permit_of}
 use Rattle.pkcheck.specs.Runs.{Plain, Text, int_or_bool, text}
 use Rattle.pkcheck.proofs.StepParts.GoesOn.{errs_by, move_errs, unnamed_goes}
 use Rattle.pkcheck.proofs.StepParts.PushedObjects.{not_pushed, of_action}

@@ -1,5 +1,5 @@
 -- Each turn appends the line of one more import.
-use Rattle.pkcheck.specs.Import.{import_shown}
+use Rattle.pkimport.specs.Import.{import_shown}
 use Rattle.pkprint.specs.Imports.{import_line}
 use Rattle.pkprint.specs.Appended.{appends_none, appends_then}
 use Rattle.pkprint.proofs.Lines.{flat_map_next}

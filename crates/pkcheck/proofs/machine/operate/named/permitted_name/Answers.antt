@@ -2,8 +2,8 @@
 use Rattle.std.proofs.Common.{◌∙◌, Some, inl, inr, length, map, refl, sym}
 use Rattle.std.proofs.lemmas.Result.{err_from_is_err_and}
 use Rattle.pkcheck.specs.Knowledge.{WrongClass, NotText}
-use Rattle.pkcheck.specs.Import.{permit_of}
-use Rattle.pkcheck.specs.Private.Noted.{named_asked}
+use Rattle.pkcheck.specs.Policies.{permit_of}
+use Rattle.pkimport.specs.Table.{named_asked}
 use Rattle.pkcheck.specs.Private.Slots.{known}
 use Rattle.pkcheck.proofs.StepParts.Judged.{judged_wrong, judged_err, judged_ok, may_name}
 use Rattle.pkcheck.proofs.machine.operate.named.permitted_name.Goals as goal

@@ -4,9 +4,9 @@ use Rattle.std.proofs.lemmas.Result.{err_from_is_err_and}
 use Rattle.pkops.specs.declared.Op.TheVariants as op
 use Rattle.pkops.specs.Spelling.{Nothing, instruction}
 use Rattle.pkcheck.specs.Private.Slots.{seen}
-use Rattle.pkcheck.specs.Import.{permit_of}
-use Rattle.pkcheck.specs.Private.Noted.{named_asked}
-use Rattle.pkcheck.proofs.NotedImports.{are_numbered, listed_before}
+use Rattle.pkcheck.specs.Policies.{permit_of}
+use Rattle.pkimport.specs.Table.{named_asked}
+use Rattle.pkcheck.proofs.AskedOperands.{are_numbered, listed_before}
 use Rattle.pkcheck.proofs.Places.{length_below}
 use Rattle.pkcheck.proofs.ResolvedEntries.{found_seen, found_is, found_lacks, put_seen, put_sees}
 use Rattle.pkcheck.proofs.ResolvedEntries.{length_seen, same_table}

@@ -1,7 +1,7 @@
 -- A policy that is a list permits no unknown pair.
 use Rattle.std.proofs.Common.{◌≡◌, Err, false, inl, refl, sym, ◌∙◌}
 use Rattle.std.specs.Prelude.{None, Some, is_none}
-use Rattle.pkcheck.specs.Import.{permit_of}
+use Rattle.pkcheck.specs.Policies.{permit_of}
 use Rattle.pkcheck.specs.Knowledge.{Policy, UnknownImport, unknown_pair}
 use Rattle.pkcheck.proofs.machine.operate.permitted.permit.Goals as goal
 

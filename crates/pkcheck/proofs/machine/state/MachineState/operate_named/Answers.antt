@@ -3,7 +3,7 @@ use Rattle.std.proofs.Common.{IfErr, IfOk, subst}
 use Rattle.pkcheck.specs.Effects.{effect_of}
 use Rattle.pkcheck.specs.Private.Steps.{IsStepFault}
 use Rattle.pkcheck.specs.Private.StepErrors.{Proceeds, pair_of_error}
-use Rattle.pkcheck.specs.Import.{permit_of}
+use Rattle.pkcheck.specs.Policies.{permit_of}
 use Rattle.pkcheck.specs.Knowledge.{learn}
 use Rattle.pkcheck.specs.Private.Slots.{remembered, resolved, seen}
 use Rattle.pkops.specs.Inst.{instruction_of}

@@ -1,0 +1,10 @@
+-- A pair that two operands name refers to texts of the table, because both operands do.
+use Rattle.std.proofs.Common.{subst}
+use Rattle.pkcheck.specs.Private.Asking.{AreNumbered}
+use Rattle.pkcheck.proofs.machine.asking.asked_by.Goals as goal
+
+pub returns-in_ok-operands_named-in-OfOperands-clause-within
+    : goal.returns-in_ok-operands_named-in-OfOperands-clause-within
+returns-in_ok-operands_named-in-OfOperands-clause-within c count h =
+    let n = subst (AreNumbered count) c.in-Some-pair.ensures h in
+    c.in_ok-operands_named-in-OfOperands.ensures.within count n.0 n.1.0

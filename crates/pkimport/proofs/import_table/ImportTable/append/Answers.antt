@@ -1,0 +1,40 @@
+-- Copied imports refer to written names only, so they can stand behind those already listed.
+use Rattle.std.proofs.Common.{◌++◌, ◌∙◌, ap, map}
+use Rattle.pkimport.specs.Private.Entries.{entry_asked}
+use Rattle.pkimport.proofs.Copies.{are_behind, asked_behind}
+use Rattle.pkimport.proofs.NotedImports.{are_grown, same_table}
+use Rattle.pkimport.proofs.import_table.ImportTable.append.Goals as goal
+
+pub invariant_of-self : goal.invariant_of-self
+invariant_of-self c = are_grown c.self.inside.texts c.self.inside.texts c.self.inside.written
+    c.copy_entries.new.written (same_table c.self.inside.texts) c.copy_entries.ensures.grows
+    c.self.inside.entries.items c.self.invariant
+
+pub invariant_of-self-in_err-append : goal.invariant_of-self-in_err-append
+invariant_of-self-in_err-append c = rw c.in_err-append.ensures.items
+    (are_grown c.self.inside.texts c.self.inside.texts c.self.inside.written
+    c.copy_entries.new.written (same_table c.self.inside.texts) c.copy_entries.ensures.grows
+    c.self.inside.entries.items c.self.invariant)
+
+pub invariant_of-self-2 : goal.invariant_of-self-2
+invariant_of-self-2 c = rw c.in_ok-append.ensures.items
+    (are_behind c.self.inside.texts c.self.inside.written c.copy_entries.new.written
+    c.self.inside.entries.items c.in_ok-entries.entries.items c.copy_entries.ensures.grows
+    c.self.invariant c.in_ok-entries.ensures.ok.0)
+
+pub returns : goal.returns
+returns c =
+    let behind = asked_behind c.self.inside.texts c.self.inside.written c.copy_entries.new.written
+    c.self.inside.entries.items c.in_ok-entries.entries.items c.copy_entries.ensures.grows
+    c.self.invariant c.in_ok-entries.ensures.ok.0 in
+    let others = c.in_ok-entries.ensures.ok.1 ∙ ap
+    (map (entry_asked c.other.inside.texts c.other.inside.written)) c.deref.ensures.value in
+    rw (← c.self.view_is, ← c.other.view_is, c.in_ok-append.ensures.items)
+    (λ i. record {
+      texts = c.self.inside.texts;
+      asked =
+          (behind
+          ∙ ap
+          (λ l. map (entry_asked c.self.inside.texts c.self.inside.written)
+          c.self.inside.entries.items ++ l) others) i;
+    })
