@@ -12,7 +12,7 @@ use Rattle.pkread.specs.Rows.{Sight, Takes}
 use Rattle.pkread.specs.Sequence.{CountsAt, NoStop, spellings}
 use Rattle.pkcheck.specs.Accepted.{AcceptedFrom}
 use Rattle.pkcheck.specs.Heard.{refused_instruction}
-use Rattle.pkimport.specs.Import.{asked_shown, Asked}
+use Rattle.pkimport.specs.Import.{Asked, asked_shown}
 use Rattle.pkcheck.specs.Knowledge.{Policy}
 use Rattle.pkcheck.specs.Reports.{AreReportsBehind, IsReportOf, Report}
 use Rattle.pkcheck.specs.RowOfPickles.{AcceptedRow, AreAccepted, RefusedInRow, begins, bytes_of_all}

@@ -9,7 +9,7 @@ use Rattle.pkcheck.specs.declared.old_strings.OldStrings.{OldStrings}
 use Rattle.pkcheck.specs.Accepted.{Accepted}
 use Rattle.pkcheck.specs.Covers.{Pointwise, imports_of}
 use Rattle.pkcheck.specs.Faults.{InEachRun}
-use Rattle.pkimport.specs.Import.{asked_shown, Asked}
+use Rattle.pkimport.specs.Import.{Asked, asked_shown}
 use Rattle.pkcheck.specs.Knowledge.{Policy}
 use Rattle.pkcheck.specs.Listing.{EachAsks, ImportsAreListed, StandsFor, UnknownIsOpen}
 use Rattle.pkcheck.specs.Listing.{imports_among}

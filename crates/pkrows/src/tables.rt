@@ -7,6 +7,7 @@ const MADE: Import<'_> = Import::Pair {
     module: "m",
     name: "f",
 };
+
 const WRITTEN: Import<'_> = Import::Pair {
     module: "n",
     name: "g",
@@ -40,7 +41,10 @@ fn filled<T: AllocGlobal>(rt: &T) -> Result<ImportTable, Fail> {
 fn a_table_lists_imports(rt: HostRuntime) -> Result<(), Fail> {
     let mut table = filled(&rt)?;
     assert_eq!(rt; (table.texts(), table.len()), (2, 4));
-    assert_eq!(rt; (table.text(0), table.text(1), table.text(2)), ("m", "f", ""));
+    assert_eq!(rt;
+        (table.text(0), table.text(1), table.text(2)),
+        ("m", "f", "")
+    );
     assert_eq!(rt; table.imports().get(0), Some(MADE));
     assert_eq!(rt; table.imports().get(1), Some(WRITTEN));
     assert_eq!(rt; table.imports().get(2), Some(Import::Unknown));

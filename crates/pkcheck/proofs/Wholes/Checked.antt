@@ -19,7 +19,7 @@ use Rattle.pkread.specs.Sequence.{CountsAt, IsSequence, NoStop}
 use Rattle.pkread.specs.Rows.{Sight, Takes, Refuses as ReaderRefuses}
 use Rattle.pkcheck.specs.Accepted.{AcceptedFrom}
 use Rattle.std.specs.Prelude.{option_map}
-use Rattle.pkimport.specs.Import.{asked_shown, asks_more, Asked}
+use Rattle.pkimport.specs.Import.{Asked, asked_shown, asks_more}
 use Rattle.pkcheck.specs.Private.Judgement.{IsNoAt, BothGoOn, BreaksFrame, IsRefusedByMachine}
 use Rattle.pkcheck.specs.Private.Judgement.{IsRefused}
 use Rattle.pkcheck.specs.Knowledge.{Policy, Refusal, reason_of, advance, nothing_known}

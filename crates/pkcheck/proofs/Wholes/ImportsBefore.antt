@@ -10,7 +10,7 @@ use Rattle.pkread.specs.Rows.{Sight}
 use Rattle.pkread.specs.Sequence.{NoStop}
 use Rattle.pkcheck.specs.Covers.{IsObject}
 use Rattle.pkcheck.specs.Effects.{effect_as}
-use Rattle.pkimport.specs.Import.{asks_more, Asked}
+use Rattle.pkimport.specs.Import.{Asked, asks_more}
 use Rattle.pkcheck.specs.Knowledge.{Knowledge, Policy, Progress, advance}
 use Rattle.pkcheck.specs.Listing.{ImportsAreListed, imports_among}
 use Rattle.pkcheck.specs.Private.Judgement.{IsRefused}

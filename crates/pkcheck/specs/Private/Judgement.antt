@@ -6,7 +6,7 @@ use Rattle.pkops.specs.declared.Reason.{Reason}
 use Rattle.pkops.specs.declared.Reason.TheVariants.{BrokenFrame}
 use Rattle.pkread.specs.Framing.{counted}
 use Rattle.pkread.specs.Pieces.{piece_of}
-use Rattle.pkimport.specs.Import.{asked_shown, Asked}
+use Rattle.pkimport.specs.Import.{Asked, asked_shown}
 use Rattle.pkcheck.specs.Knowledge.{Policy}
 use Rattle.pkcheck.specs.Step.{FailsStep, GoesOn}
 use Rattle.pkcheck.specs.View.{View}

@@ -1,5 +1,5 @@
 -- What the fields of the stack, the memo and the text table mean.
-use Rattle.std.specs.Prelude.{ℕ, suc, ◌<◌, List, [], ◌∷◌, ◌++◌, Option, Some, None, map}
+use Rattle.std.specs.Prelude.{ℕ, suc, ◌<◌, List, [], ◌∷◌, Option, Some, None, map}
 use Rattle.std.specs.Prelude.{◌≡◌, length, ⊤, drop, get_or, take}
 use Rattle.pkcheck.specs.declared.machine.value.Value.{Value}
 use Rattle.pkcheck.specs.declared.machine.value.Value.TheVariants as value

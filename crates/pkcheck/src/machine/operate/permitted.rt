@@ -2,7 +2,7 @@
 ghost use Rattle.std.specs.Prelude.{◌≡◌, ◌⊎◌, IfOk, IfErr, OnOk, Some, Ok, Err, if◌then◌else◌};
 ghost use Rattle.std.specs.Prelude.{is_none};
 ghost use Rattle.pkcheck.specs.Policies.{permit_of};
-ghost use Rattle.pkimport.specs.Import.{asked_shown, AskedPair};
+ghost use Rattle.pkimport.specs.Import.{AskedPair, asked_shown};
 ghost use Rattle.pkimport.specs.Table.{named_asked};
 ghost use Rattle.pkcheck.specs.Knowledge.{OffList, permitted};
 ghost use Rattle.pkcheck.specs.Private.StepErrors.{ruled, IsRefusedWith, IsForMemory};
