@@ -156,12 +156,13 @@ impl ImportTable {
     ///
     /// # Errors
     ///
-    /// An allocation was refused.
+    /// An allocation was refused. The table then lists what it listed.
     pub fn append(&mut self, alloc: Global, other: &ImportTable) -> Result<(), AllocError>
-        ensures { OnOk result (self.new ≡ record {
+        ensures ok { OnOk result (self.new ≡ record {
           texts = self.old.texts;
           asked = self.old.asked ++ other.now.asked;
         }) }
+        ensures err { OnErr result (self.new ≡ self.old) }
     {
         let mut entries = copy_entries(
             alloc,

@@ -2,7 +2,8 @@
 use Rattle.std.proofs.Common.{◌++◌, ◌∙◌, ap, map}
 use Rattle.pkimport.specs.Private.Entries.{entry_asked}
 use Rattle.pkimport.proofs.Copies.{are_behind, asked_behind}
-use Rattle.pkimport.proofs.NotedImports.{are_grown, same_table}
+use Rattle.pkimport.proofs.Errs.{on_err}
+use Rattle.pkimport.proofs.NotedImports.{are_grown, asked_grown, same_table}
 use Rattle.pkimport.proofs.import_table.ImportTable.append.Goals as goal
 
 pub invariant_of-self : goal.invariant_of-self
@@ -22,8 +23,25 @@ invariant_of-self-2 c = rw c.in_ok-append.ensures.items
     c.self.inside.entries.items c.in_ok-entries.entries.items c.copy_entries.ensures.grows
     c.self.invariant c.in_ok-entries.ensures.ok.0)
 
-pub returns : goal.returns
-returns c =
+pub returns-in_err-entries-clause-err : goal.returns-in_err-entries-clause-err
+returns-in_err-entries-clause-err c =
+    let same = asked_grown c.self.inside.texts c.self.inside.texts c.self.inside.written
+    c.copy_entries.new.written (same_table c.self.inside.texts) c.copy_entries.ensures.grows
+    c.self.inside.entries.items c.self.invariant in
+    on_err c.from_residual.result
+    (rw (← c.self.view_is) (λ i. record { texts = c.self.inside.texts; asked = same i }))
+
+pub returns-in_err-append-clause-err : goal.returns-in_err-append-clause-err
+returns-in_err-append-clause-err c =
+    let same = asked_grown c.self.inside.texts c.self.inside.texts c.self.inside.written
+    c.copy_entries.new.written (same_table c.self.inside.texts) c.copy_entries.ensures.grows
+    c.self.inside.entries.items c.self.invariant in
+    on_err c.from_residual-in_err-append.result
+    (rw (← c.self.view_is, c.in_err-append.ensures.items)
+    (λ i. record { texts = c.self.inside.texts; asked = same i }))
+
+pub returns-clause-ok : goal.returns-clause-ok
+returns-clause-ok c =
     let behind = asked_behind c.self.inside.texts c.self.inside.written c.copy_entries.new.written
     c.self.inside.entries.items c.in_ok-entries.entries.items c.copy_entries.ensures.grows
     c.self.invariant c.in_ok-entries.ensures.ok.0 in
