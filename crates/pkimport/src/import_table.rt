@@ -130,7 +130,8 @@ impl ImportTable {
         ImportList::new(&self.texts, &self.written, &self.entries)
     }
 
-    /// Lists an import, if there is one. Returns whether there was one.
+    /// Lists an import, if there is one. Returns whether there was one. Texts that are named by
+    /// their numbers must be in the table.
     ///
     /// # Errors
     ///
