@@ -3,15 +3,10 @@ pub mod Coverage
 pub mod StepParts
 pub mod Wholes
 -- the fields of the machine: the stack, the memo, the texts, the imports
-pub mod Shown
-pub mod Bars
 pub mod ResolvedEntries
 pub mod AskedOperands
-pub mod Topmost
 pub mod Numbered
 pub mod Places
-pub mod Limited
-pub mod Settled
 pub mod OpenMarks
 -- worked rows
 mod PrintedRows

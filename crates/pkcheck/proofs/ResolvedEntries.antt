@@ -7,12 +7,13 @@ use Rattle.std.proofs.Math.Seq.{get_or-append_seam}
 use Rattle.pkcheck.specs.declared.machine.value.Value.{Value}
 use Rattle.pkcheck.specs.declared.machine.value.Value.TheVariants.{Unknown, Made}
 use Rattle.pkcheck.specs.declared.machine.value.Value.TheVariants as value
-use Rattle.pkcheck.specs.declared.effect.Move.{Move}
-use Rattle.pkcheck.specs.declared.effect.Takes.{Takes}
-use Rattle.pkcheck.specs.Shape.{Breach, Entry, Mark, Item, Shape, Taken, operands, put, moved}
-use Rattle.pkcheck.specs.Shape.{marks_of, top}
+use Rattle.pkstack.specs.declared.Move.{Move}
+use Rattle.pkstack.specs.declared.Takes.{Takes}
+use Rattle.pkstack.specs.Shape.{Breach, Entry, Mark, Item, Shape, Taken, operands, put, moved}
+use Rattle.pkstack.specs.Shape.{marks_of, top}
 use Rattle.pkcheck.specs.Covers.{Pointwise, AlikeEntry, AlikeCell, Alike}
-use Rattle.pkcheck.specs.Private.StepErrors.{IsLack, IsFaultOf, with_item}
+use Rattle.pkcheck.specs.Private.StepErrors.{with_item}
+use Rattle.pkstack.specs.Faults.{IsLack, IsFaultOf}
 use Rattle.pkops.specs.Limits.{Bounds}
 use Rattle.pkops.specs.declared.Reason.{Reason}
 use Rattle.pkcheck.specs.Runs.{Text}

@@ -1,8 +1,6 @@
 -- The parts of a step of the machine.
 pub mod Errs
-pub mod Placed
 pub mod Past
-pub mod Moves
 pub mod Judged
 pub mod GoesOn
 pub mod Extensions

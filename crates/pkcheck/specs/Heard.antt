@@ -20,7 +20,7 @@ use Rattle.pkimport.specs.Import.{Asked}
 use Rattle.pkcheck.specs.Refused.{Why, reading, judging, growing}
 use Rattle.pkcheck.specs.RowRuns.{Afresh, Beginning}
 use Rattle.pkcheck.specs.RunFaults.{IsFaultless, RunsBehind}
-use Rattle.pkcheck.specs.Shape.{marks_of}
+use Rattle.pkstack.specs.Shape.{marks_of}
 use Rattle.pkcheck.specs.declared.checking.Yes.{Yes}
 use Rattle.pkcheck.specs.declared.checking.No.{No}
 

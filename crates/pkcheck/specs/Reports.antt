@@ -10,7 +10,7 @@ use Rattle.pkcheck.specs.declared.old_strings.OldStrings.{OldStrings}
 use Rattle.pkcheck.specs.Faults.{InEachRun}
 use Rattle.pkcheck.specs.RowRuns.{Beginning}
 use Rattle.pkcheck.specs.RunFaults.{RunsFrom}
-use Rattle.pkcheck.specs.Shape.{marks_of}
+use Rattle.pkstack.specs.Shape.{marks_of}
 
 -- an instruction as a listener is told of it: whole, or only its opcode and the number of its
 -- bytes, because its payload is skipped

@@ -1,5 +1,7 @@
 //! The parts of an opcode's effect, as in the specification.
 
+pub use pkstack::{Move, SliceRule, Takes};
+
 /// The classes of objects that opcodes make, except text.
 #[derive(Clone, Copy)]
 pub enum Class {
@@ -14,22 +16,6 @@ pub enum Class {
     Dict,
     Set,
     FrozenSet,
-}
-
-/// What a slice must contain.
-#[derive(Clone, Copy)]
-pub enum SliceRule {
-    AnySlice,
-    EvenSlice,
-    FullSlice,
-}
-
-/// What an operation takes from the stack.
-#[derive(Clone, Copy)]
-pub enum Takes {
-    Objects(u8),
-    Slice(SliceRule),
-    SliceAndReceiver(SliceRule),
 }
 
 /// Where the pair of an import comes from.
@@ -58,18 +44,4 @@ pub enum Gives {
     MayMake(Class),
     Answers,
     Leaves(Wanted),
-}
-
-/// An effect that looks at no object.
-#[derive(Clone, Copy)]
-pub enum Move {
-    PushesMark,
-    Pops,
-    PopsMark,
-    Duplicates,
-    Stores,
-    StoresNext,
-    Fetches,
-    Passes,
-    Extends,
 }

@@ -3,8 +3,6 @@
 mod asking;
 mod config;
 pub(crate) mod effects;
-mod memo;
-mod moves;
 mod new_text;
 mod old_text;
 mod operate;
@@ -21,7 +19,7 @@ ghost use Rattle.pkcheck.specs.declared.old_strings.OldStrings.TheVariants as Ol
 ghost use Rattle.pkops.specs.Inst.{instruction_of};
 ghost use Rattle.pkops.specs.Admitted.{is_admitted};
 ghost use Rattle.pkops.specs.Spelling.{Instruction};
-ghost use Rattle.pkcheck.specs.Shape.{marks_of};
+ghost use Rattle.pkstack.specs.Shape.{marks_of};
 ghost use Rattle.pkcheck.specs.Runs.{State, start};
 ghost use Rattle.pkcheck.specs.Covers.{Covers};
 ghost use Rattle.pkcheck.specs.Policies.{permit_of, policy_of};

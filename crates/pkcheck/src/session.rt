@@ -18,7 +18,7 @@ ghost use Rattle.pkcheck.specs.Private.Lent.{HearsRefused, HearsTurned};
 ghost use Rattle.pkcheck.specs.Private.NextPickle.{moved_apart, restarted};
 ghost use Rattle.pkcheck.specs.Private.Turns.{FailsNext, HearsNext, RefusesNext};
 ghost use Rattle.pkcheck.specs.Runs.{State};
-ghost use Rattle.pkcheck.specs.Shape.{marks_of};
+ghost use Rattle.pkstack.specs.Shape.{marks_of};
 ghost use Rattle.pkcheck.specs.View.{fresh};
 
 use crate::audience::{Audience, tell_lent};

@@ -5,8 +5,8 @@ use Rattle.std.proofs.Common.{length-drop, append_assoc, Result}
 use Rattle.std.proofs.Math.ListN.{set}
 use Rattle.std.proofs.Math.Seq.{take-suc, take-length}
 use Rattle.std.proofs.lemmas.List.{map-append}
-use Rattle.pkcheck.specs.Shape.{Breach, Entry, Shape, NoMark, NoItem, Taken, and_then, items, slice}
-use Rattle.pkcheck.specs.Shape.{top, popped}
+use Rattle.pkstack.specs.Shape.{Breach, Entry, Shape, NoMark, NoItem, Taken, and_then, items, slice}
+use Rattle.pkstack.specs.Shape.{top, popped}
 use Rattle.pkjson.specs.declared.objects.Object.{Object}
 use Rattle.pkjson.specs.declared.slots.Slot.{Slot}
 use Rattle.pkjson.specs.declared.slots.Slot.TheVariants as slot

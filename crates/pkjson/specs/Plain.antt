@@ -10,7 +10,7 @@ use Rattle.pkcheck.specs.declared.effect.Wanted.TheVariants.{WantsDict}
 use Rattle.pkcheck.specs.declared.effect.Gives.{Gives}
 use Rattle.pkcheck.specs.declared.effect.Gives.TheVariants.{Makes, MakesIntOrBool, MayMake, Leaves}
 use Rattle.pkcheck.specs.Effects.{Effect, Operates, effect_of}
-use Rattle.pkcheck.specs.Shape.{Breach, Entry, Taken, operands}
+use Rattle.pkstack.specs.Shape.{Breach, Entry, Taken, operands}
 use Rattle.pkcheck.specs.Runs.{ObjectClass, Text, Foreign, Object, State, Outcome, Go, Stepped}
 use Rattle.pkcheck.specs.Runs.{WentOn, step, class_at}
 use Rattle.pkcheck.specs.WholeRuns.{Ended, Reached, go_on}

@@ -3,7 +3,7 @@
 ghost use Rattle.std.specs.Prelude.{◌≡◌, length, drop, true, IfErr, OnOk, MatchOption};
 ghost use Rattle.std.specs.Prelude.{Ok, None};
 ghost use Rattle.pkops.specs.Inst.{instruction_of};
-ghost use Rattle.pkcheck.specs.Shape.{and_then, top};
+ghost use Rattle.pkstack.specs.Shape.{and_then, top};
 ghost use Rattle.pkjson.specs.Private.Arena.{no_object, are_text_kinds};
 ghost use Rattle.pkjson.specs.Private.PlainActions.{picked, found_above, made_of, filled_of, acted};
 ghost use Rattle.pkjson.specs.Private.PlainActions.{keys_acted};

@@ -1,7 +1,7 @@
 //! The memo: object numbers stored under memo numbers.
 
 ghost use Rattle.std.specs.Prelude.{◌≡◌, [], length, OnOk};
-ghost use Rattle.pkcheck.specs.Shape.{recalled, stored};
+ghost use Rattle.pkstack.specs.Shape.{recalled, stored};
 
 use std::alloc::{AllocError, Global};
 use std::collections::BTreeMap;

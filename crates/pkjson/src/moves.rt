@@ -1,7 +1,7 @@
 //! Actions that look at no object.
 
 ghost use Rattle.std.specs.Prelude.{◌≡◌, [], ◌∷◌, IfErr, OnOk, Ok};
-ghost use Rattle.pkcheck.specs.Shape.{moved};
+ghost use Rattle.pkstack.specs.Shape.{moved};
 ghost use Rattle.pkjson.specs.Private.PlainActions.{move_of};
 ghost use Rattle.pkjson.specs.Private.Halts.{IsWant};
 ghost use Rattle.pkjson.specs.Private.Seen.{seen_entry, seen_entries, shape_seen};

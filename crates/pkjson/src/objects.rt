@@ -2,7 +2,7 @@
 
 ghost use Rattle.std.specs.Prelude.{◌≡◌, ◌≤◌, ◌<◌, ◌+◌, [], ◌∷◌, ◌++◌, length, take, drop, IfOk};
 ghost use Rattle.std.specs.Prelude.{OnOk};
-ghost use Rattle.pkcheck.specs.Shape.{Item};
+ghost use Rattle.pkstack.specs.Shape.{Item};
 ghost use Rattle.pkjson.specs.Contents.{OfItems};
 ghost use Rattle.pkjson.specs.Private.Arena.{kept_by, received, more_given};
 ghost use Rattle.pkjson.specs.Private.Kinds.{kind_seen};

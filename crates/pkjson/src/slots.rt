@@ -2,7 +2,7 @@
 
 ghost use Rattle.std.specs.Prelude.{◌≡◌, [], ◌∷◌, ◌++◌, ◌<◌, drop, IfOk};
 ghost use Rattle.std.specs.Prelude.{MatchOption, Ok, OnOk};
-ghost use Rattle.pkcheck.specs.Shape.{items, slice, top};
+ghost use Rattle.pkstack.specs.Shape.{items, slice, top};
 ghost use Rattle.pkjson.specs.Private.PlainActions.{picked, found_above, IsLacking};
 ghost use Rattle.pkjson.specs.Private.Seen.{numbers_of, seen_entries, FindsPlace, FindsObject};
 

@@ -6,7 +6,7 @@ use Rattle.pkcheck.specs.Effects.{effect_as}
 use Rattle.pkcheck.specs.NewRuns.{If, InEachDecodedRun}
 use Rattle.pkcheck.specs.RowRuns.{Afresh, Beginning, Behind}
 use Rattle.pkcheck.specs.Runs.{Raised, Stepped, Stopped, Stuck, WentOn, effect_asks, start, step_as}
-use Rattle.pkcheck.specs.Shape.{and_then}
+use Rattle.pkstack.specs.Shape.{and_then}
 use Rattle.pkcheck.specs.WholeRuns.{Ended, EndedBy, Reached, run_as}
 use Rattle.pkcheck.specs.declared.old_strings.OldStrings.{OldStrings}
 use Rattle.pkload.proofs.AtLeast.{at_least}

@@ -4,17 +4,17 @@ use Rattle.std.proofs.Common.{length, Option, Some, None, Result, Ok, Err, refl,
 use Rattle.std.specs.Ordering.{nat_cmp, match_ordering, is_eq}
 use Rattle.std.specs.declared.cmp.Ordering.TheVariants.{Less, Equal, Greater}
 use Rattle.std.specs.BTreeMap.{insert_entry}
-use Rattle.pkcheck.specs.declared.effect.SliceRule.{SliceRule}
-use Rattle.pkcheck.specs.declared.effect.SliceRule.TheVariants.{AnySlice, EvenSlice, FullSlice}
-use Rattle.pkcheck.specs.declared.effect.Takes.{Takes}
-use Rattle.pkcheck.specs.declared.effect.Takes.TheVariants.{Objects, Slice, SliceAndReceiver}
-use Rattle.pkcheck.specs.declared.effect.Move.{Move}
-use Rattle.pkcheck.specs.declared.effect.Move.TheVariants.{PushesMark, Pops, PopsMark, Duplicates}
-use Rattle.pkcheck.specs.declared.effect.Move.TheVariants.{Stores, StoresNext, Fetches, Passes}
-use Rattle.pkcheck.specs.declared.effect.Move.TheVariants.{Extends}
-use Rattle.pkcheck.specs.Shape.{Breach, Odd, Entry, Mark, Item, Shape, Taken, and_then, unless}
-use Rattle.pkcheck.specs.Shape.{is_even, items, slice, breaks, operands, front, top, stored}
-use Rattle.pkcheck.specs.Shape.{recalled, fetched, popped, moved}
+use Rattle.pkstack.specs.declared.SliceRule.{SliceRule}
+use Rattle.pkstack.specs.declared.SliceRule.TheVariants.{AnySlice, EvenSlice, FullSlice}
+use Rattle.pkstack.specs.declared.Takes.{Takes}
+use Rattle.pkstack.specs.declared.Takes.TheVariants.{Objects, Slice, SliceAndReceiver}
+use Rattle.pkstack.specs.declared.Move.{Move}
+use Rattle.pkstack.specs.declared.Move.TheVariants.{PushesMark, Pops, PopsMark, Duplicates}
+use Rattle.pkstack.specs.declared.Move.TheVariants.{Stores, StoresNext, Fetches, Passes}
+use Rattle.pkstack.specs.declared.Move.TheVariants.{Extends}
+use Rattle.pkstack.specs.Shape.{Breach, Odd, Entry, Mark, Item, Shape, Taken, and_then, unless}
+use Rattle.pkstack.specs.Shape.{is_even, items, slice, breaks, operands, front, top, stored}
+use Rattle.pkstack.specs.Shape.{recalled, fetched, popped, moved}
 use Rattle.pkcheck.specs.Covers.{Pointwise, AlikeEntry, AlikeCell, Alike}
 
 abbrev pub SameResult : {X Y : Type 0} → (X → Y → Type 0) → Result X Breach → Result Y Breach

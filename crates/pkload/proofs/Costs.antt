@@ -24,7 +24,7 @@ use Rattle.pkcheck.specs.RowOfPickles.{begins, bytes_of_all}
 use Rattle.pkcheck.specs.RowRuns.{Afresh, Beginning, Behind, Pickle}
 use Rattle.pkcheck.specs.RunFaults.{IsFaultless}
 use Rattle.pkcheck.specs.Runs.{Raised, Stopped, Stuck, WentOn, start}
-use Rattle.pkcheck.specs.Shape.{Breach, and_then}
+use Rattle.pkstack.specs.Shape.{Breach, and_then}
 use Rattle.pkcheck.specs.ThreeEnds.{StoppedFrom}
 use Rattle.pkcheck.specs.WholeRuns.{Ended, EndedBy, Reached, run_as}
 use Rattle.pkcheck.specs.declared.loading.Loading.{Loading}

@@ -18,7 +18,7 @@ use Rattle.pkcheck.specs.Reports.{AreReportsBehind, Report}
 use Rattle.pkcheck.specs.RowOfPickles.{AreAccepted, begins, bytes_of_all}
 use Rattle.pkcheck.specs.RowRuns.{Afresh, Beginning, Behind, Pickle, sequences_of}
 use Rattle.pkcheck.specs.Runs.{Raised, Stopped, Stuck, WentOn, start}
-use Rattle.pkcheck.specs.Shape.{Breach, and_then}
+use Rattle.pkstack.specs.Shape.{Breach, and_then}
 use Rattle.pkcheck.specs.ThreeEnds.{AreReportsOf}
 use Rattle.pkcheck.specs.WholeRuns.{Ended, EndedBy, Reached, run_as}
 use Rattle.pkcheck.specs.declared.check_loop.Extent.TheVariants.{OnePickle, ToTheEnd}

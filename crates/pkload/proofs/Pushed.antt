@@ -2,7 +2,7 @@
 use Rattle.std.proofs.Common.{◌≡◌, ℕ, List, [], ◌∷◌, ◌++◌, length, subst}
 use Rattle.pkcheck.specs.Covers.{Alike, AlikeCell, AlikeEntry, Pointwise}
 use Rattle.pkcheck.specs.Runs.{Object}
-use Rattle.pkcheck.specs.Shape.{Entry, Item}
+use Rattle.pkstack.specs.Shape.{Entry, Item}
 use Rattle.pkload.proofs.Alike.{Alike-map}
 use Rattle.pkload.proofs.Readings.{Reading}
 use Rattle.pkload.specs.Heft.{Heft}

@@ -18,7 +18,7 @@ use Rattle.pkcheck.specs.Refused.{RefusedFrom}
 use Rattle.pkcheck.specs.Reports.{AreReportsBehind, Report}
 use Rattle.pkcheck.specs.RowOfPickles.{AreAccepted, begins, bytes_of_all}
 use Rattle.pkcheck.specs.RowRuns.{Beginning, Pickle, sequences_of}
-use Rattle.pkcheck.specs.Shape.{and_then}
+use Rattle.pkstack.specs.Shape.{and_then}
 use Rattle.pkcheck.specs.ThreeEnds.{AreReportsOf}
 use Rattle.pkcheck.specs.declared.loading.Loading.{Loading}
 use Rattle.pkcheck.specs.declared.loading.Memo.{Memo}

@@ -23,7 +23,7 @@ use Rattle.pkimport.specs.Import.{Asked}
 use Rattle.pkcheck.specs.Refused.{RefusedFrom}
 use Rattle.pkcheck.specs.RowOfPickles.{begins, bytes_of_all}
 use Rattle.pkcheck.specs.RowRuns.{Pickle, sequences_of}
-use Rattle.pkcheck.specs.Shape.{Breach, and_then}
+use Rattle.pkstack.specs.Shape.{Breach, and_then}
 use Rattle.pkcheck.specs.declared.loading.Loading.{Loading}
 use Rattle.pkcheck.specs.declared.loading.Memo.{Memo}
 use Rattle.pkcheck.specs.declared.loading.Memo.TheVariants.{Fresh, Kept}

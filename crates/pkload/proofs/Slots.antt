@@ -6,7 +6,7 @@ use Rattle.std.specs.Option.{IsSome, MatchOption, option_to_list}
 use Rattle.std.proofs.Math.Seq.{take-length, take-suc}
 use Rattle.std.proofs.lemmas.Bool.{eqb-true}
 use Rattle.std.proofs.lemmas.List.{get_or-set_same, length-set, take-set}
-use Rattle.pkcheck.specs.Shape.{Entry, Item, Mark}
+use Rattle.pkstack.specs.Shape.{Entry, Item, Mark}
 use Rattle.pkload.specs.Heft.{Heft}
 use Rattle.pkload.specs.Private.Packed.{unpacked}
 use Rattle.pkload.specs.Private.Shown.{entry_of, shown}

@@ -5,9 +5,9 @@ use Rattle.std.specs.Prelude.{⊤}
 use Rattle.pkops.specs.Operands.{memo_number}
 use Rattle.pkops.specs.Spelling.{Instruction}
 use Rattle.pkcheck.specs.Effects.{Effect, Operates, Moves, Stops, Raises, effect_of}
-use Rattle.pkcheck.specs.Shape.{Breach, NoItem, Entry, Shape, Taken, and_then, moved, operands, top}
+use Rattle.pkstack.specs.Shape.{Breach, NoItem, Entry, Shape, Taken, and_then, moved, operands, top}
 use Rattle.pkcheck.specs.declared.effect.Gives.{Gives}
-use Rattle.pkcheck.specs.declared.effect.Move.{Move}
+use Rattle.pkstack.specs.declared.Move.{Move}
 use Rattle.pkload.proofs.Accounts.{implies_across}
 use Rattle.pkload.proofs.Loading.{billed_more}
 use Rattle.pkload.proofs.Whole.{AtLeast, all_at_least}

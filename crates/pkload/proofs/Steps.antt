@@ -12,12 +12,12 @@ use Rattle.pkops.specs.Operands.{memo_number}
 use Rattle.pkops.specs.Spelling.{Instruction}
 use Rattle.pkcheck.specs.declared.effect.Names.{Names}
 use Rattle.pkcheck.specs.declared.effect.Gives.{Gives}
-use Rattle.pkcheck.specs.declared.effect.Move.{Move}
+use Rattle.pkstack.specs.declared.Move.{Move}
 use Rattle.pkcheck.specs.declared.effect.Gives.TheVariants.{Makes, MakesIntOrBool, MakesText}
 use Rattle.pkcheck.specs.declared.effect.Gives.TheVariants.{MayMake, Answers, Leaves}
 use Rattle.pkcheck.specs.declared.effect.Class.TheVariants as class
 use Rattle.pkcheck.specs.declared.effect.Names.TheVariants.{NoName}
-use Rattle.pkcheck.specs.declared.effect.Takes.TheVariants.{Objects}
+use Rattle.pkstack.specs.declared.Takes.TheVariants.{Objects}
 use Rattle.pkcheck.specs.declared.old_strings.OldStrings.{OldStrings}
 use Rattle.pkcheck.specs.declared.old_strings.OldStrings.TheVariants.{Unknown, Ascii, Bytes}
 use Rattle.pkcheck.specs.Covers.{Alike, AlikeEntry}
@@ -29,8 +29,8 @@ use Rattle.pkcheck.specs.Runs.{ObjectClass, Outcome, Pair, Raise, Raised, State,
 use Rattle.pkcheck.specs.Runs.{Stuck, WentOn, asks, class_at, come_of, effect_asks}
 use Rattle.pkcheck.specs.Runs.{gone_on, move_step, named, operate_step, operated, perform, step_as}
 use Rattle.pkcheck.specs.Runs.{stop_step, with_answer, with_event}
-use Rattle.pkcheck.specs.Shape.{Breach, NoItem, Entry, Item, Shape}
-use Rattle.pkcheck.specs.Shape.{Taken, front, moved, operands, put, top}
+use Rattle.pkstack.specs.Shape.{Breach, NoItem, Entry, Item, Shape}
+use Rattle.pkstack.specs.Shape.{Taken, front, moved, operands, put, top}
 use Rattle.pkload.proofs.Accounts.{along_end, next_is_new, nothing_counted, since_end}
 use Rattle.pkload.proofs.Alike.{Alike-map, AlikeTaken, AlikeTop, Pointwise-append, SameResult}
 use Rattle.pkload.proofs.Alike.{front_alike, moved_alike, operands_alike, top_alike}

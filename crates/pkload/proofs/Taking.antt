@@ -1,7 +1,7 @@
 -- How many objects are taken.
 use Rattle.std.proofs.Common.{◌≡◌, ℕ, zero, suc, ◌+◌, List, [], ◌∷◌, length, Result, Ok, Err}
 use Rattle.std.proofs.Common.{ap, arith, sym}
-use Rattle.pkcheck.specs.Shape.{Breach, Entry, Item, Mark, Taken, items}
+use Rattle.pkstack.specs.Shape.{Breach, Entry, Item, Mark, Taken, items}
 use Rattle.pkload.specs.Heft.{Heft}
 
 abbrev taken_in : Result (Taken Heft) Breach → Taken Heft

@@ -15,9 +15,9 @@ use Rattle.pkread.specs.Sequence.{NoStop}
 use Rattle.pkcheck.specs.Effects.{Effect, Operates, Moves, Stops, Raises, effect_of}
 use Rattle.pkcheck.specs.Reports.{AreReportsBehind, Report, told_of}
 use Rattle.pkcheck.specs.RowRuns.{Beginning}
-use Rattle.pkcheck.specs.Shape.{Breach, Entry, NoItem, Shape, Taken, and_then, moved, operands, top}
+use Rattle.pkstack.specs.Shape.{Breach, Entry, NoItem, Shape, Taken, and_then, moved, operands, top}
 use Rattle.pkcheck.specs.declared.effect.Gives.{Gives}
-use Rattle.pkcheck.specs.declared.effect.Move.{Move}
+use Rattle.pkstack.specs.declared.Move.{Move}
 use Rattle.pkcheck.specs.declared.loading.Memo.{Memo}
 use Rattle.pkcheck.specs.declared.old_strings.OldStrings.{OldStrings}
 use Rattle.pkops.specs.Operands.{memo_number}

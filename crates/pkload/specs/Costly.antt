@@ -13,7 +13,7 @@ use Rattle.pkcheck.specs.RowOfPickles.{AreAccepted, begins, bytes_of_all}
 use Rattle.pkcheck.specs.RowRuns.{Pickle}
 use Rattle.pkcheck.specs.RunFaults.{IsFaultless}
 use Rattle.pkcheck.specs.Runs.{Outcome, Raised, Stepped, Stopped, Stuck, WentOn, step_as}
-use Rattle.pkcheck.specs.Shape.{and_then}
+use Rattle.pkstack.specs.Shape.{and_then}
 use Rattle.pkcheck.specs.WholeRuns.{Ended, EndedBy, Reached}
 use Rattle.pkcheck.specs.declared.check_loop.Extent.{Extent}
 use Rattle.pkcheck.specs.declared.check_loop.Extent.TheVariants.{OnePickle}

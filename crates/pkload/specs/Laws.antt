@@ -18,7 +18,7 @@ use Rattle.pkcheck.specs.Covers.{Alike}
 use Rattle.pkcheck.specs.NewRuns.{InEachNewRun}
 use Rattle.pkcheck.specs.RowRuns.{Beginning}
 use Rattle.pkcheck.specs.Runs.{State, WentOn, Raised, Stopped, Stuck}
-use Rattle.pkcheck.specs.Shape.{and_then}
+use Rattle.pkstack.specs.Shape.{and_then}
 use Rattle.pkcheck.specs.WholeRuns.{Ended, Reached, EndedBy}
 use Rattle.pkload.specs.Bill.{Bill, all_billed, bill_before}
 use Rattle.pkload.specs.Heft.{Heft}

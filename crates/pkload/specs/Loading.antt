@@ -11,7 +11,7 @@ use Rattle.pkcheck.specs.NewRuns.{InEachNewRun}
 use Rattle.pkcheck.specs.RowOfPickles.{AcceptedRow, RefusedInRow, begins}
 use Rattle.pkcheck.specs.RowRuns.{Beginning, Pickle}
 use Rattle.pkcheck.specs.Runs.{Raised, Stopped, Stuck, WentOn}
-use Rattle.pkcheck.specs.Shape.{and_then}
+use Rattle.pkstack.specs.Shape.{and_then}
 use Rattle.pkcheck.specs.WholeRuns.{Ended, EndedBy, Reached}
 use Rattle.pkcheck.specs.WithImports.{RefusedWithImports}
 use Rattle.pkcheck.specs.declared.check_loop.Extent.{Extent}

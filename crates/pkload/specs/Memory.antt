@@ -8,9 +8,9 @@ use Rattle.pkops.specs.Escapes.{is_plain_ascii}
 use Rattle.pkops.specs.Spelling.{Argument, Line, Counted, Instruction}
 use Rattle.pkops.specs.declared.Op.{Op}
 use Rattle.pkops.specs.declared.Op.TheVariants as op
-use Rattle.pkcheck.specs.declared.effect.Move.{Move}
-use Rattle.pkcheck.specs.declared.effect.Move.TheVariants.{PushesMark, Stores, StoresNext}
-use Rattle.pkcheck.specs.Shape.{Shape}
+use Rattle.pkstack.specs.declared.Move.{Move}
+use Rattle.pkstack.specs.declared.Move.TheVariants.{PushesMark, Stores, StoresNext}
+use Rattle.pkstack.specs.Shape.{Shape}
 use Rattle.pkload.specs.Heft.{Heft, argument_size}
 
 -- the byte is the first of a character in UTF-8

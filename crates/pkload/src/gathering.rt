@@ -1,7 +1,7 @@
 //! Takes operands from the stack.
 
 ghost use Rattle.std.specs.Prelude.{◌≡◌, ◌≤◌, [], List, IfOk, OnOk, None, suc};
-ghost use Rattle.pkcheck.specs.Shape.{breaks, items, slice};
+ghost use Rattle.pkstack.specs.Shape.{breaks, items, slice};
 ghost use Rattle.pkload.specs.Heft.{Heft};
 ghost use Rattle.pkload.specs.Private.Billing.{HasOperands, HasReceiver, HasTaken};
 ghost use Rattle.pkload.specs.Private.Billing.{HasPairs, HasSlice};

@@ -4,7 +4,7 @@ ghost use Rattle.std.specs.Prelude.{◌≡◌, [], IfOk, Ok, OnOk, false};
 ghost use Rattle.pkops.specs.Inst.{instruction_of};
 ghost use Rattle.pkcheck.specs.Effects.{effect_of};
 ghost use Rattle.pkcheck.specs.Reports.{Skipped};
-ghost use Rattle.pkcheck.specs.Shape.{top};
+ghost use Rattle.pkstack.specs.Shape.{top};
 ghost use Rattle.pkload.specs.Bill.{billed, billed_by, no_bill, stop_billed};
 ghost use Rattle.pkload.specs.Heft.{heft_of};
 ghost use Rattle.pkload.specs.Memory.{operation_memory};

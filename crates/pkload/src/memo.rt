@@ -1,7 +1,7 @@
 //! The memo: what the objects stored under numbers cost.
 
 ghost use Rattle.std.specs.Prelude.{◌≡◌, length, IfOk, OnOk};
-ghost use Rattle.pkcheck.specs.Shape.{stored};
+ghost use Rattle.pkstack.specs.Shape.{stored};
 
 use crate::halt::Halt;
 use crate::packed::Packed;

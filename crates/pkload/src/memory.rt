@@ -3,7 +3,7 @@
 ghost use Rattle.std.specs.List.{filter, list_all};
 ghost use Rattle.std.specs.Prelude.{◌≡◌, ◌+◌, ◌*◌, ◌≤◌, IfOk, List, length, ltb};
 ghost use Rattle.pkops.specs.Inst.{instruction_of};
-ghost use Rattle.pkcheck.specs.Shape.{Entry};
+ghost use Rattle.pkstack.specs.Shape.{Entry};
 ghost use Rattle.pkload.specs.Heft.{Heft};
 ghost use Rattle.pkload.specs.Memory.{argument_bytes, begins_character, character_width};
 ghost use Rattle.pkload.specs.Memory.{held_memory, line_memory, move_memory, number_kept};

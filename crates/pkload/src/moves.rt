@@ -1,7 +1,7 @@
 //! Actions that look at no object.
 
 ghost use Rattle.std.specs.Prelude.{◌≡◌, OnOk, Ok};
-ghost use Rattle.pkcheck.specs.Shape.{moved};
+ghost use Rattle.pkstack.specs.Shape.{moved};
 
 use crate::gathering::take_slice;
 use crate::halt::Halt;

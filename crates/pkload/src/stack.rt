@@ -1,7 +1,7 @@
 //! The stack: marks, and what objects cost.
 
 ghost use Rattle.std.specs.Prelude.{◌≡◌, [], ◌∷◌, List, length, IfSome, MatchOption, OnOk};
-ghost use Rattle.pkcheck.specs.Shape.{Entry, Item, Mark};
+ghost use Rattle.pkstack.specs.Shape.{Entry, Item, Mark};
 ghost use Rattle.pkload.specs.Heft.{Heft};
 ghost use Rattle.pkload.specs.Private.Shown.{entry_of};
 
@@ -27,7 +27,7 @@ impl Drop for Stack {
 
 impl Model for Stack {
     ghost use Rattle.std.specs.Prelude.{List, []};
-    ghost use Rattle.pkcheck.specs.Shape.{Entry};
+    ghost use Rattle.pkstack.specs.Shape.{Entry};
     ghost use Rattle.pkload.specs.Heft.{Heft};
     ghost use Rattle.pkload.specs.Private.Shown.{shown};
 

@@ -3,7 +3,7 @@ use Rattle.std.specs.Prelude.{ℕ, zero, suc, Bool, false, cond, nat_eq, ◌||�
 use Rattle.std.specs.Prelude.{length, Option, None, Some}
 use Rattle.pkops.specs.Spelling.{Instruction}
 use Rattle.pkops.specs.Operands.{memo_number}
-use Rattle.pkcheck.specs.declared.effect.Move.TheVariants.{Stores, StoresNext, Fetches}
+use Rattle.pkstack.specs.declared.Move.TheVariants.{Stores, StoresNext, Fetches}
 use Rattle.pkcheck.specs.Effects.{Effect, Moves, effect_of}
 
 -- the numbers of the memo writes so far, the last first. A write is named by the number of writes

@@ -2,7 +2,7 @@
 
 ghost use Rattle.std.specs.Prelude.{◌≡◌, ◌<◌, ◌+◌, ◌^◌, [], IfNone, IfOk, IfSome, OnOk, Some};
 ghost use Rattle.std.specs.Prelude.{length, slice_index_or};
-ghost use Rattle.pkcheck.specs.Shape.{recalled, stored};
+ghost use Rattle.pkstack.specs.Shape.{recalled, stored};
 ghost use Rattle.pkopt.specs.Private.Memories.{Notes, first_writes, last_held, numbers_held};
 ghost use Rattle.pkopt.specs.Private.Memories.{row_of};
 ghost use Rattle.pkopt.specs.Private.Passes.{memo_use};

@@ -54,6 +54,8 @@ mod sources;
 #[cfg(test)]
 mod spellings;
 #[cfg(test)]
+mod stacked;
+#[cfg(test)]
 mod tables;
 #[cfg(test)]
 mod verdicts;

@@ -14,8 +14,8 @@ use Rattle.pkcheck.specs.declared.effect.Gives.{Gives}
 use Rattle.pkcheck.specs.declared.effect.Gives.TheVariants.{Makes, MakesIntOrBool, MakesText}
 use Rattle.pkcheck.specs.declared.effect.Gives.TheVariants.{MayMake, Answers, Leaves}
 use Rattle.pkcheck.specs.Effects.{Effect, Operates, Moves, Stops, Raises, effect_as, number_stored}
-use Rattle.pkcheck.specs.Shape.{top, put, Breach, Entry, Item, Mark, Shape, Taken, and_then, unless}
-use Rattle.pkcheck.specs.Shape.{front, moved}
+use Rattle.pkstack.specs.Shape.{top, put, Breach, Entry, Item, Mark, Shape, Taken, and_then, unless}
+use Rattle.pkstack.specs.Shape.{front, moved}
 use Rattle.pkops.specs.Spelling.{Instruction}
 use Rattle.pkcheck.specs.Runs.{argument_named, ObjectClass, Text, Plain, Foreign, Object, Event}
 use Rattle.pkcheck.specs.Runs.{Import, Did, State, Outcome, Raise, Go, Stepped, Stopped, Named}

@@ -4,7 +4,7 @@ use Rattle.std.proofs.Common.{◌≡◌, ℕ, Bool, true, false, ltb, List, [], 
 use Rattle.std.proofs.Common.{None, Result, Ok, Err, arith, length-append}
 use Rattle.std.specs.Prelude.{slice_get, ⊤}
 use Rattle.std.proofs.lemmas.Bool.{ltb-true}
-use Rattle.pkcheck.specs.Shape.{Item}
+use Rattle.pkstack.specs.Shape.{Item}
 use Rattle.pkcheck.specs.Runs.{ObjectClass, Object, State, Outcome, Raise, Go, Stepped, WentOn}
 use Rattle.pkcheck.specs.Runs.{Raised, Stopped, Stuck}
 use Rattle.pkcheck.specs.Knowledge.{Known, Knowledge, Progress, Refusal}

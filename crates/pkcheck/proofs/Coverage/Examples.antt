@@ -9,7 +9,7 @@ use Rattle.pkops.specs.declared.Op.{Op}
 use Rattle.pkops.specs.declared.Op.TheVariants as op
 use Rattle.pkops.specs.Spelling.{Instruction, Nothing, Number, Pair, Counted, instruction}
 use Rattle.pkops.specs.Limits.{standard}
-use Rattle.pkcheck.specs.Shape.{NoItem, NoMemo, Odd}
+use Rattle.pkstack.specs.Shape.{NoItem, NoMemo, Odd}
 use Rattle.pkcheck.specs.Knowledge.{Policy, Lacks, WrongClass, NotText, UnknownImport, OffList}
 use Rattle.pkcheck.specs.Knowledge.{LeftOver, NotAscii, TooLarge, nothing_known}
 use Rattle.pkimport.specs.Import.{Asked, AskedPair, AskedUnknown}

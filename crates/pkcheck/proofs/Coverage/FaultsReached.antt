@@ -7,7 +7,7 @@ use Rattle.pkops.specs.Spelling.{Instruction}
 use Rattle.pkops.specs.Limits.{Bounds}
 use Rattle.pkops.specs.declared.Reason.TheVariants as reason
 use Rattle.pkcheck.specs.Effects.{effect_as, number_stored}
-use Rattle.pkcheck.specs.Shape.{Breach, NoMark, NoItem, NoMemo, Odd, Extension, and_then}
+use Rattle.pkstack.specs.Shape.{Breach, NoMark, NoItem, NoMemo, Odd, Extension, and_then}
 use Rattle.pkcheck.specs.Runs.{Text, State, Outcome, Go, Raise, Stuck, step_as}
 use Rattle.pkcheck.specs.Knowledge.{Knowledge, Policy, Progress, Refusal, Lacks, WrongClass}
 use Rattle.pkcheck.specs.Knowledge.{NotText, UnknownImport, OffList, LeftOver, NotAscii, TooLarge}

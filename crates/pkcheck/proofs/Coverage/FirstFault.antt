@@ -7,7 +7,7 @@ use Rattle.pkops.specs.Limits.{Bounds}
 use Rattle.pkops.specs.declared.Reason.{Reason}
 use Rattle.pkops.specs.declared.Reason.TheVariants as reason
 use Rattle.pkcheck.specs.Effects.{effect_as, number_stored}
-use Rattle.pkcheck.specs.Shape.{NoMark, NoItem, NoMemo, Odd, Extension, and_then}
+use Rattle.pkstack.specs.Shape.{NoMark, NoItem, NoMemo, Odd, Extension, and_then}
 use Rattle.pkcheck.specs.Runs.{Raise, step_as}
 use Rattle.pkcheck.specs.Knowledge.{Knowledge, Policy, Progress, Refusal, Lacks, WrongClass}
 use Rattle.pkcheck.specs.Knowledge.{NotText, UnknownImport, OffList, LeftOver, NotAscii, TooLarge}

@@ -4,13 +4,13 @@ use Rattle.pkops.specs.Operands.{memo_number, pair_named}
 use Rattle.std.proofs.Common.{◌≡◌, ℕ, Bool, true, false, cond, List, [], ◌∷◌, ◌++◌, length, map}
 use Rattle.std.proofs.Common.{Option, Some, None, Result, Ok, Err, ◌⊎◌, inl, inr, refl, sym, ap}
 use Rattle.std.proofs.Common.{subst, ◌∙◌, arith, le-ltb}
-use Rattle.pkcheck.specs.declared.effect.Takes.{Takes}
+use Rattle.pkstack.specs.declared.Takes.{Takes}
 use Rattle.pkcheck.specs.declared.effect.Names.{Names}
 use Rattle.pkcheck.specs.declared.effect.Names.TheVariants.{NoName, OfArgument, OfOperands}
 use Rattle.pkcheck.specs.declared.effect.Gives.{Gives}
 use Rattle.pkcheck.specs.Effects.{Effect, Operates, Moves, Stops, Raises}
-use Rattle.pkcheck.specs.Shape.{top, Breach, Entry, Mark, Item, Shape, Taken, and_then, unless}
-use Rattle.pkcheck.specs.Shape.{operands, moved}
+use Rattle.pkstack.specs.Shape.{top, Breach, Entry, Mark, Item, Shape, Taken, and_then, unless}
+use Rattle.pkstack.specs.Shape.{operands, moved}
 use Rattle.std.specs.Str.{IsUtf8}
 use Rattle.std.proofs.lemmas.List.Elements.{All-append, All-cons, All-nil}
 use Rattle.pkops.specs.Spelling.{Instruction}

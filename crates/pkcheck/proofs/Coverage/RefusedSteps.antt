@@ -4,7 +4,7 @@ use Rattle.pkops.specs.Operands.{memo_number, pair_named}
 use Rattle.std.proofs.Common.{◌≡◌, ℕ, ◌<◌, Bool, true, false, not, cond, List, [], ◌∷◌, ◌++◌}
 use Rattle.std.proofs.Common.{length, map, Option, Some, None, Result, Ok, Err, inl, inr, refl, sym}
 use Rattle.std.proofs.Common.{ap, subst, ◌∙◌, append_assoc}
-use Rattle.pkcheck.specs.declared.effect.Takes.{Takes}
+use Rattle.pkstack.specs.declared.Takes.{Takes}
 use Rattle.pkcheck.specs.declared.effect.Names.{Names}
 use Rattle.pkcheck.specs.declared.effect.Names.TheVariants.{NoName, OfArgument, OfOperands}
 use Rattle.pkcheck.specs.declared.effect.Wanted.{Wanted}
@@ -12,7 +12,7 @@ use Rattle.pkcheck.specs.declared.effect.Gives.{Gives}
 use Rattle.pkcheck.specs.declared.effect.Gives.TheVariants.{Makes, MakesIntOrBool, MakesText}
 use Rattle.pkcheck.specs.declared.effect.Gives.TheVariants.{MayMake, Answers, Leaves}
 use Rattle.pkcheck.specs.Effects.{Effect, Operates, Moves, Stops, Raises, effect_as, number_stored}
-use Rattle.pkcheck.specs.Shape.{top, Breach, Entry, Shape, Taken, and_then, unless, operands, moved}
+use Rattle.pkstack.specs.Shape.{top, Breach, Entry, Shape, Taken, and_then, unless, operands, moved}
 use Rattle.pkops.specs.Spelling.{Instruction}
 use Rattle.pkcheck.specs.Runs.{argument_named, Text, Plain, Foreign, Object, Import, Did, State}
 use Rattle.pkcheck.specs.Runs.{Outcome, Raise, Go, Stepped, WentOn, Raised, Stopped, Stuck, Named}

@@ -6,7 +6,7 @@ use Rattle.std.proofs.lemmas.List.{append_cancel_left}
 use Rattle.std.proofs.lemmas.Option.{slice_get_within}
 use Rattle.pkops.specs.Spelling.{Instruction}
 use Rattle.pkops.specs.Limits.{Bounds}
-use Rattle.pkcheck.specs.declared.effect.Takes.{Takes}
+use Rattle.pkstack.specs.declared.Takes.{Takes}
 use Rattle.pkcheck.specs.declared.effect.Names.{Names}
 use Rattle.pkcheck.specs.declared.effect.Names.TheVariants.{NoName, OfArgument, OfOperands}
 use Rattle.pkcheck.specs.declared.effect.Wanted.{Wanted}
@@ -14,7 +14,7 @@ use Rattle.pkcheck.specs.declared.effect.Gives.{Gives}
 use Rattle.pkcheck.specs.declared.effect.Gives.TheVariants.{Makes, MakesIntOrBool, MakesText}
 use Rattle.pkcheck.specs.declared.effect.Gives.TheVariants.{MayMake, Answers, Leaves}
 use Rattle.pkcheck.specs.Effects.{Effect, Operates, Moves, Stops, Raises}
-use Rattle.pkcheck.specs.Shape.{Breach, NoMark, NoItem, NoMemo, Odd, Extension, Taken}
+use Rattle.pkstack.specs.Shape.{Breach, NoMark, NoItem, NoMemo, Odd, Extension, Taken}
 use Rattle.pkcheck.specs.Runs.{ObjectClass, Text, Plain, Foreign, Object, State, Outcome, Raise, Go}
 use Rattle.pkcheck.specs.Runs.{Stepped, WentOn, Raised, Stopped, Stuck, Named, NoImport, Pair}
 use Rattle.pkcheck.specs.Runs.{NotTexts, asks, come_of, operated, operate_step, perform}

@@ -6,7 +6,7 @@ use Rattle.std.proofs.Common.{None, Result, Ok, Err, inl, inr, refl, sym, ap, su
 use Rattle.pkcheck.specs.declared.effect.Names.{Names}
 use Rattle.pkcheck.specs.declared.effect.Names.TheVariants.{NoName, OfArgument, OfOperands}
 use Rattle.pkcheck.specs.Effects.{Effect, Operates, Moves, Stops, Raises, effect_as, number_stored}
-use Rattle.pkcheck.specs.Shape.{top, Breach, Entry, Taken, and_then, unless, operands, moved}
+use Rattle.pkstack.specs.Shape.{top, Breach, Entry, Taken, and_then, unless, operands, moved}
 use Rattle.pkops.specs.Spelling.{Instruction}
 use Rattle.pkcheck.specs.Runs.{Text, Plain, Foreign, Event, Import, Did, State, Outcome, Stepped}
 use Rattle.pkcheck.specs.Runs.{WentOn, Raised, Stopped, Stuck, step_as}

@@ -11,7 +11,7 @@ use Rattle.pkops.specs.declared.Reason.TheVariants as reason
 use Rattle.pkcheck.specs.declared.machine.stepping.Moved.{Moved}
 use Rattle.pkcheck.specs.Effects.{effect_as}
 use Rattle.pkcheck.specs.Runs.{step_as}
-use Rattle.pkcheck.specs.Shape.{NoMark, NoItem, NoMemo, Odd, Extension}
+use Rattle.pkstack.specs.Shape.{NoMark, NoItem, NoMemo, Odd, Extension}
 use Rattle.pkcheck.specs.Knowledge.{Policy, Progress, Refusal, Lacks, WrongClass, NotText}
 use Rattle.pkcheck.specs.Knowledge.{UnknownImport, OffList, LeftOver, NotAscii, TooLarge, Knowledge}
 use Rattle.pkcheck.specs.Knowledge.{advance, reason_of}

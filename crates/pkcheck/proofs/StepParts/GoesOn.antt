@@ -3,10 +3,10 @@ use Rattle.pkcheck.specs.declared.old_strings.OldStrings.{OldStrings}
 use Rattle.pkops.specs.Operands.{memo_number}
 use Rattle.std.proofs.Common.{◌≡◌, ℕ, ◌<◌, ◌≤◌, ◌⊎◌, inl, inr, false, Option, is_some, List, []}
 use Rattle.std.proofs.Common.{◌∷◌, length, Some, None, Ok, refl, drop, arith, length-drop}
-use Rattle.pkcheck.specs.declared.effect.Move.{Move}
+use Rattle.pkstack.specs.declared.Move.{Move}
 use Rattle.pkcheck.specs.declared.machine.operate.StepError.{StepError}
 use Rattle.pkcheck.specs.Effects.{Effect, Operates, Moves, Stops, Raises, effect_as, number_stored}
-use Rattle.pkcheck.specs.Shape.{top, Entry, and_then, moved}
+use Rattle.pkstack.specs.Shape.{top, Entry, and_then, moved}
 use Rattle.pkops.specs.Spelling.{Instruction}
 use Rattle.pkcheck.specs.Knowledge.{Known, Knowledge, Policy, Lacks, LeftOver, TooLarge, left_over}
 use Rattle.pkcheck.specs.Knowledge.{stop_learned, learn, within, advance}
@@ -15,13 +15,14 @@ use Rattle.pkops.specs.Limits.{Bounds}
 use Rattle.pkops.specs.declared.Reason.{Reason}
 use Rattle.pkops.specs.declared.Reason.TheVariants as reason
 use Rattle.pkcheck.specs.Private.Actions.{IsUnnamed}
-use Rattle.pkcheck.specs.Private.StepErrors.{GoesTo, IsRefusedWith, IsForMemory, IsFaultOf}
+use Rattle.pkcheck.specs.Private.StepErrors.{GoesTo, IsRefusedWith, IsForMemory}
+use Rattle.pkstack.specs.Faults.{IsFaultOf}
 use Rattle.pkcheck.specs.Private.StepErrors.{IsStopFault, MayWantMemory, Proceeds}
 use Rattle.pkcheck.specs.View.{moved_as}
 use Rattle.pkcheck.proofs.StepParts.Past.{within_fits, within_past}
 use Rattle.pkcheck.specs.declared.effect.Gives.{Gives}
 use Rattle.pkcheck.specs.declared.effect.Names.TheVariants.{NoName, OfArgument, OfOperands}
-use Rattle.pkcheck.specs.declared.effect.Takes.{Takes}
+use Rattle.pkstack.specs.declared.Takes.{Takes}
 use Rattle.pkcheck.specs.declared.machine.stepping.Moved.TheVariants.{On}
 
 some_left : (es : List (Entry Known)) → 0 < length es → left_over es ≡ Some LeftOver

@@ -9,10 +9,10 @@ use Rattle.pkcheck.specs.declared.effect.Names.TheVariants.{NoName, OfArgument, 
 use Rattle.pkcheck.specs.declared.effect.Gives.{Gives}
 use Rattle.pkcheck.specs.declared.effect.Gives.TheVariants.{Makes, MakesIntOrBool, MakesText}
 use Rattle.pkcheck.specs.declared.effect.Gives.TheVariants.{MayMake, Answers, Leaves}
-use Rattle.pkcheck.specs.declared.effect.Takes.{Takes}
-use Rattle.pkcheck.specs.declared.effect.Takes.TheVariants.{Objects}
+use Rattle.pkstack.specs.declared.Takes.{Takes}
+use Rattle.pkstack.specs.declared.Takes.TheVariants.{Objects}
 use Rattle.pkcheck.specs.Effects.{Operates}
-use Rattle.pkcheck.specs.Shape.{put, Breach, Entry, Item, Taken, and_then, operands}
+use Rattle.pkstack.specs.Shape.{put, Breach, Entry, Item, Taken, and_then, operands}
 use Rattle.pkops.specs.Spelling.{Instruction}
 use Rattle.pkcheck.specs.Runs.{Text, Plain, Foreign}
 use Rattle.pkcheck.specs.Knowledge.{argument_asked, Known, Knowledge, Policy, Refusal, Lacks}
@@ -31,9 +31,10 @@ use Rattle.pkcheck.specs.declared.machine.value.Value.TheVariants.{Unknown, Made
 use Rattle.pkcheck.specs.declared.machine.value.Value.TheVariants as value
 use Rattle.pkcheck.specs.declared.effect.Wanted.{Wanted}
 use Rattle.std.specs.List.{slice_get}
-use Rattle.pkcheck.specs.Private.StepErrors.{ruled, judged, IsRefusedWith, IsForMemory, IsLack}
-use Rattle.pkcheck.specs.Private.StepErrors.{MayGive, MayName, MayOperate, Proceeds, WantsRoom}
-use Rattle.pkcheck.specs.Private.StepErrors.{HasFirst, WellGiven}
+use Rattle.pkcheck.specs.Private.StepErrors.{ruled, judged, IsRefusedWith, IsForMemory}
+use Rattle.pkcheck.specs.Private.StepErrors.{MayGive, MayName, MayOperate, Proceeds, WellGiven}
+use Rattle.pkstack.specs.Faults.{IsLack, WantsRoom}
+use Rattle.pkstack.specs.Places.{HasFirst}
 use Rattle.pkcheck.proofs.StepParts.Past.{within_past}
 
 abbrev pub ruled_any : Policy → Option Asked → Result (Option Asked) Refusal

@@ -17,12 +17,13 @@ use Rattle.pkops.specs.Spelling.{Instruction}
 use Rattle.pkops.specs.declared.Reason.{Reason}
 use Rattle.pkcheck.specs.declared.effect.Gives.{Gives}
 use Rattle.pkcheck.specs.declared.effect.Names.TheVariants.{NoName}
-use Rattle.pkcheck.specs.declared.effect.Takes.TheVariants.{Objects}
+use Rattle.pkstack.specs.declared.Takes.TheVariants.{Objects}
 use Rattle.pkcheck.specs.declared.old_strings.OldStrings.{OldStrings}
 use Rattle.pkcheck.specs.Effects.{Operates, Raises, answers, effect_as, effect_of, is_old_string}
 use Rattle.pkcheck.specs.Effects.{pushes}
 use Rattle.pkcheck.specs.Knowledge.{Known, Knowledge, Policy, advance, known_given}
-use Rattle.pkcheck.specs.Private.StepErrors.{IsRefusedWith, IsForMemory, MayWantMemory, WantsRoom}
+use Rattle.pkcheck.specs.Private.StepErrors.{IsRefusedWith, IsForMemory, MayWantMemory}
+use Rattle.pkstack.specs.Faults.{WantsRoom}
 use Rattle.pkcheck.proofs.StepParts.GoesOn.{errs_by}
 use Rattle.pkcheck.proofs.StepParts.Judged.{create_errs}
 

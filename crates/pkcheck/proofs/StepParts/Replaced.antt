@@ -6,16 +6,16 @@ use Rattle.pkops.specs.Spelling.{Instruction}
 use Rattle.pkcheck.specs.declared.effect.Gives.{Gives}
 use Rattle.pkcheck.specs.declared.effect.Gives.TheVariants.{Leaves}
 use Rattle.pkcheck.specs.declared.effect.Names.TheVariants.{NoName}
-use Rattle.pkcheck.specs.declared.effect.Takes.TheVariants.{Objects}
+use Rattle.pkstack.specs.declared.Takes.TheVariants.{Objects}
 use Rattle.pkcheck.specs.declared.effect.Wanted.{Wanted}
 use Rattle.pkcheck.specs.declared.machine.value.Value.{Value}
 use Rattle.pkcheck.specs.Effects.{Effect, Operates, fills}
 use Rattle.pkcheck.specs.Knowledge.{Known, known_given, wrong_first, wrong_receiver}
-use Rattle.pkcheck.specs.Private.Places.{ItemsFrom, Replaced, above, below}
+use Rattle.pkstack.specs.Places.{ItemsFrom, Replaced, above, below}
 use Rattle.pkcheck.specs.Private.NamelessOperations.{HasOperated, HasReplaced}
 use Rattle.pkcheck.specs.Private.NamelessOperations.{Replaces, StaysSeen}
 use Rattle.pkcheck.specs.Private.Slots.{StandsIf, known, seen}
-use Rattle.pkcheck.specs.Shape.{Entry, Item, Mark, Taken, items, put}
+use Rattle.pkstack.specs.Shape.{Entry, Item, Mark, Taken, items, put}
 use Rattle.pkcheck.proofs.ResolvedEntries.{found_is, found_seen, put_seen, put_sees, same_table}
 use Rattle.pkcheck.proofs.StepParts.Judged.{does_pass, judged_ok}
 

@@ -14,9 +14,9 @@ use Rattle.pkread.specs.Core.{phase_after}
 use Rattle.pkread.specs.ReaderCalls.{is_ended}
 use Rattle.pkcheck.specs.declared.effect.Class.TheVariants as class
 use Rattle.pkcheck.specs.declared.effect.Gives.TheVariants.{MakesText}
-use Rattle.pkcheck.specs.declared.effect.Move.TheVariants.{Extends}
+use Rattle.pkstack.specs.declared.Move.TheVariants.{Extends}
 use Rattle.pkcheck.specs.declared.effect.Names.TheVariants.{NoName}
-use Rattle.pkcheck.specs.declared.effect.Takes.TheVariants.{Objects}
+use Rattle.pkstack.specs.declared.Takes.TheVariants.{Objects}
 use Rattle.pkcheck.specs.declared.old_strings.OldStrings.{OldStrings}
 use Rattle.pkcheck.specs.declared.old_strings.OldStrings.TheVariants.{Unknown, Ascii, Bytes}
 use Rattle.pkcheck.specs.Effects.{Effect, Operates, Moves, Stops, Raises, ascii_string, effect_as}

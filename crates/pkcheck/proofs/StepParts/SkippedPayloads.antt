@@ -8,9 +8,10 @@ use Rattle.pkops.specs.declared.Op.TheVariants as op
 use Rattle.pkcheck.specs.declared.effect.Class.{Class}
 use Rattle.pkcheck.specs.declared.machine.stepping.Moved.TheVariants.{On}
 use Rattle.pkcheck.specs.Effects.{effect_as, number_stored, pushes}
-use Rattle.pkcheck.specs.Shape.{and_then}
+use Rattle.pkstack.specs.Shape.{and_then}
 use Rattle.pkcheck.specs.Knowledge.{Policy, TooLarge, learn, within}
-use Rattle.pkcheck.specs.Private.StepErrors.{WantsRoom, with_made}
+use Rattle.pkcheck.specs.Private.StepErrors.{with_made}
+use Rattle.pkstack.specs.Faults.{WantsRoom}
 use Rattle.pkops.specs.Payloads.{is_passed}
 use Rattle.pkops.specs.declared.Reason.{Reason}
 use Rattle.pkcheck.specs.Step.{FailsStep, GoesOn}

@@ -18,11 +18,11 @@ use Rattle.pkcheck.specs.declared.effect.Names.TheVariants.{NoName}
 use Rattle.pkcheck.specs.declared.effect.Gives.{Gives}
 use Rattle.pkcheck.specs.declared.effect.Gives.TheVariants.{Makes, MakesIntOrBool, MakesText}
 use Rattle.pkcheck.specs.declared.effect.Gives.TheVariants.{MayMake, Answers, Leaves}
-use Rattle.pkcheck.specs.declared.effect.Takes.TheVariants.{Objects}
+use Rattle.pkstack.specs.declared.Takes.TheVariants.{Objects}
 use Rattle.pkcheck.specs.Covers.{imports_of}
 use Rattle.pkcheck.specs.Effects.{Effect, Operates, Moves, Stops, Raises, effect_as, effect_of}
 use Rattle.pkcheck.specs.Effects.{is_old_string}
-use Rattle.pkcheck.specs.Shape.{Breach, Entry, Shape, Taken, moved, operands, put, top}
+use Rattle.pkstack.specs.Shape.{Breach, Entry, Shape, Taken, moved, operands, put, top}
 use Rattle.pkcheck.specs.Runs.{Event, Did, Import, Foreign, Go, Named, NoImport, NotTexts, Object}
 use Rattle.pkcheck.specs.Runs.{ObjectClass, Outcome, Pair, Plain, Raise, Raised, State, Stepped}
 use Rattle.pkcheck.specs.Runs.{Stopped, Stuck, Text, WentOn, answered, asks, class_at, come_of}

@@ -24,7 +24,7 @@ use Rattle.pkcheck.specs.Reports.{AreReportsBehind, IsReportOf, Report, report, 
 use Rattle.pkcheck.specs.RowOfPickles.{HasMore}
 use Rattle.pkcheck.specs.RowRuns.{Pickle, listed_before}
 use Rattle.pkcheck.specs.Runs.{State as RunState}
-use Rattle.pkcheck.specs.Shape.{marks_of}
+use Rattle.pkstack.specs.Shape.{marks_of}
 use Rattle.pkcheck.specs.View.{View}
 use Rattle.pkcheck.specs.declared.check_loop.Extent.{Extent}
 use Rattle.pkcheck.specs.declared.loading.Loading.{Loading}

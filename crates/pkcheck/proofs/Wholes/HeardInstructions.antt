@@ -18,7 +18,7 @@ use Rattle.pkcheck.specs.Private.Lent.{heard_before, heard_refused}
 use Rattle.pkcheck.specs.Reports.{AreReportsBehind, IsReportOf, Report, report, told_of}
 use Rattle.pkcheck.specs.RowRuns.{Beginning}
 use Rattle.pkcheck.specs.Runs.{State as RunState}
-use Rattle.pkcheck.specs.Shape.{marks_of}
+use Rattle.pkstack.specs.Shape.{marks_of}
 use Rattle.pkcheck.specs.View.{View}
 use Rattle.pkcheck.specs.declared.old_strings.OldStrings.{OldStrings}
 use Rattle.pkcheck.proofs.OpenMarks.{marks_alike}

@@ -18,7 +18,7 @@ use Rattle.pkcheck.specs.Knowledge.{Policy}
 use Rattle.pkcheck.specs.Private.Judgement.{SessionView}
 use Rattle.pkcheck.specs.Private.Lent.{PassInTurn, StopsAt, TurnsDown, heard_before}
 use Rattle.pkcheck.specs.Reports.{Report, report, told_of}
-use Rattle.pkcheck.specs.Shape.{marks_of}
+use Rattle.pkstack.specs.Shape.{marks_of}
 use Rattle.pkcheck.specs.Step.{FailsStep, GoesOn}
 use Rattle.pkcheck.specs.View.{View, stopped_by}
 use Rattle.pkcheck.specs.declared.machine.stepping.Moved.{Moved}

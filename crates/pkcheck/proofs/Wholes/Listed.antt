@@ -6,7 +6,7 @@ use Rattle.std.proofs.Common.{append_assoc}
 use Rattle.pkcheck.specs.declared.effect.Gives.{Gives}
 use Rattle.pkcheck.specs.declared.effect.Names.{Names}
 use Rattle.pkcheck.specs.Effects.{Effect, Operates, Moves, Stops, Raises, effect_as}
-use Rattle.pkcheck.specs.Shape.{Breach, Shape, Taken, operands, moved}
+use Rattle.pkstack.specs.Shape.{Breach, Shape, Taken, operands, moved}
 use Rattle.pkops.specs.Spelling.{Instruction}
 use Rattle.pkops.specs.Operands.{memo_number}
 use Rattle.pkcheck.specs.Runs.{State, Event, Outcome, Raise, Go, Stepped, WentOn, Raised, Stopped}

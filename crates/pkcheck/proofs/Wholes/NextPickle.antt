@@ -21,7 +21,7 @@ use Rattle.pkcheck.specs.Listing.{StandsFor, ImportsAreListed, imports_among, pe
 use Rattle.pkcheck.specs.RowRuns.{Behind, Pickle, imports_of_all, next_from, run_row, sequences_of}
 use Rattle.pkcheck.specs.Runs.{CanCome, Object, Outcome, State, Text, Stepped, WentOn, Raised}
 use Rattle.pkcheck.specs.Runs.{Stopped, Stuck, effect_asks, perform, start, step_as, stop_step}
-use Rattle.pkcheck.specs.Shape.{Breach, Entry, top}
+use Rattle.pkstack.specs.Shape.{Breach, Entry, top}
 use Rattle.pkcheck.specs.WholeRuns.{AllListed, Ended, EndedBy, EndsWell, Reached, first_outcome}
 use Rattle.pkcheck.specs.WholeRuns.{go_on, outcomes_after, run_as}
 use Rattle.pkcheck.proofs.Coverage.OneTextStates.{Answered, IsGoing, Word, grows, learn_exactly}

@@ -8,7 +8,7 @@ use Rattle.pkread.specs.Sequence.{CountsAt}
 use Rattle.pkcheck.specs.Private.Judgement.{IsRefused}
 use Rattle.pkcheck.specs.Knowledge.{Policy, Refusal, reason_of, Lacks, WrongClass, NotText}
 use Rattle.pkcheck.specs.Knowledge.{UnknownImport, OffList, LeftOver, NotAscii, TooLarge}
-use Rattle.pkcheck.specs.Shape.{NoMark, NoItem, NoMemo, Odd, Extension}
+use Rattle.pkstack.specs.Shape.{NoMark, NoItem, NoMemo, Odd, Extension}
 use Rattle.pkcheck.specs.RunFaults.{HasRunFault}
 use Rattle.pkcheck.specs.Faults.{Arrivals, rank}
 use Rattle.pkcheck.specs.View.{View}

@@ -10,7 +10,7 @@ use Rattle.pkcheck.specs.RowOfPickles.{begins}
 use Rattle.pkcheck.specs.RowRuns.{Afresh, Behind, Pickle, run_row}
 use Rattle.pkcheck.specs.Runs.{Did, Event, Foreign, Go, Outcome, Plain, Raise, State, WentOn}
 use Rattle.pkcheck.specs.Runs.{Raised, Stopped, Stuck, start}
-use Rattle.pkcheck.specs.Shape.{NoItem, NoMark, NoMemo}
+use Rattle.pkstack.specs.Shape.{NoItem, NoMark, NoMemo}
 use Rattle.pkcheck.specs.WholeRuns.{Ended, EndedBy, Reached, run}
 use Rattle.pkcheck.proofs.Coverage.Examples.{at, bare, text}
 

@@ -9,7 +9,7 @@ use Rattle.pkops.specs.Limits.{Bounds}
 use Rattle.pkcheck.specs.declared.effect.Names.{Names}
 use Rattle.pkcheck.specs.declared.effect.Gives.{Gives}
 use Rattle.pkcheck.specs.Effects.{Effect, Operates, Moves, Stops, Raises, effect_as}
-use Rattle.pkcheck.specs.Shape.{Breach, Taken, and_then, operands}
+use Rattle.pkstack.specs.Shape.{Breach, Taken, and_then, operands}
 use Rattle.pkcheck.specs.Runs.{Object, State, Outcome, CanCome, Stepped, WentOn, Raised, Stopped}
 use Rattle.pkcheck.specs.Runs.{Stuck, Named, NoImport, Pair, NotTexts, asks, come_of, operated}
 use Rattle.pkcheck.specs.Runs.{operate_step, perform, step_as, effect_asks}

@@ -15,7 +15,7 @@ use Rattle.pkcheck.specs.Knowledge.{reason_of}
 use Rattle.pkimport.specs.Import.{Asked}
 use Rattle.pkcheck.specs.RowRuns.{Beginning}
 use Rattle.pkcheck.specs.RunFaults.{HasRunFault, IsFaultless, RunsFrom}
-use Rattle.pkcheck.specs.Shape.{Extension, NoItem, NoMark, NoMemo, Odd}
+use Rattle.pkstack.specs.Shape.{Extension, NoItem, NoMark, NoMemo, Odd}
 use Rattle.pkcheck.specs.declared.old_strings.OldStrings.{OldStrings}
 use Rattle.pkcheck.proofs.Coverage.FaultsReached.{has_fault, stands_for_all}
 use Rattle.pkcheck.proofs.Coverage.Verdicts.{StopsLast, Yes, verdict}

@@ -12,7 +12,7 @@ use Rattle.pkcheck.specs.Private.WholeReports.{whole_of, wholes}
 use Rattle.pkcheck.specs.Reports.{AreReportsBehind, Report, Told, Whole}
 use Rattle.pkcheck.specs.RowRuns.{Afresh}
 use Rattle.pkcheck.specs.RunFaults.{RunsFrom}
-use Rattle.pkcheck.specs.Shape.{marks_of}
+use Rattle.pkstack.specs.Shape.{marks_of}
 use Rattle.pkcheck.specs.declared.old_strings.OldStrings.TheVariants.{Unknown}
 
 -- what was heard of one instruction

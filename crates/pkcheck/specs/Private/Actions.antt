@@ -5,8 +5,8 @@ use Rattle.pkcheck.specs.declared.machine.effects.Action.TheVariants as action
 use Rattle.pkcheck.specs.declared.effect.Gives.TheVariants as gives
 use Rattle.pkcheck.specs.declared.effect.Names.TheVariants.{NoName}
 use Rattle.pkcheck.specs.declared.machine.effects.Operation.{Operation}
-use Rattle.pkcheck.specs.declared.effect.Takes.TheVariants.{Objects}
-use Rattle.pkcheck.specs.declared.effect.Takes.{Takes}
+use Rattle.pkstack.specs.declared.Takes.TheVariants.{Objects}
+use Rattle.pkstack.specs.declared.Takes.{Takes}
 use Rattle.pkcheck.specs.declared.effect.Gives.{Gives}
 use Rattle.pkcheck.specs.Effects.{Effect, Operates, Moves, Stops, answers, effect_of}
 use Rattle.pkcheck.specs.Effects.{is_old_string, pushes}

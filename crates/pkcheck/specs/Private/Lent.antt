@@ -8,7 +8,7 @@ use Rattle.pkread.specs.ReaderCalls.{ReaderState}
 use Rattle.pkcheck.specs.Knowledge.{Policy}
 use Rattle.pkcheck.specs.Private.Judgement.{BothGoOn, IsRefused, SessionView}
 use Rattle.pkcheck.specs.Reports.{Report, report, told_of}
-use Rattle.pkcheck.specs.Shape.{marks_of}
+use Rattle.pkstack.specs.Shape.{marks_of}
 use Rattle.pkcheck.specs.View.{View}
 use Rattle.pkcheck.specs.declared.turned.Turned.{Turned}
 

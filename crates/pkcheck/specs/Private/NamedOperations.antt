@@ -12,7 +12,7 @@ use Rattle.pkcheck.specs.Private.StepErrors.{Proceeds, pair_of_error}
 use Rattle.pkimport.specs.Table.{Noted}
 use Rattle.pkcheck.specs.Private.Asking.{Spells}
 use Rattle.pkcheck.specs.Private.Slots.{Sees, seen}
-use Rattle.pkcheck.specs.Shape.{Entry}
+use Rattle.pkstack.specs.Shape.{Entry}
 use Rattle.pkops.specs.Limits.{Bounds}
 use Rattle.pkops.specs.Spelling.{Instruction}
 

@@ -7,7 +7,7 @@ use Rattle.pkcheck.specs.Effects.{Effect}
 use Rattle.pkops.specs.Spelling.{Instruction}
 use Rattle.pkops.specs.Limits.{Bounds}
 use Rattle.pkops.specs.declared.Reason.{Reason}
-use Rattle.pkcheck.specs.Shape.{Entry}
+use Rattle.pkstack.specs.Shape.{Entry}
 use Rattle.pkcheck.specs.Knowledge.{Known, Policy, learn}
 use Rattle.pkimport.specs.Import.{Asked}
 use Rattle.pkcheck.specs.Private.Steps.{IsStepFault}

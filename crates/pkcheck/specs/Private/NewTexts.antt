@@ -1,12 +1,12 @@
 -- What pushing a text does to the stack and the import table.
 use Rattle.std.specs.Prelude.{ℕ, ◌≡◌, ◌≤◌, ◌∷◌, IfErr, List, OnOk, Result, Some, length, suc}
 use Rattle.pkops.specs.declared.Reason.{Reason}
-use Rattle.pkcheck.specs.Private.StepErrors.{WantsRoom}
+use Rattle.pkstack.specs.Faults.{WantsRoom}
 use Rattle.pkcheck.specs.Private.NamedOperations.{AreSeen, StackAndTable}
 use Rattle.pkcheck.specs.Private.Slots.{seen}
 use Rattle.pkimport.specs.Table.{HasMoreTexts}
 use Rattle.pkcheck.specs.Runs.{Text}
-use Rattle.pkcheck.specs.Shape.{Item}
+use Rattle.pkstack.specs.Shape.{Item}
 
 -- the text is appended to the table, and its number is on top of the stack
 pub record HasPushedText {A : Type 0} (limit : ℕ) (text : List ℕ) (old new : StackAndTable)

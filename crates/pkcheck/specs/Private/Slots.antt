@@ -1,63 +1,12 @@
 -- What the fields of the stack, the memo and the text table mean.
-use Rattle.std.specs.Prelude.{ℕ, suc, ◌<◌, List, [], ◌∷◌, Option, Some, None, map}
-use Rattle.std.specs.Prelude.{◌≡◌, length, ⊤, drop, get_or, take}
+use Rattle.std.specs.Prelude.{ℕ, ◌<◌, List, [], Option, Some, None, map, ◌≡◌, length, ⊤, get_or}
 use Rattle.pkcheck.specs.declared.machine.value.Value.{Value}
 use Rattle.pkcheck.specs.declared.machine.value.Value.TheVariants as value
-use Rattle.pkcheck.specs.declared.machine.stack.slots.Slot.{Slot}
-use Rattle.pkcheck.specs.declared.machine.stack.slots.Slot.TheVariants as slot
-use Rattle.pkcheck.specs.declared.effect.Takes.{Takes}
-use Rattle.pkcheck.specs.declared.effect.Takes.TheVariants.{Objects, Slice, SliceAndReceiver}
 use Rattle.pkcheck.specs.Runs.{Text, Plain}
-use Rattle.pkcheck.specs.Shape.{Entry, Mark, Item, Shape, Taken}
+use Rattle.pkstack.specs.Shape.{Entry, Mark, Item, Shape}
 use Rattle.pkcheck.specs.Covers.{Pointwise, AlikeEntry, Alike}
 use Rattle.pkcheck.specs.Knowledge.{Known, Knowledge}
 use Rattle.pkimport.specs.Import.{Asked}
-
--- the entry that a slot means
-abbrev pub entry_of : Slot → Entry Value
-entry_of slot.Mark = Mark
-entry_of (slot.Object v) = Item v
-
--- these entries, the last one on top, above the entries `below`
-abbrev pub shown : List Slot → List (Entry Value) → List (Entry Value)
-shown [] below = below
-shown (s ∷ ss) below = shown ss (entry_of s ∷ below)
-
--- the objects among the entries, in order
-abbrev pub values_of : List Slot → List Value
-values_of [] = []
-values_of (slot.Mark ∷ ss) = values_of ss
-values_of (slot.Object v ∷ ss) = v ∷ values_of ss
-
--- the objects from a place on, and the entries below it
-abbrev pub taken_from : ℕ → List Slot → Taken Value
-taken_from place slots = record {
-  operands = values_of (drop place slots);
-  below = shown (take place slots) [];
-}
-
--- the places of the marks, counted from n
-abbrev pub bars : ℕ → List Slot → List ℕ
-bars n [] = []
-bars n (slot.Mark ∷ ss) = n ∷ bars (suc n) ss
-bars n (slot.Object v ∷ ss) = bars (suc n) ss
-
--- none of these entries is a mark
-abbrev pub AllObjects : List Slot → Type 0
-AllObjects [] = ⊤
-AllObjects (slot.Mark ∷ ss) = ⊥
-AllObjects (slot.Object v ∷ ss) = AllObjects ss
-
--- the first of these entries is an object
-abbrev pub FirstObject : List Slot → Type 0
-FirstObject (slot.Object v ∷ ss) = ⊤
-FirstObject ss = ⊥
-
--- the entries are right for this operation: k objects, any slice, or a slice with an object first
-abbrev pub StartsWell : Takes → List Slot → Type 0
-StartsWell (Objects k) ss = (length ss ≡ k) × AllObjects ss
-StartsWell (Slice rule) ss = ⊤
-StartsWell (SliceAndReceiver rule) ss = FirstObject ss
 
 -- the number of a text is below `count`
 abbrev pub IsNumbered : ℕ → Value → Type 0

@@ -1,68 +1,27 @@
 -- What the parts of a step return, in terms of the checker's knowledge.
-use Rattle.std.specs.Prelude.{ℕ, ◌≡◌, ◌<◌, ◌≤◌, ◌⊎◌, Bool, List, ◌∷◌, length, Option, Some, None}
+use Rattle.std.specs.Prelude.{◌≡◌, ◌≤◌, ◌⊎◌, Bool, List, ◌∷◌, length, Option, Some, None}
 use Rattle.std.specs.Prelude.{Result, Ok, Err, option_map, if◌then◌else◌, is_some, ⊤}
-use Rattle.pkcheck.specs.declared.effect.Takes.{Takes}
-use Rattle.pkcheck.specs.declared.effect.Takes.TheVariants.{Objects, Slice, SliceAndReceiver}
+use Rattle.pkstack.specs.declared.Takes.{Takes}
 use Rattle.pkcheck.specs.declared.effect.Gives.{Gives}
 use Rattle.pkcheck.specs.declared.effect.Gives.TheVariants.{MakesIntOrBool, MakesText, Leaves}
 use Rattle.pkcheck.specs.declared.effect.Names.{Names}
 use Rattle.pkcheck.specs.declared.effect.Names.TheVariants.{NoName}
-use Rattle.pkcheck.specs.declared.effect.Move.{Move}
-use Rattle.pkcheck.specs.declared.effect.Move.TheVariants as move
-use Rattle.pkcheck.specs.Effects.{Effect, Operates, Moves, Stops, Raises, number_moved}
+use Rattle.pkcheck.specs.Effects.{Effect, Operates, Moves, Stops, Raises}
+use Rattle.pkstack.specs.Faults.{MoveMayWantMemory}
+use Rattle.pkstack.specs.Places.{HasFirst}
 use Rattle.pkcheck.specs.declared.machine.operate.StepError.{StepError}
 use Rattle.pkcheck.specs.declared.machine.stepping.Moved.{Moved}
 use Rattle.pkops.specs.Spelling.{Instruction}
 use Rattle.pkops.specs.Limits.{Bounds}
 use Rattle.pkops.specs.declared.Reason.{Reason}
 use Rattle.pkops.specs.declared.Reason.TheVariants as reason
-use Rattle.pkcheck.specs.Shape.{Breach, Item, Shape}
+use Rattle.pkstack.specs.Shape.{Item}
 use Rattle.pkcheck.specs.Runs.{Plain}
 use Rattle.pkcheck.specs.declared.effect.Class.{Class}
-use Rattle.pkcheck.specs.Knowledge.{Policy, Known, Knowledge, Progress, Refusal, Lacks, WrongClass}
+use Rattle.pkcheck.specs.Knowledge.{Policy, Known, Knowledge, Progress, Refusal, WrongClass}
 use Rattle.pkcheck.specs.Knowledge.{reason_of, permitted, unknown_pair, wrong_receiver, asked_of}
 use Rattle.pkimport.specs.Import.{Asked, AskedPair, AskedUnknown, asked_shown, asks_more}
 use Rattle.pkcheck.specs.View.{off_pair, moved_as}
-
--- the reason for something that is missing
-abbrev pub IsLack : {A : Type 0} → Result A Breach → Reason → Type 0
-IsLack x r = (b : Breach) × (x ≡ Err b) × (r ≡ reason_of (Lacks b))
-
--- whether a move may allocate: one that only removes entries or changes nothing doesn't
-abbrev pub MoveMayWantMemory : Move → Type 0
-MoveMayWantMemory move.Pops = ⊥
-MoveMayWantMemory move.PopsMark = ⊥
-MoveMayWantMemory move.Passes = ⊥
-MoveMayWantMemory move.Extends = ⊥
-MoveMayWantMemory m = ⊤
-
--- one more entry would exceed the limit, or its allocation is refused
-abbrev pub WantsRoom : ℕ → ℕ → Reason → Type 0
-WantsRoom limit count r = ((r ≡ reason.TooLarge) × (limit ≤ count)) ⊎ (r ≡ reason.OutOfMemory)
-
--- the memo would exceed its limit, or its allocation is refused
-abbrev pub WantsMemo : {A : Type 0} → ℕ → List (ℕ × A) → Reason → Type 0
-WantsMemo limit cells r =
-    ((r ≡ reason.TooLarge) × (limit < length cells)) ⊎ (r ≡ reason.OutOfMemory)
-
--- the result exceeds the limits, or this memo number does
-abbrev pub LeavesTooMuch : {A : Type 0} → Bounds → ℕ → Result (Shape A) Breach → Type 0
-LeavesTooMuch {A} l n x =
-    (k : Shape A) × (x ≡ Ok k)
-    × ((l.stack < length k.entries) ⊎ ((l.memo < length k.memo) ⊎ (l.numbers < n)))
-
--- something is missing, a limit is exceeded, or an allocation is refused
-abbrev pub IsFault : {A : Type 0} → Bounds → ℕ → Result (Shape A) Breach → Reason → Type 0
-IsFault l n x r =
-    IsLack x r ⊎ (((r ≡ reason.TooLarge) × LeavesTooMuch l n x) ⊎ (r ≡ reason.OutOfMemory))
-
--- like IsFault, for a move with this memo number; only some moves may allocate
-abbrev pub IsFaultOf : {A : Type 0} → Move → Bounds → ℕ → Result (Shape A) Breach → Reason
-    → Type 0
-IsFaultOf m l n x r =
-    IsLack x r
-    ⊎ (((r ≡ reason.TooLarge) × LeavesTooMuch l (number_moved m n) x)
-    ⊎ (MoveMayWantMemory m × (r ≡ reason.OutOfMemory)))
 
 -- what the policy says about an import
 abbrev pub ruled : Policy → Asked → Result (Option Asked) Refusal
@@ -115,12 +74,6 @@ MayGive gives = ⊤
 -- an operation may allocate for its import or for the object that it leaves
 abbrev pub MayOperate : Names → Gives → Type 0
 MayOperate names gives = MayName names ⊎ MayGive gives
-
--- an operation that takes at least one object
-abbrev pub HasFirst : Takes → Type 0
-HasFirst (Objects k) = 0 < k
-HasFirst (Slice rule) = ⊥
-HasFirst (SliceAndReceiver rule) = ⊤
 
 -- an operation that leaves its receiver takes at least one object
 abbrev pub WellGiven : Gives → Takes → Type 0

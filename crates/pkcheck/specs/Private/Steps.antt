@@ -10,7 +10,7 @@ use Rattle.pkcheck.specs.Private.StepErrors.{FitsLimits, GoesTo, IsRefusedFor, I
 use Rattle.pkcheck.specs.Private.StepErrors.{MayWantMemory}
 use Rattle.pkcheck.specs.Private.Slots.{StateView}
 use Rattle.pkcheck.specs.Private.Spelled.{IsSpelled}
-use Rattle.pkcheck.specs.Shape.{and_then}
+use Rattle.pkstack.specs.Shape.{and_then}
 use Rattle.pkcheck.specs.View.{texts_after}
 use Rattle.pkops.specs.Limits.{Bounds}
 use Rattle.pkops.specs.Spelling.{Instruction}

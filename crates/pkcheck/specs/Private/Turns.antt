@@ -15,7 +15,7 @@ use Rattle.pkcheck.specs.Knowledge.{Policy}
 use Rattle.pkcheck.specs.Private.Judgement.{BothGoOn, HasLength, IsRefused, SessionView}
 use Rattle.pkcheck.specs.Reports.{Report, report, told_of}
 use Rattle.pkcheck.specs.Runs.{State}
-use Rattle.pkcheck.specs.Shape.{marks_of}
+use Rattle.pkstack.specs.Shape.{marks_of}
 use Rattle.pkcheck.specs.View.{View}
 
 module _ (s t : ReaderState) where

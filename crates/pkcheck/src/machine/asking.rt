@@ -66,7 +66,7 @@ pub fn asked_by<'a>(
             let Some((module_name, name)) = operands.pair() else {
                 return Ok(None);
             };
-            Ok(Some(operands_named(module_name, name)?))
+            Ok(Some(operands_named(module_name.value(), name.value())?))
         }
     }
 }

@@ -2,10 +2,11 @@
 //! number, and the imports so far.
 ghost use Rattle.std.specs.Prelude.{◌≡◌, ◌≤◌, ◌++◌, [], length, IfOk, IfErr};
 ghost use Rattle.std.specs.Prelude.{None, OnErr, OnOk, Some, false, suc};
-ghost use Rattle.pkcheck.specs.Effects.{effect_of, number_moved};
+ghost use Rattle.pkcheck.specs.Effects.{effect_of};
 ghost use Rattle.pkcheck.specs.Private.Actions.{IsOperation, IsUnnamed};
 ghost use Rattle.pkcheck.specs.Private.Steps.{IsStepFault};
-ghost use Rattle.pkcheck.specs.Private.StepErrors.{IsFaultOf, IsStopFault, Proceeds, WantsRoom};
+ghost use Rattle.pkcheck.specs.Private.StepErrors.{IsStopFault, Proceeds};
+ghost use Rattle.pkstack.specs.Faults.{IsFaultOf, WantsRoom};
 ghost use Rattle.pkcheck.specs.Private.StepErrors.{pair_of_error, with_item, with_made};
 ghost use Rattle.pkcheck.specs.Private.Spelled.{IsSpelled};
 ghost use Rattle.pkcheck.specs.Runs.{Text, text};
@@ -13,21 +14,20 @@ ghost use Rattle.pkcheck.specs.Policies.{permit_of};
 ghost use Rattle.pkcheck.specs.Knowledge.{learn, stop_learned, nothing_known};
 ghost use Rattle.pkcheck.specs.Knowledge.{Policy as Pairs};
 ghost use Rattle.pkops.specs.Spelling.{Instruction};
-ghost use Rattle.pkcheck.specs.Shape.{marks_of, moved, top};
+ghost use Rattle.pkstack.specs.Shape.{marks_of, moved, number_moved, top};
 ghost use Rattle.pkops.specs.Inst.{instruction_of};
 ghost use Rattle.pkops.specs.Operands.{memo_number};
 
 use crate::effect::{Class, Move};
 use crate::machine::config::MachineConfig;
-use crate::machine::memo::MemoTable;
-use crate::machine::moves::apply;
 use crate::machine::new_text::make_text;
 use crate::machine::operate::{Spelled, StepError, lines_of, operate_named, operate_unnamed};
 use crate::machine::packed::PackedValue;
-use crate::machine::stack::Stack;
+use crate::machine::stack::{MemoTable, Stack};
 use crate::policy::Permit;
 use pkimport::{ImportList, ImportTable, Imports};
 use pkops::{Inst, Limits, Op, Reason};
+use pkstack::apply;
 use std::alloc::{AllocError, Global};
 use std::marker::Model;
 use std::mem;

@@ -6,7 +6,7 @@ ghost use Rattle.pkcheck.specs.Knowledge.{stop_learned};
 ghost use Rattle.pkcheck.specs.Private.Actions.{IsOperation};
 ghost use Rattle.pkcheck.specs.Private.Steps.{Advances, HasReadOldString, IsAdvanceFault};
 ghost use Rattle.pkcheck.specs.Private.Steps.{IsOldString, IsStepFault, LeadsTo};
-ghost use Rattle.pkcheck.specs.Shape.{top};
+ghost use Rattle.pkstack.specs.Shape.{top};
 ghost use Rattle.pkcheck.specs.View.{texts_after};
 ghost use Rattle.pkops.specs.Inst.{instruction_of};
 ghost use Rattle.pkcheck.specs.Policies.{permit_of};

@@ -7,7 +7,7 @@ use Rattle.std.specs.Cmp.{nat_cmp_is}
 use Rattle.std.specs.Map.{lookup}
 use Rattle.std.specs.BTreeMap.{insert_entry, is_at}
 use Rattle.std.proofs.Math.ListN.{set}
-use Rattle.pkcheck.specs.Shape.{recalled, stored}
+use Rattle.pkstack.specs.Shape.{recalled, stored}
 use Rattle.pkjson.specs.Private.Cells.{numbered_cells}
 
 equal_cmp : (n k : ℕ) → n ≡ k → nat_cmp n k ≡ Equal

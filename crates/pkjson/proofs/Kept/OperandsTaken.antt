@@ -5,11 +5,11 @@ use Rattle.std.proofs.Common.{subst}
 use Rattle.std.specs.Ordering.{nat_cmp, match_ordering, is_eq}
 use Rattle.std.specs.declared.cmp.Ordering.{Ordering}
 use Rattle.std.specs.declared.cmp.Ordering.TheVariants.{Less, Equal, Greater}
-use Rattle.pkcheck.specs.declared.effect.Takes.{Takes as TakesOf}
-use Rattle.pkcheck.specs.declared.effect.Takes.TheVariants as takes
-use Rattle.pkcheck.specs.Shape.{Breach, Entry, Mark, Item, Shape, Taken, and_then, unless, breaks}
-use Rattle.pkcheck.specs.Shape.{items, slice, operands, top, stored, recalled, fetched, popped}
-use Rattle.pkcheck.specs.Shape.{moved}
+use Rattle.pkstack.specs.declared.Takes.{Takes as TakesOf}
+use Rattle.pkstack.specs.declared.Takes.TheVariants as takes
+use Rattle.pkstack.specs.Shape.{Breach, Entry, Mark, Item, Shape, Taken, and_then, unless, breaks}
+use Rattle.pkstack.specs.Shape.{items, slice, operands, top, stored, recalled, fetched, popped}
+use Rattle.pkstack.specs.Shape.{moved}
 use Rattle.pkjson.specs.declared.action.Move.{Move}
 use Rattle.pkjson.specs.declared.action.Move.TheVariants as move
 use Rattle.pkjson.specs.declared.action.Takes.{Takes}

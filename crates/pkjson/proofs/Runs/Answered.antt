@@ -9,7 +9,7 @@ use Rattle.serde_json.specs.declared.value.Value.{Value}
 use Rattle.pkops.specs.Limits.{Bounds}
 use Rattle.pkops.specs.Spelling.{Instruction}
 use Rattle.pkcheck.specs.Effects.{effect_of}
-use Rattle.pkcheck.specs.Shape.{Entry, top}
+use Rattle.pkstack.specs.Shape.{Entry, top}
 use Rattle.pkjson.specs.declared.action.Action.TheVariants.{Stops}
 use Rattle.pkjson.specs.declared.arena.Arena.{Arena as Held}
 use Rattle.pkjson.specs.declared.error.ExportError.{ExportError}

@@ -10,7 +10,7 @@ use Rattle.pkops.specs.Spelling.{Argument, Instruction, instruction, spelling}
 use Rattle.pkread.specs.Sequence.{spellings}
 use Rattle.pkcheck.specs.Effects as effect
 use Rattle.pkcheck.specs.Effects.{effect_of}
-use Rattle.pkcheck.specs.Shape.{Entry, top}
+use Rattle.pkstack.specs.Shape.{Entry, top}
 use Rattle.pkjson.specs.declared.action.Action.{Action}
 use Rattle.pkjson.specs.declared.action.Action.TheVariants.{Stops}
 use Rattle.pkjson.specs.declared.arena.Arena.{Arena as Held}

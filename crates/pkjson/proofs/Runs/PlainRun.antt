@@ -14,7 +14,7 @@ use Rattle.pkcheck.specs.declared.effect.Gives.TheVariants as gives
 use Rattle.pkcheck.specs.declared.effect.Names.TheVariants.{NoName}
 use Rattle.pkcheck.specs.declared.effect.Wanted.TheVariants.{WantsList, WantsDict}
 use Rattle.pkcheck.specs.Effects.{Effect, effect_of}
-use Rattle.pkcheck.specs.Shape.{Breach, Entry, Taken, operands, top}
+use Rattle.pkstack.specs.Shape.{Breach, Entry, Taken, operands, top}
 use Rattle.pkcheck.specs.Runs.{Object, State, Stepped, WentOn, Raised, Stopped, Stuck, step}
 use Rattle.pkcheck.specs.Runs.{perform, operate_step, effect_asks, class_at, start}
 use Rattle.pkcheck.specs.WholeRuns.{Ended, EndedBy, EndsWell, run, go_on, outcomes_after}

@@ -12,8 +12,8 @@ use Rattle.pkcheck.specs.declared.effect.Gives.TheVariants as gives
 use Rattle.pkcheck.specs.declared.effect.Names.TheVariants.{NoName}
 use Rattle.pkcheck.specs.declared.effect.Wanted.TheVariants.{WantsList, WantsDict}
 use Rattle.pkcheck.specs.Effects.{Effect, effect_of}
-use Rattle.pkcheck.specs.Shape.{Breach, Entry, Mark, Item, Shape, Taken, and_then, operands, moved}
-use Rattle.pkcheck.specs.Shape.{front, top}
+use Rattle.pkstack.specs.Shape.{Breach, Entry, Mark, Item, Shape, Taken, and_then, operands, moved}
+use Rattle.pkstack.specs.Shape.{front, top}
 use Rattle.pkcheck.specs.Runs.{ObjectClass, Text, Plain, Object, Did, State, Stepped, WentOn}
 use Rattle.pkcheck.specs.Runs.{Raised, Stopped, Stuck, step, perform, operate_step, move_step}
 use Rattle.pkcheck.specs.Runs.{stop_step, class_at, text, int_or_bool}

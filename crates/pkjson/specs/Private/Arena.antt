@@ -2,7 +2,7 @@
 use Rattle.std.specs.Prelude.{ℕ, zero, suc, Bool, true, false, cond, List, [], ◌∷◌, ◌++◌, Option}
 use Rattle.std.specs.Prelude.{Some, None, option_map, slice_get}
 use Rattle.serde_json.specs.Data.{string}
-use Rattle.pkcheck.specs.Shape.{Shape}
+use Rattle.pkstack.specs.Shape.{Shape}
 use Rattle.pkjson.specs.Unfolds.{Heap}
 use Rattle.pkjson.specs.Contents.{Kind, OfItems, OfPairs, OfValue, held_by}
 

@@ -1,6 +1,6 @@
 -- What a `Halt` means for its step.
 use Rattle.std.specs.Prelude.{◌≡◌, Bool, false, Some, Result}
-use Rattle.pkcheck.specs.Shape.{Breach}
+use Rattle.pkstack.specs.Shape.{Breach}
 use Rattle.pkjson.specs.declared.halt.Halt.{Halt}
 use Rattle.pkjson.specs.declared.halt.Halt.TheVariants.{OtherKey, LargeNumber, Lacks, OutOfMemory}
 use Rattle.pkops.specs.Spelling.{Instruction}

@@ -1,6 +1,6 @@
 -- When the arena matches the state of a run.
 use Rattle.std.specs.Prelude.{◌≡◌, ◌<◌, ℕ, List, [], ◌∷◌, length}
-use Rattle.pkcheck.specs.Shape.{Entry, Mark, Item, Shape}
+use Rattle.pkstack.specs.Shape.{Entry, Mark, Item, Shape}
 use Rattle.pkcheck.specs.Runs.{Event, State, class_at}
 use Rattle.pkjson.specs.Contents.{kinds, all_given}
 use Rattle.pkjson.specs.Plain.{is_known_text}

@@ -10,13 +10,13 @@ use Rattle.pkcheck.specs.Effects.{Effect}
 use Rattle.pkcheck.specs.Effects as effect
 use Rattle.pkcheck.specs.declared.effect.Gives.{Gives}
 use Rattle.pkcheck.specs.declared.effect.Gives.TheVariants as gives
-use Rattle.pkcheck.specs.declared.effect.Move.{Move as MoveOf}
-use Rattle.pkcheck.specs.declared.effect.Move.TheVariants as moves
+use Rattle.pkstack.specs.declared.Move.{Move as MoveOf}
+use Rattle.pkstack.specs.declared.Move.TheVariants as moves
 use Rattle.pkcheck.specs.declared.effect.Names.TheVariants.{NoName}
-use Rattle.pkcheck.specs.declared.effect.Takes.{Takes as TakesOf}
-use Rattle.pkcheck.specs.declared.effect.Takes.TheVariants as takes
+use Rattle.pkstack.specs.declared.Takes.{Takes as TakesOf}
+use Rattle.pkstack.specs.declared.Takes.TheVariants as takes
 use Rattle.pkcheck.specs.declared.effect.Wanted.TheVariants.{WantsList, WantsDict}
-use Rattle.pkcheck.specs.Shape.{Breach, Entry, Item, Taken, and_then, items, slice, front, moved}
+use Rattle.pkstack.specs.Shape.{Breach, Entry, Item, Taken, and_then, items, slice, front, moved}
 use Rattle.pkjson.specs.declared.action.Action.{Action}
 use Rattle.pkjson.specs.declared.action.Action.TheVariants.{Makes, Fills, Moves, Stops}
 use Rattle.pkjson.specs.declared.action.Filled.{Filled}

@@ -1,7 +1,7 @@
 -- What the arena's fields stand for.
 use Rattle.std.specs.Prelude.{◌≡◌, ◌≤◌, ◌<◌, ◌+◌, ℕ, List, [], ◌∷◌, length, map, take, drop, Option}
 use Rattle.std.specs.Prelude.{Some, None, Result, Ok, string_bytes}
-use Rattle.pkcheck.specs.Shape.{Breach, Entry, Mark, Item, Shape, Taken}
+use Rattle.pkstack.specs.Shape.{Breach, Entry, Mark, Item, Shape, Taken}
 use Rattle.serde_json.specs.Data.{null, boolean, number, string}
 use Rattle.serde_json.specs.Find.{of_integer}
 use Rattle.pkjson.specs.declared.objects.Object.{Object}

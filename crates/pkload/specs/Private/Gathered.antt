@@ -1,9 +1,9 @@
 -- What is gathered of operands, from the top down.
 use Rattle.std.specs.Prelude.{◌≡◌, ◌+◌, ℕ, max, min, List, [], ◌∷◌, length, Bool, true, false, not}
 use Rattle.std.specs.Prelude.{if◌then◌else◌, None}
-use Rattle.pkcheck.specs.Shape.{breaks, is_even}
-use Rattle.pkcheck.specs.declared.effect.Takes.{Takes}
-use Rattle.pkcheck.specs.declared.effect.Takes.TheVariants.{Objects, Slice, SliceAndReceiver}
+use Rattle.pkstack.specs.Shape.{breaks, is_even}
+use Rattle.pkstack.specs.declared.Takes.{Takes}
+use Rattle.pkstack.specs.declared.Takes.TheVariants.{Objects, Slice, SliceAndReceiver}
 use Rattle.pkops.specs.declared.Op.{Op}
 use Rattle.pkops.specs.declared.Op.TheVariants as op
 use Rattle.pkload.specs.declared.keying.Keying.{Keying}

@@ -3,7 +3,7 @@ use Rattle.std.proofs.Common.{◌≡◌, ℕ, List, [], ◌∷◌, ◌++◌, Opt
 use Rattle.std.proofs.Common.{IfOk, refl, ap, subst, sym, ◌∙◌}
 use Rattle.std.specs.Prelude.{⊤, ◌≢◌}
 use Rattle.pkcheck.specs.Reports.{Report}
-use Rattle.pkcheck.specs.Shape.{Breach, and_then}
+use Rattle.pkstack.specs.Shape.{Breach, and_then}
 use Rattle.pkcheck.specs.declared.loading.Memo.{Memo}
 use Rattle.pkload.specs.Private.Told.{Metering, all_metered, metered}
 use Rattle.pkload.specs.Tolls.{Exceeds, KeepsWithin, unlimited}

@@ -1,6 +1,6 @@
 -- What the codes on the stack stand for.
 use Rattle.std.specs.Prelude.{ℕ, if◌then◌else◌, nat_eq, List, [], ◌∷◌}
-use Rattle.pkcheck.specs.Shape.{Entry, Mark, Item}
+use Rattle.pkstack.specs.Shape.{Entry, Mark, Item}
 use Rattle.pkload.specs.Heft.{Heft}
 use Rattle.pkload.specs.Private.Packed.{unpacked}
 

@@ -4,7 +4,7 @@ use Rattle.std.specs.Prelude.{Result, Ok, Err}
 use Rattle.pkops.specs.declared.Op.{Op}
 use Rattle.pkops.specs.declared.Op.TheVariants as op
 use Rattle.pkcheck.specs.Reports.{Report, Skipped, Told, Whole}
-use Rattle.pkcheck.specs.Shape.{Breach, Item, NoItem, and_then}
+use Rattle.pkstack.specs.Shape.{Breach, Item, NoItem, and_then}
 use Rattle.pkcheck.specs.declared.loading.Memo.{Memo}
 use Rattle.pkcheck.specs.declared.loading.Memo.TheVariants.{Fresh, Kept}
 use Rattle.pkload.specs.Bill.{Bill, billed, next_bill, no_bill}

@@ -1,7 +1,7 @@
 //! Operations on objects.
 
 ghost use Rattle.std.specs.Prelude.{◌≡◌, ◌+◌, ◌≤◌, ◌++◌, List, IfOk, Ok, OnOk, false, true};
-ghost use Rattle.pkcheck.specs.Shape.{operands, put};
+ghost use Rattle.pkstack.specs.Shape.{operands, put};
 ghost use Rattle.pkload.specs.Heft.{Heft};
 ghost use Rattle.pkload.specs.Memory.{text_memory};
 ghost use Rattle.pkload.specs.Private.Billing.{CountsKeys, heft_pushed, operated_on, pushed};

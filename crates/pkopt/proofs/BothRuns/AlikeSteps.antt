@@ -5,10 +5,10 @@ use Rattle.pkops.specs.Spelling.{Instruction}
 use Rattle.pkcheck.specs.declared.effect.Names.{Names}
 use Rattle.pkcheck.specs.declared.effect.Gives.{Gives}
 use Rattle.pkcheck.specs.Effects.{Effect, Operates, Moves, Stops, Raises}
-use Rattle.pkcheck.specs.declared.effect.Move.TheVariants.{PushesMark, Pops, PopsMark, Duplicates}
-use Rattle.pkcheck.specs.declared.effect.Move.TheVariants.{Stores, StoresNext, Fetches, Passes}
-use Rattle.pkcheck.specs.declared.effect.Move.TheVariants.{Extends}
-use Rattle.pkcheck.specs.Shape.{Breach, Entry, Item, Taken, and_then, slice, operands, top, popped}
+use Rattle.pkstack.specs.declared.Move.TheVariants.{PushesMark, Pops, PopsMark, Duplicates}
+use Rattle.pkstack.specs.declared.Move.TheVariants.{Stores, StoresNext, Fetches, Passes}
+use Rattle.pkstack.specs.declared.Move.TheVariants.{Extends}
+use Rattle.pkstack.specs.Shape.{Breach, Entry, Item, Taken, and_then, slice, operands, top, popped}
 use Rattle.pkcheck.specs.Runs.{Import, State, Outcome, Raise, Go, Stepped, WentOn, Raised, Stopped}
 use Rattle.pkcheck.specs.Runs.{Stuck, Named, NoImport, Pair, NotTexts, class_at, named, with_event}
 use Rattle.pkcheck.specs.Runs.{asks, come_of, operated, move_step, stop_step, operate_step, perform}

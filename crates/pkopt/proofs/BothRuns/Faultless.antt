@@ -26,7 +26,7 @@ use Rattle.pkcheck.specs.RowRuns.{Afresh, Arrives}
 use Rattle.pkcheck.specs.RunFaults.{HasRunFault, RunsBehind}
 use Rattle.pkcheck.specs.Runs.{Event, State, Outcome, Raise, Stepped, WentOn, Raised, Stopped}
 use Rattle.pkcheck.specs.Runs.{Stuck, effect_asks, move_step, perform, start, step}
-use Rattle.pkcheck.specs.Shape.{Breach, Entry, Shape, moved}
+use Rattle.pkstack.specs.Shape.{Breach, Entry, Shape, moved}
 use Rattle.pkcheck.specs.WholeRuns.{Ended, EndedBy, EndsWell, Reached, Sound, first_outcome, go_on}
 use Rattle.pkcheck.specs.WholeRuns.{outcomes_after, run}
 use Rattle.pkopt.specs.Faultless.{StaysFaultless}

@@ -12,7 +12,7 @@ use Rattle.pkops.specs.declared.Op.TheVariants as op
 use Rattle.pkread.specs.Admission.{IsAllowedBy}
 use Rattle.pkread.specs.Rows.{all_bytes}
 use Rattle.pkread.specs.Sequences.{OneSequence}
-use Rattle.pkcheck.specs.declared.effect.Move.{Move}
+use Rattle.pkstack.specs.declared.Move.{Move}
 use Rattle.pkcheck.specs.declared.OldStrings.TheVariants.{Unknown}
 use Rattle.pkcheck.specs.ButForLimits.{IsFaultlessButForLimits, RefusedForLimits}
 use Rattle.pkcheck.specs.Effects.{Moves, effect_of}

@@ -11,10 +11,10 @@ use Rattle.pkops.specs.declared.Op.{Op}
 use Rattle.pkops.specs.declared.Op.TheVariants as op
 use Rattle.pkops.specs.Spelling.{Instruction}
 use Rattle.pkops.specs.Operands.{memo_number}
-use Rattle.pkcheck.specs.declared.effect.Move.TheVariants.{Stores, StoresNext, Fetches, Passes}
+use Rattle.pkstack.specs.declared.Move.TheVariants.{Stores, StoresNext, Fetches, Passes}
 use Rattle.pkcheck.specs.Effects.{Effect, Moves, effect_of}
 use Rattle.pkcheck.specs.Ends.{IsFree, SameEnd}
-use Rattle.pkcheck.specs.Shape.{Entry, Mark, Item, recalled, fetched}
+use Rattle.pkstack.specs.Shape.{Entry, Mark, Item, recalled, fetched}
 use Rattle.pkcheck.specs.Runs.{Object, Event, State, Outcome, move_step, perform, effect_asks}
 use Rattle.pkcheck.specs.Runs.{start}
 use Rattle.pkcheck.specs.WholeRuns.{first_outcome, outcomes_after, go_on, run}

@@ -4,7 +4,7 @@ use Rattle.std.proofs.Common.{refl, sym, ap, subst, ◌∙◌, arith, append-nil
 use Rattle.std.specs.Prelude.{OnOk}
 use Rattle.pkops.specs.declared.Op.{Op}
 use Rattle.pkops.specs.declared.Op.TheVariants as op
-use Rattle.pkcheck.specs.declared.effect.Move.TheVariants as move
+use Rattle.pkstack.specs.declared.Move.TheVariants as move
 use Rattle.pkcheck.specs.Effects.{Moves, effect_of}
 use Rattle.pkopt.specs.declared.memo.MemoUse.TheVariants.{Stores, StoresNext, Fetches}
 use Rattle.pkopt.specs.declared.memo.Memo.{Memo}

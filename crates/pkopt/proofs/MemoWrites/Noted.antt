@@ -8,7 +8,7 @@ use Rattle.std.proofs.lemmas.Bool.Decides.{eqb_tells}
 use Rattle.std.proofs.lemmas.List.{get_or-set_other, get_or-set_same, get_or_append_left}
 use Rattle.std.proofs.lemmas.List.{length-set}
 use Rattle.std.proofs.Math.Seq.{get_or-append_seam}
-use Rattle.pkcheck.specs.Shape.{recalled, stored}
+use Rattle.pkstack.specs.Shape.{recalled, stored}
 use Rattle.pkopt.specs.Private.Memories.{Remembers, write_held}
 use Rattle.pkopt.specs.Writers.{Writes, last_write, different, more_if_none}
 use Rattle.pkopt.proofs.MemoWrites.Recalled.{recalled_same, recalled_other, rising_insert}

@@ -7,7 +7,7 @@ use Rattle.std.specs.declared.cmp.Ordering.{Ordering}
 use Rattle.std.specs.declared.cmp.Ordering.TheVariants.{Less, Equal, Greater}
 use Rattle.std.proofs.lemmas.Cmp.{ranked}
 use Rattle.std.specs.BTreeMap.{insert_entry}
-use Rattle.pkcheck.specs.Shape.{recalled}
+use Rattle.pkstack.specs.Shape.{recalled}
 use Rattle.pkopt.specs.Private.Traces.{Above, Rising}
 use Rattle.pkopt.specs.Writers.{more_if_none}
 

@@ -9,7 +9,7 @@ use Rattle.std.proofs.lemmas.Bool.Decides.{eqb_tells}
 use Rattle.pkopt.specs.declared.memo.Memo.{Memo}
 use Rattle.pkopt.specs.Private.Memories.{HoldsWrites, Notes, Remembers, first_writes, numbers_held}
 use Rattle.pkopt.specs.Private.Memories.{last_held, row_by, row_of}
-use Rattle.pkcheck.specs.Shape.{recalled}
+use Rattle.pkstack.specs.Shape.{recalled}
 use Rattle.pkopt.specs.Writers.{Writes}
 use Rattle.pkopt.proofs.MemoWrites.Noted.{begin_at, none_remembered, note_behind_row}
 

@@ -12,7 +12,7 @@ use Rattle.pkops.specs.Spelling.{Instruction, instruction, Suits, layout_at, lai
 use Rattle.pkops.specs.Table.{code_of}
 use Rattle.pkread.specs.Admission.{IsAllowed}
 use Rattle.pkread.specs.Sequence.{spellings}
-use Rattle.pkcheck.specs.declared.effect.Move.TheVariants.{Stores, StoresNext, Fetches}
+use Rattle.pkstack.specs.declared.Move.TheVariants.{Stores, StoresNext, Fetches}
 use Rattle.pkcheck.specs.Effects.{Effect, Moves, effect_of}
 use Rattle.pkopt.specs.Private.Fronts.{EndsInStop}
 use Rattle.pkopt.specs.Private.FrameBytes.{head_length, framed_bytes}

@@ -14,7 +14,7 @@ use Rattle.pkread.specs.Framing.{FirstUnframed, CountingIsExact}
 use Rattle.pkread.specs.Genops.{is_stop}
 use Rattle.pkread.specs.Pieces.{role_of, number_of, piece_of}
 use Rattle.pkread.specs.Sequence.{spellings}
-use Rattle.pkcheck.specs.declared.effect.Move.TheVariants.{Stores, StoresNext, Fetches}
+use Rattle.pkstack.specs.declared.Move.TheVariants.{Stores, StoresNext, Fetches}
 use Rattle.pkcheck.specs.Effects.{Effect, Moves, effect_of}
 use Rattle.pkcheck.specs.Ends.{SameEnd}
 use Rattle.pkcheck.specs.Runs.{State, Outcome, start}

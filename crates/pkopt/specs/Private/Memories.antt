@@ -1,7 +1,7 @@
 -- The memo that the first pass keeps, compared with the writes so far.
 use Rattle.std.specs.Prelude.{◌≡◌, ℕ, zero, suc, ◌+◌, ◌-◌, ◌<◌, ◌≤◌, cond, ltb, nat_eq, List, []}
 use Rattle.std.specs.Prelude.{◌∷◌, ◌++◌, ◌≢◌, length, Option, Some, None, slice_index_or}
-use Rattle.pkcheck.specs.Shape.{recalled}
+use Rattle.pkstack.specs.Shape.{recalled}
 use Rattle.pkopt.specs.declared.memo.Memo.{Memo}
 use Rattle.pkopt.specs.Private.Traces.{Rising}
 use Rattle.pkopt.specs.Writers.{Writes, last_write, different}

@@ -1,6 +1,6 @@
 -- The memo of a run, or its counterpart in the code, compared with the writes so far.
 use Rattle.std.specs.Prelude.{◌≡◌, ℕ, ◌<◌, List, [], ◌∷◌, length}
-use Rattle.pkcheck.specs.Shape.{recalled}
+use Rattle.pkstack.specs.Shape.{recalled}
 use Rattle.pkopt.specs.Writers.{Writes, last_write, different}
 
 -- each number is greater than this one

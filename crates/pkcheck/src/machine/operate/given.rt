@@ -1,8 +1,8 @@
 //! Replaces the operands of an operation with its result.
 ghost use Rattle.std.specs.Prelude.{◌≡◌, ◌<◌, ◌≤◌, ◌+◌, ◌++◌, length, IfErr, OnOk, IsSome, None};
-ghost use Rattle.pkcheck.specs.Private.Places.{above, below};
-ghost use Rattle.pkcheck.specs.Shape.{front, marks_of, put};
-ghost use Rattle.pkcheck.specs.Private.StepErrors.{WantsRoom};
+ghost use Rattle.pkstack.specs.Places.{above, below};
+ghost use Rattle.pkstack.specs.Shape.{front, marks_of, put};
+ghost use Rattle.pkstack.specs.Faults.{WantsRoom};
 
 use crate::machine::packed::PackedValue;
 use crate::machine::stack::Stack;

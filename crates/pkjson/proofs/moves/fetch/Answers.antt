@@ -1,6 +1,6 @@
 -- A number that the memo doesn't have is what a fetch lacks.
 use Rattle.std.proofs.Common.{sym, ap, ◌∙◌}
-use Rattle.pkcheck.specs.Shape.{NoMemo, fetched}
+use Rattle.pkstack.specs.Shape.{NoMemo, fetched}
 use Rattle.pkjson.specs.Private.Seen.{shape_seen}
 use Rattle.pkjson.proofs.moves.fetch.Goals as goal
 

@@ -1,7 +1,7 @@
 -- The slice of all slots is that of the lower ones, with the objects passed above them.
 use Rattle.std.proofs.Common.{◌≡◌, ◌≤◌, [], length, take, drop}
 use Rattle.pkjson.specs.Private.Seen.{seen_entries, numbers_of}
-use Rattle.pkcheck.specs.Shape.{slice}
+use Rattle.pkstack.specs.Shape.{slice}
 use Rattle.pkjson.proofs.slots.mark_place.Given as goal
 
 abbrev pub invariant-loop-place : goal.invariant-loop-place

@@ -1,7 +1,7 @@
 -- The objects passed are the topmost items, and the lower slots must have the rest.
 use Rattle.std.proofs.Common.{◌≡◌, ◌≤◌, ◌-◌, [], length, take, drop}
 use Rattle.pkjson.specs.Private.Seen.{seen_entries, numbers_of}
-use Rattle.pkcheck.specs.Shape.{items}
+use Rattle.pkstack.specs.Shape.{items}
 use Rattle.pkjson.proofs.slots.objects_place.Given as goal
 
 abbrev pub invariant-loop-k : goal.invariant-loop-k

@@ -1,6 +1,6 @@
 -- The slice of the stack is that of what is left, below the objects taken so far.
 use Rattle.std.proofs.Common.{◌≡◌, ◌+◌, [], List, length}
-use Rattle.pkcheck.specs.Shape.{slice}
+use Rattle.pkstack.specs.Shape.{slice}
 use Rattle.pkload.specs.Heft.{Heft}
 use Rattle.pkload.proofs.gathering.drop_slice.Given as goal
 

@@ -1,6 +1,6 @@
 -- Keys and values go in pairs; light keys are only counted until the mark, others added at once.
 use Rattle.std.proofs.Common.{◌≡◌, ◌+◌, ◌≤◌, true, [], List, length}
-use Rattle.pkcheck.specs.Shape.{is_even, slice}
+use Rattle.pkstack.specs.Shape.{is_even, slice}
 use Rattle.pkload.specs.Heft.{Heft}
 use Rattle.pkload.specs.Keys.{every_other}
 use Rattle.pkload.specs.Private.Gathered.{with_lights}

@@ -1,6 +1,6 @@
 -- The operands so far are those of the slice that left the stack, and are tallied as they are.
 use Rattle.std.proofs.Common.{◌≡◌, ◌≤◌, [], List, length}
-use Rattle.pkcheck.specs.Shape.{slice}
+use Rattle.pkstack.specs.Shape.{slice}
 use Rattle.pkload.specs.Heft.{Heft}
 use Rattle.pkload.specs.Private.Gathered.{AreOf, IsTallied}
 use Rattle.pkload.specs.declared.keying.Keying.{Keying}

@@ -1,7 +1,7 @@
 -- Taking a slice into operands that tally nothing is popping it with its mark.
 use Rattle.std.proofs.Common.{Ok, ap}
 use Rattle.std.proofs.lemmas.Result.{on_ok_weaker}
-use Rattle.pkcheck.specs.Shape.{and_then}
+use Rattle.pkstack.specs.Shape.{and_then}
 use Rattle.pkload.proofs.moves.pop_mark.Goals as goal
 
 pub returns : goal.returns

@@ -7,4 +7,5 @@ pub returns-in_ok-operands_named-in-OfOperands-clause-within
     : goal.returns-in_ok-operands_named-in-OfOperands-clause-within
 returns-in_ok-operands_named-in-OfOperands-clause-within c count h =
     let n = subst (AreNumbered count) c.in-Some-pair.ensures h in
-    c.in_ok-operands_named-in-OfOperands.ensures.within count n.0 n.1.0
+    c.in_ok-operands_named-in-OfOperands.ensures.within count
+    (rw c.value.ensures n.0) (rw c.value-in-OfOperands.ensures n.1.0)

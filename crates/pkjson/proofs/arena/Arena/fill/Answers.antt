@@ -1,7 +1,7 @@
 -- The receiver lies below its operands, and just these are given to it.
 use Rattle.std.proofs.Common.{◌≡◌, ℕ, List, [], ◌<◌, sym, ap, subst, ◌∙◌, length, Some, Ok, Result}
 use Rattle.std.proofs.Common.{refl}
-use Rattle.pkcheck.specs.Shape.{Breach, Entry, and_then}
+use Rattle.pkstack.specs.Shape.{Breach, Entry, and_then}
 use Rattle.pkjson.specs.Private.PlainActions.{found_above, filled_of}
 use Rattle.pkjson.specs.Private.Arena.{Arena, Kept}
 use Rattle.pkjson.specs.Private.Held.{parts}

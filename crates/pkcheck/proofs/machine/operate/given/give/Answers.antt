@@ -1,7 +1,7 @@
 -- A first operand that stays is an object, so ending with it leaves the marks below it.
 use Rattle.std.proofs.Common.{◌∙◌, ap, sym}
-use Rattle.pkcheck.specs.Private.Places.{above, below}
-use Rattle.pkcheck.specs.Shape.{marks_of}
+use Rattle.pkstack.specs.Places.{above, below}
+use Rattle.pkstack.specs.Shape.{marks_of}
 use Rattle.pkcheck.specs.declared.machine.value.Value.{Value}
 use Rattle.pkcheck.proofs.Places.{front_marks}
 use Rattle.pkcheck.proofs.machine.operate.given.give.Goals as goal

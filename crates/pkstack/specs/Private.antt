@@ -1,0 +1,2 @@
+-- Internal definitions, which need not be trusted.
+pub mod Slots

@@ -1,0 +1,82 @@
+//! The operands of an operation.
+ghost use Rattle.pkstack.specs.Private.Slots.{values_of};
+ghost use Rattle.std.specs.Prelude.{◌≡◌, ◌≢◌, [], ◌∷◌, ◌≤◌, drop, length, MatchOption};
+ghost use Rattle.std.specs.List.{slice_get};
+
+use crate::stack::slots::{Slot, count_objects};
+use std::marker::Model;
+
+/// The operands of an operation, from the bottom up. Marks among the entries do not count.
+#[derive(Drop)]
+pub struct Operands<'a, V> {
+    slots: &'a [Slot<V>],
+}
+
+impl<'a, V> Model for Operands<'a, V> {
+    ghost use Rattle.std.specs.Prelude.{List};
+    ghost use Rattle.pkstack.specs.Private.Slots.{values_of};
+
+    ghost Value = { List V };
+
+    ghost view = { λ o. values_of o.slots.now };
+}
+
+impl<'a, V: Copy + Drop> Operands<'a, V> {
+    /// The objects among the entries from a place on.
+    #[inline(always)]
+    pub(crate) fn from(slots: &'a [Slot<V>], place: usize) -> Operands<'a, V>
+        requires { place ≤ length slots.now }
+        ensures { result ≡ values_of (drop place slots.now) }
+    {
+        Operands {
+            slots: &slots[place..],
+        }
+    }
+
+    /// The first object. The lowest entry usually is one. If it is a mark, a search finds the
+    /// object.
+    #[inline(always)]
+    pub fn first(&self) -> Option<V>
+        ensures { result ≡ slice_get self.now 0 }
+    {
+        if self.slots.is_empty() {
+            return None;
+        }
+        match self.slots[0] {
+            Slot::Object(value) => Some(value),
+            Slot::Mark => self.get(0),
+        }
+    }
+
+    /// The object at an index, counted from 0; `None` past the last.
+    pub fn get(&self, index: usize) -> Option<V>
+        ensures { result ≡ slice_get self.now index }
+    {
+        let mut before: usize = 0;
+        for slot in self.slots {
+            if let Slot::Object(value) = *slot {
+                if before == index {
+                    return Some(value);
+                }
+                before += 1;
+            }
+        }
+        None
+    }
+
+    /// Both objects, if there are exactly two.
+    pub fn pair(&self) -> Option<(V, V)>
+        ensures { MatchOption result (length self.now ≢ 2) (λ p. self.now ≡ p.0 ∷ p.1 ∷ []) }
+    {
+        if count_objects(self.slots) != 2 {
+            return None;
+        }
+        let Some(first) = self.get(0) else {
+            return None;
+        };
+        let Some(second) = self.get(1) else {
+            return None;
+        };
+        Some((first, second))
+    }
+}
