@@ -1,5 +1,6 @@
 /* The extension module of the package storklocker, for Python's stable ABI. It passes arguments to
    the functions of storklocker.h and converts their answers. It decides nothing. */
+#include "arena.h"
 #include "pairs.h"
 #include "walk.h"
 
@@ -49,14 +50,27 @@ static int parse(
     return r->made == Py_None || parse_settings(r->made, &r->others);
 }
 
-/* Releases the GIL if there are many bytes to check. */
+/* How many calls of the library run without the GIL. It changes under the GIL alone. */
+static size_t unlocked;
+
+/* Releases the GIL if there are many bytes to check. Otherwise, and if no other call is running,
+   this one is alone until it ends, and takes its blocks from the arena. */
 static PyThreadState *lock_released(const struct request *r) {
-    return r->length >= LOCK_KEPT_BELOW ? PyEval_SaveThread() : NULL;
+    if (r->length >= LOCK_KEPT_BELOW) {
+        unlocked++;
+        return PyEval_SaveThread();
+    }
+    if (unlocked == 0)
+        open_arena();
+    return NULL;
 }
 
 static void take_lock(PyThreadState *thread) {
-    if (thread != NULL)
+    if (thread != NULL) {
         PyEval_RestoreThread(thread);
+        unlocked--;
+    } else
+        close_arena();
 }
 
 typedef __typeof__(storklocker_check_pairs) call_of_pairs;

@@ -35,6 +35,13 @@ class Library(unittest.TestCase):
             ran = subprocess.run([program], capture_output=True, text=True)
             self.assertEqual((ran.returncode, ran.stdout, ran.stderr), (0, "", ""), name)
 
+    @needs(COMPILER)
+    def test_the_arena_under_sanitizers(self):
+        words = [str(TESTS / "refusing.c"), *SANITIZED.split(), WRAPPED]
+        program = compiled(self.folder, TESTS / "c_arena.c", *words)
+        ran = subprocess.run([program], capture_output=True, text=True)
+        self.assertEqual((ran.returncode, ran.stdout, ran.stderr), (0, "", ""))
+
     @needs(COMPILER, ARCHIVE, "nm", "objdump")
     def test_the_shared_library(self):
         library, visible = self.folder / "libstorklocker.so.0", self.folder / "visible"

@@ -53,6 +53,31 @@ class Endurance(unittest.TestCase):
         gc.collect()
         self.assertLess(resident() - before, 1024)
 
+    def test_short_checks_beside_long_ones(self):
+        def answer(data, listed):
+            return repr(storklocker.check(data, listed))
+
+        # (memo numbers out of order, each of which takes a block or a part of one)
+        puts = b"".join(b"r" + (k * 7_919 % 1_000_003).to_bytes(4, "little") for k in range(20_000))
+        longs = [(b"]" + puts + b".", BY_TEXT), (b"]" + puts + b"h\xff.", BY_TEXT)]
+        longs, shorts = (
+            [(data, listed, answer(data, listed)) for data, listed in cases]
+            for cases in (longs, CASES)
+        )
+        wrong = []
+
+        def work(cases, count):
+            for _ in range(count):
+                wrong.extend(data for data, listed, said in cases if answer(data, listed) != said)
+
+        works = [(longs, 40), (shorts, 200), (longs, 40), (shorts, 200)]
+        threads = [threading.Thread(target=work, args=it) for it in works]
+        for thread in threads:
+            thread.start()
+        for thread in threads:
+            thread.join()
+        self.assertEqual(wrong, [])
+
     def test_a_thread_with_a_small_stack(self):
         answers = []
 
