@@ -129,6 +129,20 @@ impl<V: Copy + Drop> NumberedMap<V> {
         self.store_apart(number, value)
     }
 
+    /// Stores a value under the number of entries. It replaces the value that was there.
+    #[inline(always)]
+    pub fn store_next(&mut self, value: V) -> Result<(), AllocError>
+        ensures ok { OnOk result (self.new
+            ≡ insert_entry nat_cmp self.old (length self.old) value) }
+        ensures err { OnErr result (self.new ≡ self.old) }
+    {
+        if self.low.len() as u64 == u64::from(self.first) && self.rest.is_empty() {
+            return self.ordered.push(value);
+        }
+        let next = self.len();
+        self.store_apart(next, value)
+    }
+
     /// Stores a value as `store` does, unless the map would then have more than `most` entries.
     #[inline(always)]
     pub fn store_within(&mut self, most: u64, number: u64, value: V) -> Result<(), NotStored>

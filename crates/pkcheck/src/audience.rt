@@ -166,7 +166,11 @@ pub(crate) fn tell_lent<A: Audience>(
         return audience.tell(at, inst, marks);
     }
     if inst.op().passed() {
-        return audience.tell_skipped(at, inst.op(), inst.len(), marks);
+        // Handed on as it is, the result would keep the compiler from seeing that `tell` succeeds.
+        if let Err(error) = audience.tell_skipped(at, inst.op(), inst.len(), marks) {
+            return Err(error);
+        }
+        return Ok(());
     }
     audience.tell(at, inst, marks)
 }

@@ -25,6 +25,7 @@ pub mod SameRows
 pub mod OneEnd
 -- the machine
 pub mod Slots
+pub mod Marks
 pub mod Taking
 pub mod Lights
 -- worked rows

@@ -37,7 +37,7 @@ popped None [] ys e some = refl
 popped None (x ∷ xs) ys e some = let found : false ≡ true = some.1 (omega arith) in cc
 popped (Some code) xs ys e some = ap (λ l. shown l []) e ∙ shown_append ys (code ∷ []) []
 
-object_of : (code : ℕ) → (code ≡ 2 → ⊥) → entry_of code ≡ Item (unpacked code)
+pub object_of : (code : ℕ) → (code ≡ 2 → ⊥) → entry_of code ≡ Item (unpacked code)
 object_of code h = by_flag (nat_eq code 2) refl
   where
     by_flag : (b : Bool) → nat_eq code 2 ≡ b → entry_of code ≡ Item (unpacked code)

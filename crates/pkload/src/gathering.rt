@@ -4,7 +4,7 @@ ghost use Rattle.std.specs.Prelude.{◌≡◌, ◌≤◌, [], List, IfOk, OnOk, 
 ghost use Rattle.pkstack.specs.Shape.{breaks, items, slice};
 ghost use Rattle.pkload.specs.Heft.{Heft};
 ghost use Rattle.pkload.specs.Private.Billing.{HasOperands, HasReceiver, HasTaken};
-ghost use Rattle.pkload.specs.Private.Billing.{HasPairs, HasSlice};
+ghost use Rattle.pkload.specs.Private.Billing.{HasPairs};
 ghost use Rattle.pkload.specs.Private.Gathered.{AreOf, IsTallied};
 ghost use Rattle.pkload.specs.declared.keying.Keying.{Keying as Keys};
 ghost use Rattle.pkload.specs.declared.tally.Tally.{Tally as Counted};
@@ -79,20 +79,6 @@ pub fn take_slice(stack: &mut Stack, taken: &mut Operands) -> Result<(), Halt>
             return Ok(());
         }
         taken.add(Packed::from_code(code))?;
-    }
-    Err(Halt::Lost)
-}
-
-/// Takes the objects above the topmost mark, and the mark. Returns their number.
-#[inline(always)]
-pub fn drop_slice(stack: &mut Stack) -> Result<u64, Halt>
-    ensures { IfOk result (HasSlice stack.old stack.new) }
-{
-    let before = stack.len();
-    'objects: while let Some(code) = stack.pop() {
-        if code == MARK {
-            return Ok((before - stack.len() - 1) as u64);
-        }
     }
     Err(Halt::Lost)
 }

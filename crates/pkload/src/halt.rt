@@ -1,6 +1,6 @@
 //! Whether an instruction is billed, or why the bill can't be kept.
 
-ghost use Rattle.std.specs.Prelude.{◌≡◌, MatchBool, Ok, false, true};
+ghost use Rattle.std.specs.Prelude.{◌≡◌, Ok, false, true};
 
 /// Why the bill can't be kept.
 #[derive(Clone, Copy)]
@@ -12,35 +12,27 @@ pub enum Halt {
 }
 
 /// Whether an instruction is billed. It fits a register, where a result would lie in memory.
-#[derive(Clone, Copy)]
+#[derive(Clone, Copy, PartialEq, Eq)]
 pub enum Billing {
-    /// It is, and counts no key.
+    /// It is, and neither counts a key nor ends the pickle.
     Plain,
-    /// It is, and may count keys.
-    WithKeys,
+    /// It is, and may count keys or end the pickle.
+    Noted,
     /// It can't be.
     Failed,
 }
 
 impl Billing {
-    /// Of a result that says whether the instruction may count keys.
+    /// Of a result that says whether the instruction may count keys or end the pickle.
     #[inline(always)]
-    pub fn of(counted: Result<bool, Halt>) -> Billing
-        ensures plain { result ≡ Billing.Plain → counted ≡ Ok false }
-        ensures keys { result ≡ Billing.WithKeys → counted ≡ Ok true }
+    pub fn of(noted: Result<bool, Halt>) -> Billing
+        ensures plain { result ≡ Billing.Plain → noted ≡ Ok false }
+        ensures noted { result ≡ Billing.Noted → noted ≡ Ok true }
     {
-        match counted {
+        match noted {
             Ok(false) => Billing::Plain,
-            Ok(true) => Billing::WithKeys,
+            Ok(true) => Billing::Noted,
             Err(_) => Billing::Failed,
         }
-    }
-
-    /// Whether it is billed and counts no key.
-    #[inline(always)]
-    pub fn is_plain(self) -> bool
-        ensures { MatchBool result (self ≡ Billing.Plain) (¬ (self ≡ Billing.Plain)) }
-    {
-        matches!(self, Billing::Plain)
     }
 }

@@ -1,6 +1,6 @@
 //! The machine that keeps the bill.
 
-ghost use Rattle.std.specs.Prelude.{◌≡◌, [], IfOk, Ok, OnOk, false};
+ghost use Rattle.std.specs.Prelude.{◌≡◌, [], IfOk, Ok, OnOk, false, true};
 ghost use Rattle.pkops.specs.Inst.{instruction_of};
 ghost use Rattle.pkcheck.specs.Effects.{effect_of};
 ghost use Rattle.pkcheck.specs.Reports.{Skipped};
@@ -8,7 +8,7 @@ ghost use Rattle.pkstack.specs.Shape.{top};
 ghost use Rattle.pkload.specs.Bill.{billed, billed_by, no_bill, stop_billed};
 ghost use Rattle.pkload.specs.Heft.{heft_of};
 ghost use Rattle.pkload.specs.Memory.{operation_memory};
-ghost use Rattle.pkload.specs.Private.Billing.{IfBilled, by_move, light, pushed};
+ghost use Rattle.pkload.specs.Private.Billing.{IfBilled, IsQuiet, by_move, light, pushed};
 ghost use Rattle.pkload.specs.Private.Told.{next_in, told_billed};
 
 mod operating;
@@ -145,9 +145,9 @@ impl Machine {
         Ok(false)
     }
 
-    /// Takes the result. Returns false.
+    /// Takes the result. Returns true, since it ends the pickle.
     fn finish(&mut self) -> Result<bool, Halt>
-        ensures tally { OnOk result (self.new.tally ≡ self.old.tally) }
+        ensures ends { IfOk result (λ noted. noted ≡ true) }
         ensures billed { OnOk result (stop_billed self.old (top self.old.shape.entries)
             ≡ Ok self.new) }
     {
@@ -156,7 +156,7 @@ impl Machine {
         };
         self.memory = after_stop(self.memory)?;
         self.ended = true;
-        Ok(false)
+        Ok(true)
     }
 
     /// Executes a move. Returns false.
@@ -164,7 +164,7 @@ impl Machine {
     fn go(&mut self, what: Move, inst: &Inst<'_>) -> Result<bool, Halt>
         ensures billed { OnOk result (by_move what (instruction_of inst.now) self.old
             ≡ Ok self.new) }
-        ensures tally { OnOk result (self.new.tally ≡ self.old.tally) }
+        ensures quiet { OnOk result (IsQuiet self.old self.new) }
     {
         let number = inst.memo_number().unwrap_or(0);
         let kept = number_kept(what, number, &self.memo)?;
@@ -188,29 +188,17 @@ impl Machine {
         self.stack.push(made_plain(op, size))
     }
 
-    /// Bills an instruction.
-    #[inline(always)]
-    pub fn step(&mut self, inst: &Inst<'_>) -> Billing
-        ensures billed { IfBilled result (billed (instruction_of inst.now) self.old
-            ≡ Ok self.new) }
-        ensures counted { result ≡ Billing.Plain → self.new.tally ≡ self.old.tally }
-    {
-        if self.ended {
-            return Billing::Failed;
-        }
-        self.act(inst)
-    }
-
-    /// Does what the opcode says.
+    /// Does what the opcode of an instruction says.
     ///
     /// What is rare is out of line, and so are most operations: in a function that would grow large
     /// the compiler inlines nothing. It takes a copy of the instruction, since passing the address
     /// of the original would force that into memory in every step.
     #[inline(always)]
-    fn act(&mut self, inst: &Inst<'_>) -> Billing
-        ensures billed { IfBilled result (billed_by (effect_of (instruction_of inst.now).op)
-            (instruction_of inst.now) self.old ≡ Ok self.new) }
-        ensures counted { result ≡ Billing.Plain → self.new.tally ≡ self.old.tally }
+    pub fn step(&mut self, inst: &Inst<'_>) -> Billing
+        requires running { self.old.ended ≡ false }
+        ensures billed { IfBilled result (billed (instruction_of inst.now) self.old
+            ≡ Ok self.new) }
+        ensures quiet { result ≡ Billing.Plain → IsQuiet self.old self.new }
     {
         match action_of(inst.op()) {
             Action::Makes(more) => Billing::of(self.make(more)),
@@ -233,13 +221,12 @@ impl Machine {
         }
     }
 
-    /// Does what a rare opcode says. Returns whether it may have counted keys.
+    /// Does what a rare opcode says. Returns whether it may have counted keys or ended the pickle.
     #[inline(never)]
     fn act_rarely(&mut self, inst: &Inst<'_>) -> Result<bool, Halt>
         ensures billed { OnOk result (billed_by (effect_of (instruction_of inst.now).op)
             (instruction_of inst.now) self.old ≡ Ok self.new) }
-        ensures counted { IfOk result (λ counted. counted ≡ false
-            → self.new.tally ≡ self.old.tally) }
+        ensures quiet { IfOk result (λ noted. noted ≡ false → IsQuiet self.old self.new) }
     {
         match rare_action_of(inst.op()) {
             Action::Gives(takes) => self.operate(inst.op(), takes, false),

@@ -1,9 +1,12 @@
 //! The audience that keeps the bill.
 
-ghost use Rattle.std.specs.Prelude.{◌≡◌, IfErr, MatchOption, None, OnOk, Some, false, ltb};
+ghost use Rattle.std.specs.Prelude.{◌≡◌, ◌∷◌, [], ℕ, IfErr, MatchOption, None, OnOk, Some};
+ghost use Rattle.std.specs.Prelude.{false, ltb};
+ghost use Rattle.pkops.specs.Inst.{instruction_of};
+ghost use Rattle.pkcheck.specs.Reports.{Whole, report};
 ghost use Rattle.pkload.specs.Bill.{no_bill};
 ghost use Rattle.pkload.specs.Private.Billing.{IfBilled};
-ghost use Rattle.pkload.specs.Private.Meter.{Fits, IsUnlimited};
+ghost use Rattle.pkload.specs.Private.Meter.{Fits, IsUnlimited, Meters, StopsFor};
 ghost use Rattle.pkload.specs.Tolls.{Exceeds, unlimited};
 
 use crate::halt::Billing;
@@ -24,6 +27,8 @@ pub struct Meter {
     memo: Memo,
     excess: Option<Excess>,
     at: u64,
+    /// Whether the next instruction may be one too many, or begin another pickle.
+    pausing: bool,
 }
 
 impl Drop for Meter {
@@ -34,12 +39,13 @@ impl Drop for Meter {
             memo: _memo,
             excess: _excess,
             at: _at,
+            pausing: _pausing,
         } = self;
     }
 }
 
 impl Model for Meter {
-    ghost use Rattle.std.specs.Prelude.{◌≡◌, None};
+    ghost use Rattle.std.specs.Prelude.{◌≡◌, None, false};
     ghost use Rattle.pkload.specs.Private.Meter.{Fits, IsUnlimited, Meter as View};
     ghost use Rattle.pkload.specs.Tolls.{unlimited};
 
@@ -54,8 +60,10 @@ impl Model for Meter {
     } };
 
     // While no limit is exceeded, the bill is within the limits. Without limits none is exceeded.
+    // Where it doesn't pause, no limit is exceeded, and the pickle goes on.
     ghost invariant = { λ m. (m.excess ≡ None → Fits m.tolls m.metering)
-        × (m.tolls ≡ unlimited → IsUnlimited m.excess) };
+        × (m.tolls ≡ unlimited → IsUnlimited m.excess)
+        × (m.pausing ≡ false → (m.excess ≡ None) × (m.metering.bill.ended ≡ false)) };
 }
 
 impl Meter {
@@ -72,6 +80,7 @@ impl Meter {
             memo,
             excess: None,
             at: 0,
+            pausing: false,
         }
     }
 
@@ -83,19 +92,32 @@ impl Meter {
         self.excess
     }
 
-    /// The first limit that was exceeded, as an error. It is out of line: otherwise the compiler
-    /// keeps for each instruction whether there is one.
-    #[inline(never)]
-    fn stop(&self) -> Result<(), Excess>
-        ensures ok { OnOk result (self.now.excess ≡ None) }
-        ensures err { IfErr result (λ excess. self.now.excess ≡ Some excess) }
-        ensures unlimited { self.now.tolls ≡ unlimited
-            → IfErr result (λ excess. excess ≡ Excess.OutOfMemory) }
+    /// Tells of a copy of an instruction where the meter pauses. Passing the address of the
+    /// original would force it into memory in every step.
+    #[inline(always)]
+    fn tell_copy(&mut self, at: u64, inst: &Inst<'_>) -> Result<(), Excess>
+        ensures ok { (marks : ℕ) → OnOk result (Meters self.old self.new
+            (report at (Whole (instruction_of inst.now)) marks ∷ [])) }
+        ensures err { IfErr result (StopsFor self.old self.new) }
     {
-        match self.excess {
-            Some(excess) => Err(excess),
-            None => Ok(()),
+        let copy = Inst::known(inst.op(), inst.arg());
+        self.tell_at_pause(at, &copy)
+    }
+
+    /// Tells of an instruction where the meter pauses.
+    #[inline(never)]
+    fn tell_at_pause(&mut self, at: u64, inst: &Inst<'_>) -> Result<(), Excess>
+        ensures ok { (marks : ℕ) → OnOk result (Meters self.old self.new
+            (report at (Whole (instruction_of inst.now)) marks ∷ [])) }
+        ensures err { IfErr result (StopsFor self.old self.new) }
+    {
+        if let Some(excess) = self.excess {
+            return Err(excess);
         }
+        let billing = self.metering.bill(self.memo, inst);
+        self.at = at;
+        self.excess = excess_of(&self.tolls, &self.metering, billing, &mut self.pausing);
+        Ok(())
     }
 
     /// The number of the pickle that the instruction is in.
@@ -127,18 +149,28 @@ impl Meter {
     }
 }
 
-/// The first limit that the bill exceeds, if it could be kept.
+/// The first limit that the bill exceeds, if it could be kept. Says whether the meter pauses.
 #[inline(never)]
-fn excess_of_keys(tolls: &Tolls, metering: &Metering, billing: Billing) -> Option<Excess>
+fn excess_of(
+    tolls: &Tolls,
+    metering: &Metering,
+    billing: Billing,
+    pausing: &mut bool,
+) -> Option<Excess>
     ensures excess { IfBilled billing (MatchOption result (Fits tolls.now metering.now)
         (λ excess. Exceeds excess tolls.now metering.now.bill.tally metering.now.bill.memory)) }
     ensures failed { billing ≡ Billing.Failed → result ≡ Some Excess.OutOfMemory }
     ensures unlimited { tolls.now ≡ unlimited → IsUnlimited result }
+    ensures pausing { pausing.new ≡ false → (result ≡ None)
+        × (metering.now.bill.ended ≡ false) }
 {
+    *pausing = true;
     if matches!(billing, Billing::Failed) {
         return Some(Excess::OutOfMemory);
     }
-    tolls.excess_of(&metering.tally(), metering.memory())
+    let excess = tolls.excess_of(&metering.tally(), metering.memory());
+    *pausing = excess.is_some() || metering.ended();
+    excess
 }
 
 /// Whether the memory exceeds its limit. It is all that can do so if no key was counted.
@@ -169,35 +201,27 @@ impl Audience for Meter {
 
     #[inline(always)]
     fn tell(&mut self, at: u64, inst: &Inst<'_>, _marks: usize) -> Result<(), Excess> {
-        if let Some(_) = self.excess {
-            return self.stop();
+        if self.pausing {
+            return self.tell_copy(at, inst);
         }
-        let billing = self.metering.bill(self.memo, inst);
-        if billing.is_plain() {
-            if takes_too_much(&self.tolls, &self.metering) {
-                self.at = at;
-                self.excess = Some(Excess::MuchMemory);
-            }
-            return Ok(());
+        let billing = self.metering.bill_next(inst);
+        if billing != Billing::Plain || takes_too_much(&self.tolls, &self.metering) {
+            self.at = at;
+            self.excess = excess_of(&self.tolls, &self.metering, billing, &mut self.pausing);
         }
-        self.at = at;
-        self.excess = excess_of_keys(&self.tolls, &self.metering, billing);
         Ok(())
     }
 
     fn tell_skipped(&mut self, at: u64, op: Op, length: u64, _marks: usize) -> Result<(), Excess> {
-        if let Some(_) = self.excess {
-            return self.stop();
+        if let Some(excess) = self.excess {
+            return Err(excess);
         }
-        let Ok(()) = self.metering.bill_skipped(self.memo, op, length) else {
-            self.at = at;
-            self.excess = Some(Excess::OutOfMemory);
-            return Ok(());
+        let billing = match self.metering.bill_skipped(self.memo, op, length) {
+            Ok(()) => Billing::Noted,
+            Err(_) => Billing::Failed,
         };
-        if takes_too_much(&self.tolls, &self.metering) {
-            self.at = at;
-            self.excess = Some(Excess::MuchMemory);
-        }
+        self.at = at;
+        self.excess = excess_of(&self.tolls, &self.metering, billing, &mut self.pausing);
         Ok(())
     }
 

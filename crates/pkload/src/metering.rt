@@ -4,7 +4,8 @@ ghost use Rattle.std.specs.Prelude.{◌≡◌, IfOk, OnOk, Ok, false, true};
 ghost use Rattle.pkops.specs.Inst.{instruction_of};
 ghost use Rattle.pkcheck.specs.Reports.{Skipped, Whole};
 ghost use Rattle.pkload.specs.Bill.{no_bill};
-ghost use Rattle.pkload.specs.Private.Billing.{IfBilled};
+ghost use Rattle.pkcheck.specs.declared.loading.Memo.{Memo as Between};
+ghost use Rattle.pkload.specs.Private.Billing.{IfBilled, IsQuiet};
 ghost use Rattle.pkload.specs.Private.Told.{metered_told, next_if, ready};
 
 use crate::halt::{Billing, Halt};
@@ -56,6 +57,14 @@ impl Metering {
         self.pickle
     }
 
+    /// Whether the pickle stopped.
+    #[inline]
+    pub fn ended(&self) -> bool
+        ensures { result ≡ self.now.bill.ended }
+    {
+        self.machine.ended()
+    }
+
     /// What was counted.
     #[inline]
     pub fn tally(&self) -> Tally
@@ -97,16 +106,24 @@ impl Metering {
     }
 
     /// Bills an instruction that is told whole.
-    #[inline(always)]
     pub fn bill(&mut self, memo: Memo, inst: &Inst<'_>) -> Billing
         ensures billed { IfBilled result (metered_told memo (Whole (instruction_of inst.now))
             self.old ≡ Ok self.new) }
-        ensures counted { result ≡ Billing.Plain
-            → self.new.bill.tally ≡ (ready memo self.old).bill.tally }
     {
         let Ok(()) = self.begin(memo) else {
             return Billing::Failed;
         };
+        self.machine.step(inst)
+    }
+
+    /// Bills an instruction that is told whole, of a pickle that hasn't ended.
+    #[inline(always)]
+    pub fn bill_next(&mut self, inst: &Inst<'_>) -> Billing
+        requires running { self.old.bill.ended ≡ false }
+        ensures billed { (memo : Between) → IfBilled result
+            (metered_told memo (Whole (instruction_of inst.now)) self.old ≡ Ok self.new) }
+        ensures quiet { result ≡ Billing.Plain → IsQuiet self.old.bill self.new.bill }
+    {
         self.machine.step(inst)
     }
 

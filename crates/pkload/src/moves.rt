@@ -66,8 +66,13 @@ fn store_next(stack: &Stack, memo: &mut Memo) -> Result<(), Halt>
         (moved Move.StoresNext 0 (record { entries = stack.now; memo = memo.old })
         ≡ Ok (record { entries = stack.now; memo = memo.new })) }
 {
-    let next = memo::next_number(memo)?;
-    store(stack, memo, next)
+    let Some(heft) = stack.top() else {
+        return Err(Halt::Lost);
+    };
+    match memo.store_next(heft) {
+        Ok(()) => Ok(()),
+        Err(_) => Err(Halt::OutOfMemory),
+    }
 }
 
 /// Pushes the memo entry of a number.

@@ -1,9 +1,12 @@
 //! The stack: marks, and what objects cost.
 
-ghost use Rattle.std.specs.Prelude.{◌≡◌, [], ◌∷◌, List, length, IfSome, MatchOption, OnOk};
+ghost use Rattle.std.specs.Prelude.{◌≡◌, [], ◌∷◌, List, length, IfOk, IfSome, MatchOption};
+ghost use Rattle.std.specs.Prelude.{OnOk};
 ghost use Rattle.pkstack.specs.Shape.{Entry, Item, Mark};
 ghost use Rattle.pkload.specs.Heft.{Heft};
-ghost use Rattle.pkload.specs.Private.Shown.{entry_of};
+ghost use Rattle.pkload.specs.Private.Billing.{HasSlice};
+ghost use Rattle.pkload.specs.Private.Shown.{HasSliceAt, PassesObjects, entry_of, is_object};
+ghost use Rattle.std.specs.List.{list_all};
 
 use crate::halt::Halt;
 use crate::packed::Packed;
@@ -61,7 +64,7 @@ impl Stack {
         self.codes.clear();
     }
 
-    /// Pushes a code. Not `inline(always)`, which would count as part of `Machine::act`: that must
+    /// Pushes a code. Not `inline(always)`, which would count as part of `Machine::step`: that must
     /// stay small enough to be inlined itself.
     #[inline]
     #[tactic(auto, using(crate::proofs::Slots::shown_append))]
@@ -134,6 +137,19 @@ impl Stack {
         Ok(())
     }
 
+    /// Removes the objects above the topmost mark, and the mark. Returns the number of the objects.
+    #[inline(always)]
+    pub fn drop_slice(&mut self) -> Result<u64, Halt>
+        ensures { IfOk result (HasSlice self.old self.new) }
+    {
+        let before = self.codes.len();
+        let Some(place) = mark_place(self.codes.entries()) else {
+            return Err(Halt::Lost);
+        };
+        self.codes.truncate(place);
+        Ok((before - place - 1) as u64)
+    }
+
     /// Removes the topmost entry, which must be an object.
     #[inline(always)]
     pub fn pop_object(&mut self) -> Option<Packed>
@@ -147,4 +163,46 @@ impl Stack {
         }
         Some(Packed::from_code(code))
     }
+}
+
+/// How many entries are searched for a mark at a time.
+const BLOCK: usize = 16;
+
+/// The place of the topmost mark: the number of entries below it.
+#[inline(always)]
+fn mark_place(codes: &[u32]) -> Option<usize>
+    ensures { IfSome result (λ place. HasSliceAt place codes.now) }
+{
+    let mut place = blocks_place(codes);
+    'objects: while place > 0 {
+        place -= 1;
+        if codes[place] == MARK {
+            return Some(place);
+        }
+    }
+    None
+}
+
+/// A place from which on there is no mark, less than a block above the topmost mark or the bottom.
+#[inline(never)]
+fn blocks_place(codes: &[u32]) -> usize
+    ensures { PassesObjects codes.now result }
+{
+    let mut place = codes.len();
+    'blocks: while place >= BLOCK {
+        if !are_objects(&codes[place - BLOCK..place]) {
+            return place;
+        }
+        place -= BLOCK;
+    }
+    place
+}
+
+/// Whether none of these is a mark. It looks at every code, whatever the first ones are, which lets
+/// the compiler test several at once.
+#[inline(always)]
+fn are_objects(codes: &[u32]) -> bool
+    ensures { result ≡ list_all is_object codes.now }
+{
+    codes.iter().fold(true, |good, code| good & (*code != MARK))
 }

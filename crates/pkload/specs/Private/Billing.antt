@@ -22,7 +22,7 @@ use Rattle.pkload.specs.Tally.{with_keys, with_operation}
 use Rattle.pkload.specs.declared.action.Action.{Action}
 use Rattle.pkload.specs.declared.action.Action.TheVariants as action
 use Rattle.pkload.specs.declared.halt.Billing.{Billing}
-use Rattle.pkload.specs.declared.halt.Billing.TheVariants.{Plain, WithKeys, Failed}
+use Rattle.pkload.specs.declared.halt.Billing.TheVariants.{Plain, Noted, Failed}
 use Rattle.pkload.specs.declared.keying.Keying.{Keying}
 use Rattle.pkload.specs.declared.operands.Operands.{Operands}
 use Rattle.pkload.specs.declared.tally.Tally.{Tally}
@@ -127,10 +127,15 @@ by_move move i bill =
     move_billed move (number_kept move (memo_number i) bill.shape) bill
     (moved move (memo_number i) bill.shape)
 
+-- no key was counted, and the pickle hasn't ended since
+pub record IsQuiet (old new : Bill) : Type 0 where
+  pub tally : new.tally ≡ old.tally
+  pub ended : new.ended ≡ old.ended
+
 -- this holds if the instruction is billed
 abbrev pub IfBilled : Billing → Type 0 → Type 0
 IfBilled Plain p = p
-IfBilled WithKeys p = p
+IfBilled Noted p = p
 IfBilled Failed p = ⊤
 
 -- the keys among the operands that the operation of this opcode takes are those of the opcode

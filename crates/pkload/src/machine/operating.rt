@@ -4,12 +4,12 @@ ghost use Rattle.std.specs.Prelude.{◌≡◌, ◌+◌, ◌≤◌, ◌++◌, Lis
 ghost use Rattle.pkstack.specs.Shape.{operands, put};
 ghost use Rattle.pkload.specs.Heft.{Heft};
 ghost use Rattle.pkload.specs.Memory.{text_memory};
-ghost use Rattle.pkload.specs.Private.Billing.{CountsKeys, heft_pushed, operated_on, pushed};
-ghost use Rattle.pkload.specs.Private.Billing.{text_heft};
+ghost use Rattle.pkload.specs.Private.Billing.{CountsKeys, IsQuiet, heft_pushed, operated_on};
+ghost use Rattle.pkload.specs.Private.Billing.{pushed, text_heft};
 ghost use Rattle.pkload.specs.Private.Gathered.{AreOf};
 
 use super::Machine;
-use crate::gathering::{drop_slice, take, take_pairs, with_receiver};
+use crate::gathering::{take, take_pairs, with_receiver};
 use crate::halt::Halt;
 use crate::keying::Keying;
 use crate::making::{builds_import, made, made_text, tied};
@@ -36,7 +36,7 @@ impl Machine {
     pub(super) fn tie_one(&mut self) -> Result<bool, Halt>
         ensures billed { OnOk result (operated_on false Op.Tuple1 self.old
             (operands (Takes.Objects 1) self.old.shape.entries) ≡ Ok self.new) }
-        ensures tally { OnOk result (self.new.tally ≡ self.old.tally) }
+        ensures quiet { OnOk result (IsQuiet self.old self.new) }
     {
         let Some(item) = self.stack.top() else {
             return Err(Halt::Lost);
@@ -51,7 +51,7 @@ impl Machine {
     pub(super) fn tie_two(&mut self) -> Result<bool, Halt>
         ensures billed { OnOk result (operated_on false Op.Tuple2 self.old
             (operands (Takes.Objects 2) self.old.shape.entries) ≡ Ok self.new) }
-        ensures tally { OnOk result (self.new.tally ≡ self.old.tally) }
+        ensures quiet { OnOk result (IsQuiet self.old self.new) }
     {
         let Some(second) = self.stack.pop_object() else {
             return Err(Halt::Lost);
@@ -71,7 +71,7 @@ impl Machine {
     pub(super) fn tie_three(&mut self) -> Result<bool, Halt>
         ensures billed { OnOk result (operated_on false Op.Tuple3 self.old
             (operands (Takes.Objects 3) self.old.shape.entries) ≡ Ok self.new) }
-        ensures tally { OnOk result (self.new.tally ≡ self.old.tally) }
+        ensures quiet { OnOk result (IsQuiet self.old self.new) }
     {
         let Some(third) = self.stack.pop_object() else {
             return Err(Halt::Lost);
@@ -94,7 +94,7 @@ impl Machine {
     pub(super) fn append(&mut self) -> Result<bool, Halt>
         ensures billed { OnOk result (operated_on true Op.Append self.old
             (operands (Takes.Objects 2) self.old.shape.entries) ≡ Ok self.new) }
-        ensures tally { OnOk result (self.new.tally ≡ self.old.tally) }
+        ensures quiet { OnOk result (IsQuiet self.old self.new) }
     {
         let Some(_item) = self.stack.pop_object() else {
             return Err(Halt::Lost);
@@ -112,9 +112,9 @@ impl Machine {
         ensures billed { OnOk result (operated_on true Op.Appends self.old
             (operands (Takes.SliceAndReceiver SliceRule.AnySlice) self.old.shape.entries)
             ≡ Ok self.new) }
-        ensures tally { OnOk result (self.new.tally ≡ self.old.tally) }
+        ensures quiet { OnOk result (IsQuiet self.old self.new) }
     {
-        let count = drop_slice(&mut self.stack)?;
+        let count = self.stack.drop_slice()?;
         let Some(_list) = self.stack.top() else {
             return Err(Halt::Lost);
         };
