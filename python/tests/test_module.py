@@ -66,6 +66,24 @@ def fields_of_header(name):
     body = re.search(rf"struct {name} \{{(.*?)\n\}};", HEADER, re.S)[1]
     return [(field, f"u{bits}") for bits, field in re.findall(r"uint(\d+)_t (\w+);", body)]
 
+INTERPRETERS = """
+try:
+    import _interpreters as interpreters
+except ImportError:
+    import _xxsubinterpreters as interpreters
+for kind in ("isolated", "legacy"):
+    if hasattr(interpreters, "exec"):
+        fault = interpreters.exec(interpreters.create(kind), "import storklocker")
+    else:
+        fault = None
+        try:
+            made = interpreters.create(isolated=kind == "isolated")
+            interpreters.run_string(made, "import storklocker")
+        except interpreters.RunFailedError as error:
+            fault = error
+    print(kind, "loaded" if fault is None else "refused")
+"""
+
 
 class Numbers(unittest.TestCase):
     def test_they_are_frozen(self):
@@ -168,6 +186,12 @@ class Module(unittest.TestCase):
         given = "malloc realloc free memchr memcpy memmove memset".split()
         self.assertLessEqual(others, set(given))
         self.assertNotIn("PyUnstable", said)
+
+    @unittest.skipIf(sys.version_info < (3, 12), "all interpreters share one GIL")
+    @unittest.skipIf(sys.implementation.name == "pypy", "no interpreters in PyPy")
+    def test_interpreters_with_a_gil_of_their_own(self):
+        # (whoever has the GIL has the arena)
+        self.assertEqual(python(INTERPRETERS).split(), ["isolated", "refused", "legacy", "loaded"])
 
     def test_it_is_as_short_as_it_was_promised(self):
         promised = {"_storklocker.c": 325, "pairs.c": 90, "loads.c": 195, "audit.c": 60}
