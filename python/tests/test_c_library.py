@@ -1,5 +1,6 @@
 """The C library: a C program that calls it, under sanitizers, and what the shared library shows."""
 
+import fnmatch
 import os
 import re
 import subprocess
@@ -34,6 +35,15 @@ class Library(unittest.TestCase):
             program = compiled(self.folder, TESTS / name, *words, ARCHIVE)
             ran = subprocess.run([program], capture_output=True, text=True)
             self.assertEqual((ran.returncode, ran.stdout, ran.stderr), (0, "", ""), name)
+
+    @needs(ARCHIVE, "objdump")
+    def test_functions_in_an_order_are_there(self):
+        said = self.said("objdump", "-h", ARCHIVE)
+        sections = re.findall(r"^ *\d+ \.text\.(\S+)", said, re.M)
+        self.assertGreater(len(sections), 100)
+        for name in (PYTHON / "order").read_text().splitlines():
+            if not name.startswith("#"):
+                self.assertTrue(fnmatch.filter(sections, name), name)
 
     @needs(COMPILER)
     def test_the_arena_under_sanitizers(self):
