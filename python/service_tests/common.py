@@ -107,10 +107,14 @@ class Control:
             os.waitpid(child, 0)
         self.assert_all_ran(self.shapes, 0)
 
+    def left(self, names):
+        """Those of these that have left no mark yet."""
+        return [name for name in names if not os.path.lexists(self.folder / name)]
+
     def assert_all_ran(self, names, seconds=PATIENCE):
         """Asserts that each of these leaves its mark in time, so that the table is one."""
         for _ in range(10 * seconds + 1):
-            left = [name for name in names if not os.path.lexists(self.folder / name)]
+            left = self.left(names)
             if not left:
                 break
             time.sleep(0.1)

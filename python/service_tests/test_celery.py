@@ -5,6 +5,7 @@ import contextlib
 import os
 import pickle
 import tempfile
+import time
 import uuid
 from pathlib import Path
 
@@ -100,16 +101,24 @@ def control(log):
     with common.table() as table:
         for data in table.shapes.values():
             publish(celery_app.app, second_protocol(data))
-        with common.process(*WORDS, log=log, C_FORCE_ROOT="1"):
-            table.assert_all_ran(table.shapes)
+        run_table(table, log)
     with common.table() as table:
         for data in table.shapes.values():
             publish(celery_app.app, first_protocol(data), protocol=1)
-        with common.process(*WORDS, log=log, C_FORCE_ROOT="1"):
-            table.assert_all_ran(table.shapes)
+        run_table(table, log)
     with common.table() as table:
         table.runs_all(lambda data: read_result(celery_app.app, data))
     del os.environ["PLAIN"], __import__("sys").modules["celery_app"]
+
+
+def run_table(table, log):
+    """The worker runs the table. A message may end it before all have run: then it starts again."""
+    end = time.monotonic() + common.PATIENCE
+    while table.left(table.shapes) and time.monotonic() < end:
+        with common.process(*WORDS, log=log, C_FORCE_ROOT="1") as worker:
+            while table.left(table.shapes) and worker.poll() is None and time.monotonic() < end:
+                time.sleep(0.1)
+    table.assert_all_ran(table.shapes, 0)
 
 
 def read_result(app, data):
