@@ -192,8 +192,9 @@ def old_contents() -> Iterator[Fault]:
 def wrong_closure() -> Iterator[Fault]:
     """Definitions that docs/THEOREM.md doesn't list as trusted, or lists and needn't."""
     name = "docs/THEOREM.md"
-    roots = ("Accepted", "Refused", "Answered", "Policies")
-    needed = closure_of({f"pkcheck/{it}" for it in roots})
+    needed = closure_of(
+        {"pkcheck/Accepted", "pkcheck/Refused", "pkcheck/Answered", "pkmachine/Policies"}
+    )
     part = text_of(name).partition("## What is trusted")[2].partition("\n## ")[0]
     told = {
         f"{crate}/{spec}"

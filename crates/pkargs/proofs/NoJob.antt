@@ -3,7 +3,7 @@ use Rattle.std.proofs.Common.{◌≡◌, ap, refl, Bool, true, false, Option, No
 use Rattle.std.proofs.Common.{Err, List, inl, inr, subst}
 use Rattle.std.specs.Prelude.{◌⊎◌, IfErr, IfNone, IsErrAnd}
 use Rattle.std.specs.Option.{unwrap_or}
-use Rattle.pkcheck.specs.declared.Memo.TheVariants.{Fresh, Kept}
+use Rattle.pkmachine.specs.declared.Memo.TheVariants.{Fresh, Kept}
 use Rattle.clap.specs.Words.{App, HasKind, IsAmong, Text, fault_of, kind_of}
 use Rattle.clap.specs.declared.error.Error.{Error}
 use Rattle.clap.specs.declared.error.kind.ErrorKind.TheVariants as kind

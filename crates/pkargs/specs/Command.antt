@@ -9,9 +9,9 @@ use Rattle.clap.specs.declared.Command.TheViews.{out-Command as fields_of}
 use Rattle.clap.specs.declared.builder.action.ArgAction.TheVariants.{SetTrue}
 use Rattle.clap.specs.declared.builder.value_parser.ValueParser.{ValueParser}
 use Rattle.clap.specs.declared.builder.value_parser.ValueParser.TheVariants.{Names}
-use Rattle.pkcheck.specs.declared.Memo.TheVariants.{Fresh, Kept}
-use Rattle.pkcheck.specs.declared.OldStrings.{OldStrings}
-use Rattle.pkcheck.specs.declared.OldStrings.TheVariants.{Unknown, Ascii, Bytes}
+use Rattle.pkmachine.specs.declared.Memo.TheVariants.{Fresh, Kept}
+use Rattle.pkmachine.specs.declared.OldStrings.{OldStrings}
+use Rattle.pkmachine.specs.declared.OldStrings.TheVariants.{Unknown, Ascii, Bytes}
 use Rattle.pkargs.specs.declared.job.Job.{Job}
 use Rattle.pkargs.specs.declared.job.Job.TheVariants.{Dis, Check, Imports, Optimize, Json}
 use Rattle.pkargs.specs.declared.job.Pickles.{Pickles}

@@ -1,5 +1,5 @@
 //! What a command line asks for.
-use pkcheck::{Memo, OldStrings};
+use pkmachine::{Memo, OldStrings};
 
 /// Which pickles of a file are checked.
 #[derive(Clone, Copy, Debug, PartialEq, Eq)]

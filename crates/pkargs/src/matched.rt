@@ -5,11 +5,11 @@ ghost use Rattle.clap.specs.Words.{Row, first_of, found_of, rows_of, subcommand_
 ghost use Rattle.pkargs.specs.Command.{AreForNone, Carries, IsForNone, IsJob, all_text};
 ghost use Rattle.pkargs.specs.Command.{flag_text, name_of, old_word, one_text};
 ghost use Rattle.pkargs.specs.declared.job.Pickles.{Pickles as SpecPickles};
-ghost use Rattle.pkcheck.specs.declared.OldStrings.{OldStrings as SpecStrings};
+ghost use Rattle.pkmachine.specs.declared.OldStrings.{OldStrings as SpecStrings};
 
 use crate::job::{Job, Pickles};
 use clap::ArgMatches;
-use pkcheck::{Memo, OldStrings};
+use pkmachine::{Memo, OldStrings};
 use std::alloc::{AllocError, Global};
 
 /// The job of the subcommand that was found.

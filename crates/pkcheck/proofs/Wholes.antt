@@ -1,11 +1,16 @@
 -- Whole runs and whole checks.
+pub mod Verdicts
+pub mod Stops
+pub mod StopEffects
 pub mod RunSteps
 pub mod Walk
+pub mod Soundness
 pub mod Ends
 pub mod Origins
 pub mod NextPickle
 pub mod Listed
 pub mod FramesSoFar
+pub mod JudgingLaws
 pub mod Faultless
 pub mod Given
 pub mod Payloads
@@ -27,5 +32,6 @@ pub mod RefusedBehind
 pub mod EachSetting
 pub mod Unlisted
 pub mod NewRuns
+pub mod Examples
 mod AnswerExamples
 mod RowExamples

@@ -7,12 +7,13 @@ use Rattle.pkops.specs.declared.Reason.{Reason}
 use Rattle.pkops.specs.declared.Reason.TheVariants.{Source, OutOfMemory, TooLarge}
 use Rattle.pkread.specs.Rows.{Sight, all_bytes}
 use Rattle.pkread.specs.Sequence.{IsSequence, spellings}
-use Rattle.pkcheck.specs.declared.old_strings.OldStrings.{OldStrings}
-use Rattle.pkcheck.specs.Faults.{everyone}
-use Rattle.pkcheck.specs.Knowledge.{Policy}
+use Rattle.pkmachine.specs.declared.old_strings.OldStrings.{OldStrings}
+use Rattle.pkmachine.specs.Faults.{everyone}
+use Rattle.pkmachine.specs.Knowledge.{Policy}
 use Rattle.pkimport.specs.Import.{Asked}
 use Rattle.pkcheck.specs.Refused.{Refused}
-use Rattle.pkcheck.specs.RunFaults.{HasRunFault, RunsBehind}
+use Rattle.pkcheck.specs.RunFaults.{HasRunFault}
+use Rattle.pkmachine.specs.RowRuns.{RunsBehind}
 
 -- no instruction of the list has a fault, except that it may exceed a limit
 abbrev pub IsFaultlessButForLimits :

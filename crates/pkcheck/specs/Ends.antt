@@ -2,8 +2,8 @@
 use Rattle.std.specs.Prelude.{◌≡◌, ℕ, ⊤, Bool, List, []}
 use Rattle.pkimport.specs.Import.{Asked}
 use Rattle.pkcheck.specs.Listing.{ImportsAreListed}
-use Rattle.pkcheck.specs.Runs.{Event, State, WentOn, Raised, Stopped, Stuck}
-use Rattle.pkcheck.specs.WholeRuns.{Ended, Reached, EndedBy, EndsWell}
+use Rattle.pkmachine.specs.Runs.{Event, State, WentOn, Raised, Stopped, Stuck}
+use Rattle.pkmachine.specs.WholeRuns.{Ended, Reached, EndedBy, EndsWell}
 
 -- the same objects, and the same events in the same order
 pub record SameHistory (s t : State) : Type 0 where

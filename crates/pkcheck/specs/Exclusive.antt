@@ -9,14 +9,14 @@ use Rattle.pkops.specs.declared.Reason.TheVariants.{Source, OutOfMemory}
 use Rattle.pkread.specs.Admission.{IsAllowedBy}
 use Rattle.pkread.specs.Rows.{Sight, Takes, all_bytes}
 use Rattle.pkread.specs.Sequence.{spellings}
-use Rattle.pkcheck.specs.declared.old_strings.OldStrings.{OldStrings}
-use Rattle.pkcheck.specs.Knowledge.{Policy}
+use Rattle.pkmachine.specs.declared.old_strings.OldStrings.{OldStrings}
+use Rattle.pkmachine.specs.Knowledge.{Policy}
 use Rattle.pkimport.specs.Import.{Asked}
 use Rattle.pkcheck.specs.declared.loading.Loading.{Loading}
 use Rattle.pkcheck.specs.Accepted.{AcceptedFrom}
 use Rattle.pkcheck.specs.Refused.{RefusedFrom}
 use Rattle.pkcheck.specs.RowOfPickles.{AcceptedRow, RefusedInRow, begins}
-use Rattle.pkcheck.specs.RowRuns.{Beginning, Pickle, sequences_of}
+use Rattle.pkmachine.specs.RowRuns.{Beginning, Pickle, sequences_of}
 use Rattle.pkcheck.specs.RunFaults.{IsFaultless}
 
 -- if bytes begin with an accepted pickle that is not too long for a reader, no check of these bytes

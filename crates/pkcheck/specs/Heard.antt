@@ -12,14 +12,15 @@ use Rattle.pkread.specs.Pieces.{piece_of}
 use Rattle.pkread.specs.Rows.{Sight, Takes}
 use Rattle.pkread.specs.Sequence.{NoStop, spellings}
 use Rattle.pkcheck.specs.Answered.{IsRightAnswer}
-use Rattle.pkcheck.specs.Faults.{InEachRun}
-use Rattle.pkcheck.specs.declared.old_strings.OldStrings.{OldStrings}
-use Rattle.pkcheck.specs.declared.old_strings.OldStrings.TheVariants.{Unknown}
-use Rattle.pkcheck.specs.Knowledge.{Policy}
+use Rattle.pkmachine.specs.Faults.{InEachRun}
+use Rattle.pkmachine.specs.declared.old_strings.OldStrings.{OldStrings}
+use Rattle.pkmachine.specs.declared.old_strings.OldStrings.TheVariants.{Unknown}
+use Rattle.pkmachine.specs.Knowledge.{Policy}
 use Rattle.pkimport.specs.Import.{Asked}
 use Rattle.pkcheck.specs.Refused.{Why, reading, judging, growing}
-use Rattle.pkcheck.specs.RowRuns.{Afresh, Beginning}
-use Rattle.pkcheck.specs.RunFaults.{IsFaultless, RunsBehind}
+use Rattle.pkmachine.specs.RowRuns.{Afresh, Beginning}
+use Rattle.pkcheck.specs.RunFaults.{IsFaultless}
+use Rattle.pkmachine.specs.RowRuns.{RunsBehind}
 use Rattle.pkstack.specs.Shape.{marks_of}
 use Rattle.pkcheck.specs.declared.checking.Yes.{Yes}
 use Rattle.pkcheck.specs.declared.checking.No.{No}

@@ -7,16 +7,18 @@ use Rattle.pkops.specs.Spelling.{Instruction}
 use Rattle.pkread.specs.Admission.{IsAllowedBy}
 use Rattle.pkread.specs.Rows.{Sight}
 use Rattle.pkread.specs.Sequence.{NoStop}
-use Rattle.pkcheck.specs.Effects.{effect_as, is_old_string}
-use Rattle.pkcheck.specs.Knowledge.{Policy}
+use Rattle.pkmachine.specs.Effects.{effect_as, is_old_string}
+use Rattle.pkmachine.specs.Knowledge.{Policy}
 use Rattle.pkcheck.specs.RowOfPickles.{AreAccepted, begins}
-use Rattle.pkcheck.specs.RowRuns.{Afresh, Beginning, Behind, Pickle, run_row, sequences_of}
+use Rattle.pkmachine.specs.RowRuns.{Afresh, Beginning, Behind, Pickle, run_row, sequences_of}
 use Rattle.pkcheck.specs.RunFaults.{IsFaultless}
-use Rattle.pkcheck.specs.Runs.{CanCome, Go, Outcome, Raise, Raised, State, Stepped, Stopped, Stuck}
-use Rattle.pkcheck.specs.Runs.{WentOn, effect_asks, start, step_as}
-use Rattle.pkcheck.specs.WholeRuns.{Ended, EndedBy, Reached, first_outcome, outcomes_after, run_as}
+use Rattle.pkmachine.specs.Runs.{CanCome, Go, Outcome, Raise, Raised, State, Stepped, Stopped}
+use Rattle.pkmachine.specs.Runs.{Stuck}
+use Rattle.pkmachine.specs.Runs.{WentOn, effect_asks, start, step_as}
+use Rattle.pkmachine.specs.WholeRuns.{Ended, EndedBy, Reached, first_outcome, outcomes_after}
+use Rattle.pkmachine.specs.WholeRuns.{run_as}
 use Rattle.pkcheck.specs.declared.loading.Loading.{Loading}
-use Rattle.pkcheck.specs.declared.old_strings.OldStrings.{OldStrings}
+use Rattle.pkmachine.specs.declared.old_strings.OldStrings.{OldStrings}
 
 -- the property is asked for
 abbrev pub If : Bool → Type 0 → Type 0

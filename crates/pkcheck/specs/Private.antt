@@ -1,17 +1,7 @@
--- Contracts of the private parts of the machine. They need not be trusted: the lemmas in `proofs/`
+-- Contracts of the private parts of a check. They need not be trusted: the lemmas in `proofs/`
 -- derive the public definitions from them.
-pub mod Packed
-pub mod Slots
-pub mod Asking
-pub mod StepErrors
-pub mod Spelled
-pub mod Actions
 pub mod Judgement
 pub mod WholeReports
 pub mod Lent
-pub mod NewTexts
 pub mod NextPickle
 pub mod Turns
-pub mod NamelessOperations
-pub mod Steps
-pub mod NamedOperations

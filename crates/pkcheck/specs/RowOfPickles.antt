@@ -12,14 +12,14 @@ use Rattle.pkops.specs.declared.Reason.TheVariants.{Truncated}
 use Rattle.pkread.specs.Rows.{Sight, Takes, all_bytes}
 use Rattle.pkread.specs.Sequence.{CountsAt, IsSequence, spellings}
 use Rattle.pkcheck.specs.declared.loading.Loading.{Loading}
-use Rattle.pkcheck.specs.declared.loading.Memo.{Memo}
-use Rattle.pkcheck.specs.declared.loading.Memo.TheVariants.{Fresh, Kept}
-use Rattle.pkcheck.specs.declared.old_strings.OldStrings.{OldStrings}
+use Rattle.pkmachine.specs.declared.memo.Memo.{Memo}
+use Rattle.pkmachine.specs.declared.memo.Memo.TheVariants.{Fresh, Kept}
+use Rattle.pkmachine.specs.declared.old_strings.OldStrings.{OldStrings}
 use Rattle.pkcheck.specs.Accepted.{AcceptedFrom}
 use Rattle.pkimport.specs.Import.{Asked, asked_shown}
-use Rattle.pkcheck.specs.Knowledge.{Policy}
+use Rattle.pkmachine.specs.Knowledge.{Policy}
 use Rattle.pkcheck.specs.Refused.{RefusedFrom}
-use Rattle.pkcheck.specs.RowRuns.{Beginning, Afresh, Behind, Pickle, imports_of_all, sequences_of}
+use Rattle.pkmachine.specs.RowRuns.{Beginning, Afresh, Behind, Pickle, imports_of_all, sequences_of}
 use Rattle.pkcheck.specs.declared.row_of_pickles.YesAll.{YesAll}
 use Rattle.pkcheck.specs.declared.row_of_pickles.NoAll.{NoAll}
 

@@ -13,17 +13,17 @@ use Rattle.pkread.specs.Sequence.{CountsAt, NoStop, spellings}
 use Rattle.pkcheck.specs.Accepted.{AcceptedFrom}
 use Rattle.pkcheck.specs.Heard.{refused_instruction}
 use Rattle.pkimport.specs.Import.{Asked, asked_shown}
-use Rattle.pkcheck.specs.Knowledge.{Policy}
+use Rattle.pkmachine.specs.Knowledge.{Policy}
 use Rattle.pkcheck.specs.Reports.{AreReportsBehind, IsReportOf, Report}
 use Rattle.pkcheck.specs.RowOfPickles.{AcceptedRow, AreAccepted, RefusedInRow, begins, bytes_of_all}
-use Rattle.pkcheck.specs.RowRuns.{Beginning, Pickle}
+use Rattle.pkmachine.specs.RowRuns.{Beginning, Pickle}
 use Rattle.pkcheck.specs.RunFaults.{IsFaultless}
 use Rattle.pkcheck.specs.WithImports.{ImportsBefore, RefusedWithImports}
 use Rattle.pkcheck.specs.declared.check_loop.Extent.{Extent}
 use Rattle.pkcheck.specs.declared.check_loop.Extent.TheVariants.{OnePickle, ToTheEnd}
 use Rattle.pkcheck.specs.declared.check_loop.RefusedPickle.{RefusedPickle}
 use Rattle.pkcheck.specs.declared.loading.Loading.{Loading}
-use Rattle.pkcheck.specs.declared.old_strings.OldStrings.{OldStrings}
+use Rattle.pkmachine.specs.declared.old_strings.OldStrings.{OldStrings}
 use Rattle.pkcheck.specs.declared.row_of_pickles.YesAll.{YesAll}
 
 -- the reports of these pickles, which follow those before them

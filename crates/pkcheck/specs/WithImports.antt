@@ -5,18 +5,18 @@ use Rattle.pkops.specs.Spelling.{Instruction}
 use Rattle.pkops.specs.declared.Reason.{Reason}
 use Rattle.pkread.specs.Rows.{Sight}
 use Rattle.pkread.specs.Sequence.{CountsAt}
-use Rattle.pkcheck.specs.declared.old_strings.OldStrings.{OldStrings}
+use Rattle.pkmachine.specs.declared.old_strings.OldStrings.{OldStrings}
 use Rattle.pkcheck.specs.Accepted.{Accepted}
-use Rattle.pkcheck.specs.Covers.{Pointwise, imports_of}
-use Rattle.pkcheck.specs.Faults.{InEachRun}
+use Rattle.pkmachine.specs.Covers.{Pointwise, imports_of}
+use Rattle.pkmachine.specs.Faults.{InEachRun}
 use Rattle.pkimport.specs.Import.{Asked, asked_shown}
-use Rattle.pkcheck.specs.Knowledge.{Policy}
+use Rattle.pkmachine.specs.Knowledge.{Policy}
 use Rattle.pkcheck.specs.Listing.{EachAsks, ImportsAreListed, StandsFor, UnknownIsOpen}
 use Rattle.pkcheck.specs.Listing.{imports_among}
 use Rattle.pkcheck.specs.Refused.{RefusedFrom}
-use Rattle.pkcheck.specs.RowRuns.{Afresh, Beginning, InEachRunFrom, listed_before}
-use Rattle.pkcheck.specs.RunFaults.{RunsFrom}
-use Rattle.pkcheck.specs.Runs.{State}
+use Rattle.pkmachine.specs.RowRuns.{Afresh, Beginning, InEachRunFrom, listed_before}
+use Rattle.pkmachine.specs.RowRuns.{RunsFrom}
+use Rattle.pkmachine.specs.Runs.{State}
 use Rattle.pkcheck.specs.declared.checking.Yes.{Yes}
 use Rattle.pkcheck.specs.declared.with_imports.NoWithImports.{NoWithImports}
 

@@ -5,17 +5,18 @@
 
 ghost use Rattle.std.specs.Prelude.{◌≡◌, IfErr, IfOk, MatchResult, true};
 ghost use Rattle.pkread.specs.Rows.{sight};
-ghost use Rattle.pkcheck.specs.Policies.{permit_of};
+ghost use Rattle.pkmachine.specs.Policies.{permit_of};
 ghost use Rattle.pkcheck.specs.ThreeEnds.{AnswersTold, CountsTold, StopsTold};
 
 use crate::audience::Audience;
 use crate::checking::No;
 use crate::loading::Loading;
-use crate::policy::Permit;
 use crate::row_of_pickles::{PickleRow, YesAll};
 use crate::session::Session;
 use pkimport::Imports;
 use pklist::laws::bounded_names;
+use pkmachine::Permit;
+use pkmachine::laws::steps;
 use pkops::Limits;
 use pkread::laws::{frames, heads, nexts, rows};
 use pkread::{Reader, Source};
@@ -90,6 +91,7 @@ pub fn check_pickles<R: Source, A: Audience>(
     heads();
     frames();
     rows();
+    steps();
     bounded_names();
     let mut reader = Reader::new(alloc, source, &terms.limits);
     let mut session = Session::new(alloc, &terms.limits, terms.loading.old_strings);

@@ -8,6 +8,7 @@ ghost use Rattle.pkcheck.specs.Exclusive.{OneBegins, RefusedBehind, YesExcludesN
 ghost use Rattle.pkcheck.specs.Exclusive.{YesOfRowExcludesNo};
 ghost use Rattle.pkcheck.specs.NewRuns.{FaultlessIsRun};
 
+use pkmachine::laws::steps;
 use pkops::laws::{growth, one_answer};
 use pkread::laws::one_sequence;
 
@@ -90,4 +91,6 @@ pub fn same_ends()
 #[inline]
 pub fn faultless_is_run()
     ensures { FaultlessIsRun }
-{}
+{
+    steps();
+}

@@ -7,13 +7,12 @@ ghost use Rattle.pkops.specs.Limits.{holding_all};
 ghost use Rattle.pkread.specs.Rows.{sight};
 ghost use Rattle.pkcheck.specs.Answered.{CountsFailures};
 ghost use Rattle.pkcheck.specs.Heard.{Heard, IsCutShort, IsRightAndHeard, heard};
-ghost use Rattle.pkcheck.specs.Policies.{policy_of};
+ghost use Rattle.pkmachine.specs.Policies.{policy_of};
 
 use crate::check_loop::{Extent, Terms, check_pickles};
 use crate::checking::{No, Yes};
-use crate::loading::{Loading, Memo};
-use crate::old_strings::OldStrings;
-use crate::policy::{Permit, Policy};
+use crate::loading::Loading;
+use pkmachine::{Memo, OldStrings, Permit, Policy};
 use pkops::{Inst, Limits};
 use pkread::Source;
 use std::alloc::Global;

@@ -3,7 +3,7 @@
 ghost use Rattle.std.specs.Prelude.{◌≡◌, ◌<◌, [], None, drop, length, true};
 ghost use Rattle.pkread.specs.ReaderCalls.{TakesNoneAhead, has_ended, state};
 ghost use Rattle.pkread.specs.Rows.{all_bytes, sight};
-ghost use Rattle.pkcheck.specs.Policies.{permit_of, policy_of};
+ghost use Rattle.pkmachine.specs.Policies.{permit_of, policy_of};
 ghost use Rattle.pkcheck.specs.Private.Judgement.{IsNoAt};
 ghost use Rattle.pkcheck.specs.Private.NextPickle.{IsCounted, IsRestarted, LooksBehind, listed_in};
 ghost use Rattle.pkcheck.specs.RowOfPickles.{CountsInRow, IsRightOfRow, each_afresh};
@@ -11,12 +11,11 @@ ghost use Rattle.pkcheck.specs.RowOfPickles.{CountsInRow, IsRightOfRow, each_afr
 use crate::audience::Silent;
 use crate::check_loop::{Extent, RefusedPickle, Terms, check_pickles};
 use crate::checking::No;
-use crate::loading::{Loading, Memo};
-use crate::old_strings::OldStrings;
-use crate::policy::{Permit, Policy};
+use crate::loading::Loading;
 use crate::session::Session;
 use crate::with_imports::NoWithImports;
 use pkimport::{ImportTable, Imports};
+use pkmachine::{Memo, OldStrings, Permit, Policy};
 use pkops::{Limits, Reason, Refusal};
 use pkread::{Reader, Source};
 use std::alloc::Global;

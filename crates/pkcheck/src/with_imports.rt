@@ -1,16 +1,15 @@
 //! A check that also gives the imports of a refused pickle.
 
 ghost use Rattle.pkread.specs.Rows.{sight};
-ghost use Rattle.pkcheck.specs.Policies.{permit_of};
+ghost use Rattle.pkmachine.specs.Policies.{permit_of};
 ghost use Rattle.pkcheck.specs.WithImports.{CountsWithImports, IsRightWithImports};
 
 use crate::audience::Silent;
 use crate::check_loop::{Extent, RefusedPickle, Terms, check_pickles};
 use crate::checking::{No, Yes};
-use crate::loading::{Loading, Memo};
-use crate::old_strings::OldStrings;
-use crate::policy::Permit;
+use crate::loading::Loading;
 use pkimport::Imports;
+use pkmachine::{Memo, OldStrings, Permit};
 use pkops::Limits;
 use pkread::Source;
 use std::alloc::Global;

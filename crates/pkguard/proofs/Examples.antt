@@ -4,7 +4,7 @@ use Rattle.std.specs.Prelude.{codes, replicate, None, Some, false, true}
 use Rattle.toml.specs.Data.{string, array, no_items, item, no_members, member}
 use Rattle.pkimport.specs.Import.{AskedPair, AskedUnknown}
 use Rattle.pkcheck.specs.declared.Extent.TheVariants.{OnePickle, ToTheEnd}
-use Rattle.pkcheck.specs.declared.OldStrings.TheVariants.{Bytes}
+use Rattle.pkmachine.specs.declared.OldStrings.TheVariants.{Bytes}
 use Rattle.pkload.specs.declared.Excess.TheVariants.{BuildsImport, HeavyKeys, OutOfMemory}
 use Rattle.pkguard.specs.Encoding.{encoded_all, wanted_by}
 use Rattle.pkguard.specs.Guard.{placed}

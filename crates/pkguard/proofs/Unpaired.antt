@@ -5,13 +5,13 @@ use Rattle.pkops.specs.Spelling.{Instruction}
 use Rattle.pkops.specs.declared.Reason.{Reason}
 use Rattle.pkops.specs.declared.Reason.TheVariants as reason
 use Rattle.pkread.specs.Rows.{Sight}
-use Rattle.pkcheck.specs.Faults.{Arrivals, IsPairOf}
-use Rattle.pkcheck.specs.Knowledge.{Policy}
+use Rattle.pkmachine.specs.Faults.{Arrivals, IsPairOf}
+use Rattle.pkmachine.specs.Knowledge.{Policy}
 use Rattle.pkimport.specs.Import.{Asked, AskedPair, AskedUnknown}
 use Rattle.pkcheck.specs.Refused.{Why, growing, judging, reading}
-use Rattle.pkcheck.specs.RowRuns.{Afresh, Beginning}
+use Rattle.pkmachine.specs.RowRuns.{Afresh, Beginning}
 use Rattle.pkcheck.specs.WithImports.{RefusedWithImports}
-use Rattle.pkcheck.specs.declared.OldStrings.{OldStrings}
+use Rattle.pkmachine.specs.declared.OldStrings.{OldStrings}
 use Rattle.pkguard.specs.Encoding.{encoded_all, wanted_by}
 use Rattle.pkguard.specs.Guard.{IsImportsBefore, memory, placed, verdict_behind}
 use Rattle.pkguard.specs.declared.verdict.Verdict.{Verdict}

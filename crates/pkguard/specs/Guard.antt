@@ -7,20 +7,20 @@ use Rattle.toml.specs.Errors.{IsBlank}
 use Rattle.pkops.specs.Limits.{Bounds}
 use Rattle.pkops.specs.declared.Reason.{Reason}
 use Rattle.pkread.specs.Rows.{Sight}
-use Rattle.pkcheck.specs.Knowledge.{Policy}
+use Rattle.pkmachine.specs.Knowledge.{Policy}
 use Rattle.pkimport.specs.Import.{Asked, AskedPair}
 use Rattle.pklist.specs.Allow.{are_unsaid}
 use Rattle.pklist.specs.ListFile.{cost_limits_in, limits_in, list_of, lists_in}
 use Rattle.pkcheck.specs.Accepted.{Accepted}
 use Rattle.pkcheck.specs.Refused.{Refused}
 use Rattle.pkcheck.specs.RowOfPickles.{AcceptedRow, RefusedInRow}
-use Rattle.pkcheck.specs.RowRuns.{Afresh}
+use Rattle.pkmachine.specs.RowRuns.{Afresh}
 use Rattle.pkcheck.specs.WithImports.{RefusedWithImports}
 use Rattle.pklist.specs.declared.AllowError.{AllowError}
 use Rattle.pklist.specs.declared.AllowError.TheVariants.{Syntax, OutOfMemory}
 use Rattle.pklist.specs.declared.CostLimits.{CostLimits}
 use Rattle.pkcheck.specs.declared.Loading.{Loading}
-use Rattle.pkcheck.specs.declared.OldStrings.{OldStrings}
+use Rattle.pkmachine.specs.declared.OldStrings.{OldStrings}
 use Rattle.pkguard.specs.declared.settings.Settings.{Settings}
 use Rattle.pkguard.specs.declared.verdict.Verdict.{Verdict}
 use Rattle.pkguard.specs.Codes.{reason_code, reason_number, fault_code}

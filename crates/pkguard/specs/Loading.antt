@@ -4,13 +4,13 @@ use Rattle.std.specs.Prelude.{Option, Some, None, if◌then◌else◌, option_ma
 use Rattle.toml.specs.Data.{Members}
 use Rattle.pkops.specs.Limits.{Bounds}
 use Rattle.pkimport.specs.Import.{asked_shown}
-use Rattle.pkcheck.specs.Knowledge.{Policy}
+use Rattle.pkmachine.specs.Knowledge.{Policy}
 use Rattle.pklist.specs.ListFile.{list_of}
 use Rattle.pklist.specs.declared.CostLimits.{CostLimits}
 use Rattle.pkcheck.specs.declared.Extent.{Extent}
 use Rattle.pkcheck.specs.declared.Extent.TheVariants.{OnePickle, ToTheEnd}
 use Rattle.pkcheck.specs.declared.Loading.{Loading}
-use Rattle.pkcheck.specs.declared.OldStrings.{OldStrings}
+use Rattle.pkmachine.specs.declared.OldStrings.{OldStrings}
 use Rattle.pkcheck.specs.declared.RefusedPickle.{RefusedPickle}
 use Rattle.pkload.specs.Costly.{CostsTooMuch}
 use Rattle.pkload.specs.Loading.{AcceptedWithBill, IsRefused}

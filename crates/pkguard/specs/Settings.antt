@@ -3,9 +3,9 @@ use Rattle.std.specs.Prelude.{◌≡◌, ◌==◌, ◌&&◌, ℕ, Bool, true, Li
 use Rattle.std.specs.Prelude.{Option, Some, None}
 use Rattle.pkops.specs.Limits.{Bounds, bounds, greatest, greatest_large}
 use Rattle.pkcheck.specs.declared.Loading.{Loading}
-use Rattle.pkcheck.specs.declared.Memo.TheVariants.{Fresh, Kept}
-use Rattle.pkcheck.specs.declared.OldStrings.{OldStrings}
-use Rattle.pkcheck.specs.declared.OldStrings.TheVariants.{Unknown, Ascii, Bytes}
+use Rattle.pkmachine.specs.declared.Memo.TheVariants.{Fresh, Kept}
+use Rattle.pkmachine.specs.declared.OldStrings.{OldStrings}
+use Rattle.pkmachine.specs.declared.OldStrings.TheVariants.{Unknown, Ascii, Bytes}
 use Rattle.pklist.specs.declared.Pair.{Pair}
 use Rattle.pklist.specs.Pairs.{AreInOrder, found, have}
 use Rattle.pkguard.specs.declared.settings.Settings.{Settings}

@@ -1,6 +1,6 @@
 //! Checks pickles, and bounds what loading them costs.
 ghost use Rattle.std.specs.Prelude.{◌≡◌, ◌≢◌, ◌≤◌, Some, []};
-ghost use Rattle.pkcheck.specs.Policies.{permit_of};
+ghost use Rattle.pkmachine.specs.Policies.{permit_of};
 ghost use Rattle.pkguard.specs.Guard.{IsListFault};
 ghost use Rattle.pkguard.specs.Loading.{AreCostsOf, IsNoOrCostly, IsUsageWith, IsYesWithBill};
 ghost use Rattle.pkguard.specs.Loading.{SetsWith, extent_by, nothing_billed, tolls_by};

@@ -20,7 +20,7 @@ mod settings;
 mod verdict;
 
 ghost use Rattle.std.specs.Prelude.{◌≡◌, ◌≢◌, ◌≤◌, ◌⊎◌, None, Some};
-ghost use Rattle.pkcheck.specs.Policies.{permit_of};
+ghost use Rattle.pkmachine.specs.Policies.{permit_of};
 ghost use Rattle.pkguard.specs.Guard.{IsListFault, IsImports, IsImportsBefore, IsListRead};
 ghost use Rattle.pkguard.specs.Guard.{IsLimitedList, IsNo, IsNoOfRow, IsOfAnotherSize, IsUsage};
 ghost use Rattle.pkguard.specs.Guard.{IsYes, IsYesOfRow, Under};

@@ -1,6 +1,6 @@
 //! The settings of a check.
 ghost use Rattle.std.specs.Prelude.{◌≡◌, ◌==◌, Some};
-ghost use Rattle.pkcheck.specs.Policies.{permit_of};
+ghost use Rattle.pkmachine.specs.Policies.{permit_of};
 ghost use Rattle.pkguard.specs.Listed.{are_usual, settings_with};
 ghost use Rattle.pkguard.specs.Settings.{is_served, limits_within, old_strings_in};
 ghost use Rattle.pkguard.specs.Settings.{limits_by, listed_by, loading_by, old_strings_of};

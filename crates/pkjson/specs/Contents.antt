@@ -11,12 +11,12 @@ use Rattle.pkops.specs.declared.Op.TheVariants as op
 use Rattle.pkops.specs.Operands.{names_bool}
 use Rattle.pkops.specs.Spelling.{Argument, Line, Instruction}
 use Rattle.pkops.specs.Text.{text_bytes}
-use Rattle.pkcheck.specs.declared.effect.Class.TheVariants as class
-use Rattle.pkcheck.specs.declared.effect.Gives.{Gives}
-use Rattle.pkcheck.specs.declared.effect.Gives.TheVariants.{Makes, MakesIntOrBool, MakesText}
-use Rattle.pkcheck.specs.declared.effect.Gives.TheVariants.{MayMake, Answers}
-use Rattle.pkcheck.specs.Effects.{Effect, Operates, effect_of}
-use Rattle.pkcheck.specs.Runs.{Event, Did}
+use Rattle.pkmachine.specs.declared.effect.Class.TheVariants as class
+use Rattle.pkmachine.specs.declared.effect.Gives.{Gives}
+use Rattle.pkmachine.specs.declared.effect.Gives.TheVariants.{Makes, MakesIntOrBool, MakesText}
+use Rattle.pkmachine.specs.declared.effect.Gives.TheVariants.{MayMake, Answers}
+use Rattle.pkmachine.specs.Effects.{Effect, Operates, effect_of}
+use Rattle.pkmachine.specs.Runs.{Event, Did}
 use Rattle.pkjson.specs.Unfolds.{Content, Scalar, Sequence, Pairs, Heap}
 use Rattle.pkjson.specs.Integers.{integer_named}
 

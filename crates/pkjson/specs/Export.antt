@@ -7,12 +7,12 @@ use Rattle.pkops.specs.Limits.{Bounds, holding_all}
 use Rattle.pkops.specs.Spelling.{Instruction}
 use Rattle.pkops.specs.declared.Reason.TheVariants as reason
 use Rattle.pkread.specs.Rows.{Sight, in_memory}
-use Rattle.pkcheck.specs.declared.OldStrings.TheVariants.{Unknown}
+use Rattle.pkmachine.specs.declared.OldStrings.TheVariants.{Unknown}
 use Rattle.pkcheck.specs.Accepted.{Accepted}
 use Rattle.pkcheck.specs.Refused.{Refused}
 use Rattle.pkimport.specs.Import.{Asked}
-use Rattle.pkcheck.specs.Runs.{Event, State, Stopped, start}
-use Rattle.pkcheck.specs.WholeRuns.{EndedBy}
+use Rattle.pkmachine.specs.Runs.{Event, State, Stopped, start}
+use Rattle.pkmachine.specs.WholeRuns.{EndedBy}
 use Rattle.pkjson.specs.declared.error.ExportError.{ExportError}
 use Rattle.pkjson.specs.declared.error.ExportError.TheVariants.{Check, NotPlain, Key, Number}
 use Rattle.pkjson.specs.declared.error.ExportError.TheVariants.{TooDeep, TooMany, OutOfMemory}

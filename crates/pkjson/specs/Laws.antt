@@ -2,8 +2,8 @@
 use Rattle.std.specs.Prelude.{◌≡◌, ℕ, List, length, replicate}
 use Rattle.serde_json.specs.Data.{Data, depth}
 use Rattle.pkops.specs.Spelling.{Instruction}
-use Rattle.pkcheck.specs.Runs.{State}
-use Rattle.pkcheck.specs.WholeRuns.{run}
+use Rattle.pkmachine.specs.Runs.{State}
+use Rattle.pkmachine.specs.WholeRuns.{run}
 use Rattle.pkjson.specs.Plain.{goes_on, plain_run}
 use Rattle.pkjson.specs.Unfolds.{Heap, Unfolds, count}
 use Rattle.pkjson.specs.Derived.{Derives}

@@ -5,15 +5,16 @@ use Rattle.pkops.specs.declared.Op.{Op}
 use Rattle.pkops.specs.declared.Op.TheVariants as op
 use Rattle.pkops.specs.Operands.{names_bool}
 use Rattle.pkops.specs.Spelling.{Instruction, spelling}
-use Rattle.pkcheck.specs.declared.effect.Class.TheVariants as class
-use Rattle.pkcheck.specs.declared.effect.Wanted.TheVariants.{WantsDict}
-use Rattle.pkcheck.specs.declared.effect.Gives.{Gives}
-use Rattle.pkcheck.specs.declared.effect.Gives.TheVariants.{Makes, MakesIntOrBool, MayMake, Leaves}
-use Rattle.pkcheck.specs.Effects.{Effect, Operates, effect_of}
+use Rattle.pkmachine.specs.declared.effect.Class.TheVariants as class
+use Rattle.pkmachine.specs.declared.effect.Wanted.TheVariants.{WantsDict}
+use Rattle.pkmachine.specs.declared.effect.Gives.{Gives}
+use Rattle.pkmachine.specs.declared.effect.Gives.TheVariants.{Makes, MakesIntOrBool, MayMake}
+use Rattle.pkmachine.specs.declared.effect.Gives.TheVariants.{Leaves}
+use Rattle.pkmachine.specs.Effects.{Effect, Operates, effect_of}
 use Rattle.pkstack.specs.Shape.{Breach, Entry, Taken, operands}
-use Rattle.pkcheck.specs.Runs.{ObjectClass, Text, Foreign, Object, State, Outcome, Go, Stepped}
-use Rattle.pkcheck.specs.Runs.{WentOn, step, class_at}
-use Rattle.pkcheck.specs.WholeRuns.{Ended, Reached, go_on}
+use Rattle.pkmachine.specs.Runs.{ObjectClass, Text, Foreign, Object, State, Outcome, Go, Stepped}
+use Rattle.pkmachine.specs.Runs.{WentOn, step, class_at}
+use Rattle.pkmachine.specs.WholeRuns.{Ended, Reached, go_on}
 use Rattle.pkjson.specs.Integers.{integer_named, fits_word}
 use Rattle.pkjson.specs.Contents.{gives_of}
 

@@ -2,7 +2,7 @@
 
 ghost use Rattle.std.specs.Prelude.{◌≡◌, IfSome, is_some};
 ghost use Rattle.pkops.specs.Spelling.{Argument, instruction};
-ghost use Rattle.pkcheck.specs.Effects.{effect_of};
+ghost use Rattle.pkmachine.specs.Effects.{effect_of};
 ghost use Rattle.pkjson.specs.Contents.{kind_by_effect};
 ghost use Rattle.pkjson.specs.Plain.{is_plain_data};
 ghost use Rattle.pkjson.specs.Private.PlainActions.{ActsAs, KindsAgree};

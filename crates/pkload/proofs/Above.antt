@@ -2,13 +2,14 @@
 use Rattle.std.proofs.Common.{◌≡◌, ℕ, Bool, true, false, List, length, inl, inr, Ok, refl}
 use Rattle.std.proofs.Common.{subst, arith}
 use Rattle.pkops.specs.Spelling.{Instruction}
-use Rattle.pkcheck.specs.Effects.{effect_as}
+use Rattle.pkmachine.specs.Effects.{effect_as}
 use Rattle.pkcheck.specs.NewRuns.{If, InEachDecodedRun}
-use Rattle.pkcheck.specs.RowRuns.{Afresh, Beginning, Behind}
-use Rattle.pkcheck.specs.Runs.{Raised, Stepped, Stopped, Stuck, WentOn, effect_asks, start, step_as}
+use Rattle.pkmachine.specs.RowRuns.{Afresh, Beginning, Behind}
+use Rattle.pkmachine.specs.Runs.{Raised, Stepped, Stopped, Stuck, WentOn, effect_asks, start}
+use Rattle.pkmachine.specs.Runs.{step_as}
 use Rattle.pkstack.specs.Shape.{and_then}
-use Rattle.pkcheck.specs.WholeRuns.{Ended, EndedBy, Reached, run_as}
-use Rattle.pkcheck.specs.declared.old_strings.OldStrings.{OldStrings}
+use Rattle.pkmachine.specs.WholeRuns.{Ended, EndedBy, Reached, run_as}
+use Rattle.pkmachine.specs.declared.old_strings.OldStrings.{OldStrings}
 use Rattle.pkload.proofs.AtLeast.{at_least}
 use Rattle.pkload.proofs.Steps.{IfBilled, StepBilled, step_billed}
 use Rattle.pkload.proofs.Whole.{IfEnds, each_billed}

@@ -12,8 +12,8 @@ use Rattle.std.proofs.Math.Seq.{get_or-append_seam}
 use Rattle.pkops.specs.declared.Op.{Op}
 use Rattle.pkops.specs.declared.Op.TheVariants as op
 use Rattle.pkops.specs.Spelling.{Instruction}
-use Rattle.pkcheck.specs.Covers.{Pointwise}
-use Rattle.pkcheck.specs.Runs.{Event, Import, Did}
+use Rattle.pkmachine.specs.Covers.{Pointwise}
+use Rattle.pkmachine.specs.Runs.{Event, Import, Did}
 use Rattle.pkload.specs.Heft.{Heft, heft_of}
 use Rattle.pkload.specs.Keys.{keys_of}
 use Rattle.pkload.specs.Laws.{Costs}

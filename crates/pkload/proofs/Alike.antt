@@ -15,7 +15,7 @@ use Rattle.pkstack.specs.declared.Move.TheVariants.{Extends}
 use Rattle.pkstack.specs.Shape.{Breach, Odd, Entry, Mark, Item, Shape, Taken, and_then, unless}
 use Rattle.pkstack.specs.Shape.{is_even, items, slice, breaks, operands, front, top, stored}
 use Rattle.pkstack.specs.Shape.{recalled, fetched, popped, moved}
-use Rattle.pkcheck.specs.Covers.{Pointwise, AlikeEntry, AlikeCell, Alike}
+use Rattle.pkmachine.specs.Covers.{Pointwise, AlikeEntry, AlikeCell, Alike}
 
 abbrev pub SameResult : {X Y : Type 0} → (X → Y → Type 0) → Result X Breach → Result Y Breach
     → Type 0

@@ -4,10 +4,10 @@ use Rattle.std.proofs.Common.{◌∷◌, ◌++◌, length, map, set, Some, refl,
 use Rattle.std.specs.Prelude.{⊤, slice_get, unwrap_or}
 use Rattle.pkops.specs.Spelling.{Instruction}
 use Rattle.pkops.specs.declared.Op.{Op}
-use Rattle.pkcheck.specs.Covers.{Pointwise}
-use Rattle.pkcheck.specs.Effects.{is_old_string}
+use Rattle.pkmachine.specs.Covers.{Pointwise}
+use Rattle.pkmachine.specs.Effects.{is_old_string}
 use Rattle.pkcheck.specs.NewRuns.{DecodesNew, If, IsNew}
-use Rattle.pkcheck.specs.Runs.{Event, Go, ObjectClass, Outcome, Raise, State, with_event}
+use Rattle.pkmachine.specs.Runs.{Event, Go, ObjectClass, Outcome, Raise, State, with_event}
 use Rattle.pkload.proofs.Accounts.{at_most_itself, kept_at, new_at}
 use Rattle.pkload.proofs.Lighter.{AreLighter, IsLighter, made_below, operation_below}
 use Rattle.pkload.proofs.Readings.{AreSome, IsAgain, IsLightAnswer, Reading, answer_heft}

@@ -15,20 +15,20 @@ use Rattle.pkread.specs.Rows.{Sight, Takes}
 use Rattle.pkread.specs.Sequence.{spellings}
 use Rattle.pkcheck.specs.Accepted.{AcceptedFrom}
 use Rattle.pkcheck.specs.Heard.{refused_instruction}
-use Rattle.pkcheck.specs.Knowledge.{Policy}
+use Rattle.pkmachine.specs.Knowledge.{Policy}
 use Rattle.pkimport.specs.Import.{Asked}
 use Rattle.pkcheck.specs.Refused.{RefusedFrom, Why, reading, judging, growing}
 use Rattle.pkcheck.specs.NewRuns.{InEachNewRun}
 use Rattle.pkcheck.specs.Reports.{AreReportsBehind, Report}
 use Rattle.pkcheck.specs.RowOfPickles.{begins, bytes_of_all}
-use Rattle.pkcheck.specs.RowRuns.{Afresh, Beginning, Behind, Pickle}
+use Rattle.pkmachine.specs.RowRuns.{Afresh, Beginning, Behind, Pickle}
 use Rattle.pkcheck.specs.RunFaults.{IsFaultless}
-use Rattle.pkcheck.specs.Runs.{Raised, Stopped, Stuck, WentOn, start}
+use Rattle.pkmachine.specs.Runs.{Raised, Stopped, Stuck, WentOn, start}
 use Rattle.pkstack.specs.Shape.{Breach, and_then}
 use Rattle.pkcheck.specs.ThreeEnds.{StoppedFrom}
-use Rattle.pkcheck.specs.WholeRuns.{Ended, EndedBy, Reached, run_as}
+use Rattle.pkmachine.specs.WholeRuns.{Ended, EndedBy, Reached, run_as}
 use Rattle.pkcheck.specs.declared.loading.Loading.{Loading}
-use Rattle.pkcheck.specs.declared.old_strings.OldStrings.{OldStrings}
+use Rattle.pkmachine.specs.declared.old_strings.OldStrings.{OldStrings}
 use Rattle.pkload.proofs.Above.{each_above}
 use Rattle.pkload.proofs.Exceeding.{none_at, over_along, refused_place}
 use Rattle.pkload.proofs.Loading.{IsReady, all_good, billed_more, made_ready}

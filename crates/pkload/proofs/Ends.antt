@@ -7,12 +7,12 @@ use Rattle.pkops.specs.Payloads.{payload_limit}
 use Rattle.pkops.specs.declared.Reason.{Reason}
 use Rattle.pkread.specs.Rows.{Sight}
 use Rattle.pkread.specs.Sequence.{IsSequence, spellings}
-use Rattle.pkcheck.specs.Knowledge.{Policy}
+use Rattle.pkmachine.specs.Knowledge.{Policy}
 use Rattle.pkimport.specs.Import.{Asked}
 use Rattle.pkcheck.specs.NewRuns.{FaultlessIsRun}
 use Rattle.pkcheck.specs.Reports.{Report}
 use Rattle.pkcheck.specs.RowOfPickles.{AreAccepted, IsAcceptedBehind, bytes_of_all}
-use Rattle.pkcheck.specs.RowRuns.{Pickle}
+use Rattle.pkmachine.specs.RowRuns.{Pickle}
 use Rattle.pkcheck.specs.ThreeEnds.{AcceptedAndTold, AreReportsOf, RefusedAndTold, StoppedAndTold}
 use Rattle.pkcheck.specs.declared.check_loop.Extent.{Extent}
 use Rattle.pkcheck.specs.declared.check_loop.Extent.TheVariants.{OnePickle, ToTheEnd}

@@ -3,9 +3,9 @@ use Rattle.std.proofs.Common.{◌≡◌, ℕ, List, ◌∷◌, ◌++◌, [], len
 use Rattle.std.proofs.Common.{subst, ◌∙◌, arith}
 use Rattle.pkops.specs.Spelling.{Instruction}
 use Rattle.pkops.specs.declared.Op.{Op}
-use Rattle.pkcheck.specs.Covers.{Pointwise}
+use Rattle.pkmachine.specs.Covers.{Pointwise}
 use Rattle.pkcheck.specs.NewRuns.{AnswersNew}
-use Rattle.pkcheck.specs.Runs.{Event, Go, Outcome, Raise, State, with_event}
+use Rattle.pkmachine.specs.Runs.{Event, Go, Outcome, Raise, State, with_event}
 use Rattle.pkload.proofs.Accounts.{costs_are, kept_at, new_at}
 use Rattle.pkload.proofs.Readings.{Reading}
 use Rattle.pkload.specs.Heft.{Heft, heft_of}

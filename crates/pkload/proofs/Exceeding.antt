@@ -8,10 +8,10 @@ use Rattle.pkops.specs.Spelling.{Instruction}
 use Rattle.pkops.specs.declared.Op.TheVariants as op
 use Rattle.pkread.specs.Sequence.{NoStop, spellings}
 use Rattle.pkcheck.specs.Reports.{AreReportsBehind, Report}
-use Rattle.pkcheck.specs.RowRuns.{Beginning}
+use Rattle.pkmachine.specs.RowRuns.{Beginning}
 use Rattle.pkstack.specs.Shape.{and_then}
-use Rattle.pkcheck.specs.declared.loading.Memo.{Memo}
-use Rattle.pkcheck.specs.declared.old_strings.OldStrings.{OldStrings}
+use Rattle.pkmachine.specs.declared.memo.Memo.{Memo}
+use Rattle.pkmachine.specs.declared.old_strings.OldStrings.{OldStrings}
 use Rattle.pkload.proofs.Loading.{metered_is}
 use Rattle.pkload.proofs.Tolds.{NoneBehindStop, one_told, still_going}
 use Rattle.pkload.specs.Bill.{Bill, all_billed, billed}

@@ -3,7 +3,7 @@ use Rattle.std.proofs.Common.{◌+◌, ◌≤◌, ℕ, Bool, true, false, cond, 
 use Rattle.std.proofs.Common.{min, arith}
 use Rattle.pkops.specs.declared.Op.{Op}
 use Rattle.pkops.specs.declared.Op.TheVariants as op
-use Rattle.pkcheck.specs.Covers.{Pointwise}
+use Rattle.pkmachine.specs.Covers.{Pointwise}
 use Rattle.pkload.proofs.Accounts.{implies_itself}
 use Rattle.pkload.specs.Heft.{Heft, deepest_of, heft_made, holds_operands, makes_tuple, most_depth}
 use Rattle.pkload.specs.Heft.{most_weight, payload_weight, weights_of}

@@ -12,20 +12,20 @@ use Rattle.pkops.specs.Spelling.{Instruction}
 use Rattle.pkread.specs.Admission.{IsAllowedBy}
 use Rattle.pkread.specs.Rows.{Sight}
 use Rattle.pkread.specs.Sequence.{IsSequence, StopIsLast}
-use Rattle.pkcheck.specs.Knowledge.{Policy}
+use Rattle.pkmachine.specs.Knowledge.{Policy}
 use Rattle.pkcheck.specs.NewRuns.{InEachNewRun}
 use Rattle.pkcheck.specs.Reports.{AreReportsBehind, Report}
 use Rattle.pkcheck.specs.RowOfPickles.{AreAccepted, begins, bytes_of_all}
-use Rattle.pkcheck.specs.RowRuns.{Afresh, Beginning, Behind, Pickle, sequences_of}
-use Rattle.pkcheck.specs.Runs.{Raised, Stopped, Stuck, WentOn, start}
+use Rattle.pkmachine.specs.RowRuns.{Afresh, Beginning, Behind, Pickle, sequences_of}
+use Rattle.pkmachine.specs.Runs.{Raised, Stopped, Stuck, WentOn, start}
 use Rattle.pkstack.specs.Shape.{Breach, and_then}
 use Rattle.pkcheck.specs.ThreeEnds.{AreReportsOf}
-use Rattle.pkcheck.specs.WholeRuns.{Ended, EndedBy, Reached, run_as}
+use Rattle.pkmachine.specs.WholeRuns.{Ended, EndedBy, Reached, run_as}
 use Rattle.pkcheck.specs.declared.check_loop.Extent.TheVariants.{OnePickle, ToTheEnd}
 use Rattle.pkcheck.specs.declared.loading.Loading.{Loading}
-use Rattle.pkcheck.specs.declared.loading.Memo.{Memo}
-use Rattle.pkcheck.specs.declared.loading.Memo.TheVariants.{Fresh, Kept}
-use Rattle.pkcheck.specs.declared.old_strings.OldStrings.{OldStrings}
+use Rattle.pkmachine.specs.declared.memo.Memo.{Memo}
+use Rattle.pkmachine.specs.declared.memo.Memo.TheVariants.{Fresh, Kept}
+use Rattle.pkmachine.specs.declared.old_strings.OldStrings.{OldStrings}
 use Rattle.pkload.proofs.Accounts.{implies_across}
 use Rattle.pkload.proofs.Tolds.{NoneBehindStop, metering_of, none_behind, stopped, told_along}
 use Rattle.pkload.proofs.Whole.{bill_bounds_runs}

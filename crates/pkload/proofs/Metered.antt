@@ -1,7 +1,7 @@
 -- A pickle that begins keeps within the limits.
 use Rattle.std.proofs.Common.{Bool, true, false, arith}
-use Rattle.pkcheck.specs.declared.loading.Memo.{Memo}
-use Rattle.pkcheck.specs.declared.loading.Memo.TheVariants.{Fresh, Kept}
+use Rattle.pkmachine.specs.declared.memo.Memo.{Memo}
+use Rattle.pkmachine.specs.declared.memo.Memo.TheVariants.{Fresh, Kept}
 use Rattle.pkload.specs.Private.Meter.{Fits}
 use Rattle.pkload.specs.Private.Told.{Metering, next_if}
 use Rattle.pkload.specs.Tally.{no_tally}

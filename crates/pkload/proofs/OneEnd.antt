@@ -15,10 +15,10 @@ use Rattle.pkread.specs.Sequence.{spellings}
 use Rattle.pkread.specs.Sequences.{OneFront, OneSequence, SequenceGoesOn}
 use Rattle.pkcheck.specs.Exclusive.{OneBegins, RefusedBehind, YesExcludesNo, YesOfRowExcludesNo}
 use Rattle.pkimport.specs.Import.{Asked, asked_shown}
-use Rattle.pkcheck.specs.Knowledge.{Policy}
+use Rattle.pkmachine.specs.Knowledge.{Policy}
 use Rattle.pkcheck.specs.Refused.{RefusedFrom}
 use Rattle.pkcheck.specs.RowOfPickles.{AreAccepted, begins, bytes_of_all}
-use Rattle.pkcheck.specs.RowRuns.{Pickle, sequences_of}
+use Rattle.pkmachine.specs.RowRuns.{Pickle, sequences_of}
 use Rattle.pkstack.specs.Shape.{and_then}
 use Rattle.pkcheck.specs.declared.check_loop.Extent.{Extent}
 use Rattle.pkcheck.specs.declared.check_loop.Extent.TheVariants.{OnePickle, ToTheEnd}

@@ -1,7 +1,7 @@
 -- A new object on the stack.
 use Rattle.std.proofs.Common.{◌≡◌, ℕ, List, [], ◌∷◌, ◌++◌, length, subst}
-use Rattle.pkcheck.specs.Covers.{Alike, AlikeCell, AlikeEntry, Pointwise}
-use Rattle.pkcheck.specs.Runs.{Object}
+use Rattle.pkmachine.specs.Covers.{Alike, AlikeCell, AlikeEntry, Pointwise}
+use Rattle.pkmachine.specs.Runs.{Object}
 use Rattle.pkstack.specs.Shape.{Entry, Item}
 use Rattle.pkload.proofs.Alike.{Alike-map}
 use Rattle.pkload.proofs.Readings.{Reading}

@@ -2,11 +2,11 @@
 use Rattle.std.specs.Prelude.{◌≡◌, ◌++◌, ◌∷◌, ◌≤◌, ◌<◌, [], ⊤, ℕ, false, length, List, map, true}
 use Rattle.pkops.specs.Spelling.{Instruction}
 use Rattle.pkops.specs.declared.Op.{Op}
-use Rattle.pkcheck.specs.Covers.{Pointwise}
-use Rattle.pkcheck.specs.Effects.{Effect, Operates, is_old_string}
-use Rattle.pkcheck.specs.Runs.{Event, Go, ObjectClass, Outcome, State, with_event}
-use Rattle.pkcheck.specs.declared.effect.Gives.{Gives}
-use Rattle.pkcheck.specs.declared.effect.Gives.TheVariants.{Answers}
+use Rattle.pkmachine.specs.Covers.{Pointwise}
+use Rattle.pkmachine.specs.Effects.{Effect, Operates, is_old_string}
+use Rattle.pkmachine.specs.Runs.{Event, Go, ObjectClass, Outcome, State, with_event}
+use Rattle.pkmachine.specs.declared.effect.Gives.{Gives}
+use Rattle.pkmachine.specs.declared.effect.Gives.TheVariants.{Answers}
 use Rattle.pkload.specs.Heft.{Heft, heft_made, heft_of, imports_object}
 use Rattle.pkload.specs.Tally.{IsAtMost, no_tally, with_operation}
 use Rattle.pkload.specs.Weighed.{answered_again, heft_at}

@@ -12,17 +12,17 @@ use Rattle.pkops.specs.declared.Reason.{Reason}
 use Rattle.pkread.specs.Rows.{Sight}
 use Rattle.pkread.specs.Sequence.{spellings}
 use Rattle.pkcheck.specs.Heard.{refused_instruction}
-use Rattle.pkcheck.specs.Knowledge.{Policy}
+use Rattle.pkmachine.specs.Knowledge.{Policy}
 use Rattle.pkimport.specs.Import.{Asked}
 use Rattle.pkcheck.specs.Refused.{RefusedFrom}
 use Rattle.pkcheck.specs.Reports.{AreReportsBehind, Report}
 use Rattle.pkcheck.specs.RowOfPickles.{AreAccepted, begins, bytes_of_all}
-use Rattle.pkcheck.specs.RowRuns.{Beginning, Pickle, sequences_of}
+use Rattle.pkmachine.specs.RowRuns.{Beginning, Pickle, sequences_of}
 use Rattle.pkstack.specs.Shape.{and_then}
 use Rattle.pkcheck.specs.ThreeEnds.{AreReportsOf}
 use Rattle.pkcheck.specs.declared.loading.Loading.{Loading}
-use Rattle.pkcheck.specs.declared.loading.Memo.{Memo}
-use Rattle.pkcheck.specs.declared.old_strings.OldStrings.{OldStrings}
+use Rattle.pkmachine.specs.declared.memo.Memo.{Memo}
+use Rattle.pkmachine.specs.declared.old_strings.OldStrings.{OldStrings}
 use Rattle.pkload.proofs.Exceeding.{none_at, past}
 use Rattle.pkload.proofs.Loading.{IsReady, all_good, at_first, begins_ready, begins_within}
 use Rattle.pkload.proofs.Loading.{fits_split, last_fits, made_ready, metered_is, rows_within}

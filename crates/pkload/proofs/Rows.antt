@@ -4,9 +4,9 @@ use Rattle.std.proofs.Common.{Bool, ◌++◌, false, replicate, true}
 use Rattle.pkops.specs.declared.Op.{Op}
 use Rattle.pkops.specs.declared.Op.TheVariants as op
 use Rattle.pkops.specs.Spelling.{Counted, Instruction, Line, Nothing, Number, Pair, instruction}
-use Rattle.pkcheck.specs.Runs.{Foreign, Go, Raise, Stopped, WentOn, Raised, Stuck, start}
+use Rattle.pkmachine.specs.Runs.{Foreign, Go, Raise, Stopped, WentOn, Raised, Stuck, start}
 use Rattle.pkstack.specs.Shape.{Breach}
-use Rattle.pkcheck.specs.WholeRuns.{Ended, EndedBy, Reached, run}
+use Rattle.pkmachine.specs.WholeRuns.{Ended, EndedBy, Reached, run}
 use Rattle.pkload.specs.Bill.{Bill, all_billed, no_bill}
 use Rattle.pkload.specs.declared.tally.Tally.{Tally}
 use Rattle.pkload.specs.Tally.{no_tally}

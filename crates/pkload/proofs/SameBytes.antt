@@ -18,15 +18,15 @@ use Rattle.pkread.specs.Sequence.{spellings}
 use Rattle.pkread.specs.Sequences.{OneFront, SequenceGoesOn}
 use Rattle.pkcheck.specs.Accepted.{AcceptedFrom}
 use Rattle.pkcheck.specs.Exclusive.{OneBegins, RefusedBehind}
-use Rattle.pkcheck.specs.Knowledge.{Policy}
+use Rattle.pkmachine.specs.Knowledge.{Policy}
 use Rattle.pkimport.specs.Import.{Asked}
 use Rattle.pkcheck.specs.Refused.{RefusedFrom}
 use Rattle.pkcheck.specs.RowOfPickles.{begins, bytes_of_all}
-use Rattle.pkcheck.specs.RowRuns.{Pickle, sequences_of}
+use Rattle.pkmachine.specs.RowRuns.{Pickle, sequences_of}
 use Rattle.pkstack.specs.Shape.{Breach, and_then}
 use Rattle.pkcheck.specs.declared.loading.Loading.{Loading}
-use Rattle.pkcheck.specs.declared.loading.Memo.{Memo}
-use Rattle.pkcheck.specs.declared.loading.Memo.TheVariants.{Fresh, Kept}
+use Rattle.pkmachine.specs.declared.memo.Memo.{Memo}
+use Rattle.pkmachine.specs.declared.memo.Memo.TheVariants.{Fresh, Kept}
 use Rattle.pkload.proofs.Costs.{all_front}
 use Rattle.pkload.proofs.Loading.{all_good, billed_more}
 use Rattle.pkload.proofs.Staying.{excess_stays}

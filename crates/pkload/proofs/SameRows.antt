@@ -12,9 +12,9 @@ use Rattle.pkops.specs.Spelling.{Instruction}
 use Rattle.pkread.specs.Rows.{Sight}
 use Rattle.pkread.specs.Sequence.{StopIsLast, spellings}
 use Rattle.pkread.specs.Sequences.{OneSequence}
-use Rattle.pkcheck.specs.Knowledge.{Policy}
+use Rattle.pkmachine.specs.Knowledge.{Policy}
 use Rattle.pkcheck.specs.RowOfPickles.{AreAccepted, IsAcceptedBehind, bytes_of_all}
-use Rattle.pkcheck.specs.RowRuns.{Pickle, sequences_of}
+use Rattle.pkmachine.specs.RowRuns.{Pickle, sequences_of}
 use Rattle.pkcheck.specs.declared.loading.Loading.{Loading}
 use Rattle.pkload.proofs.SameBytes.{consumed}
 

@@ -6,10 +6,10 @@ use Rattle.std.specs.Prelude.{◌≢◌, ⊤, IfErr, MatchResult, option_map}
 use Rattle.pkops.specs.Limits.{Bounds}
 use Rattle.pkread.specs.Rows.{Sight}
 use Rattle.pkimport.specs.Import.{asked_shown}
-use Rattle.pkcheck.specs.Knowledge.{Policy}
+use Rattle.pkmachine.specs.Knowledge.{Policy}
 use Rattle.pkcheck.specs.NewRuns.{FaultlessIsRun}
 use Rattle.pkcheck.specs.Reports.{Report}
-use Rattle.pkcheck.specs.RowRuns.{sequences_of}
+use Rattle.pkmachine.specs.RowRuns.{sequences_of}
 use Rattle.pkcheck.specs.ThreeEnds.{AcceptedAndTold, RefusedAndTold, StopsTold}
 use Rattle.pkcheck.specs.declared.check_loop.Extent.{Extent}
 use Rattle.pkcheck.specs.declared.check_loop.Extent.TheVariants.{OnePickle, ToTheEnd}

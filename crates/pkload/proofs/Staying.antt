@@ -4,9 +4,9 @@ use Rattle.std.proofs.Common.{inl, inr, Result, Ok, Err, sym, ap, subst, ◌∙�
 use Rattle.std.specs.Prelude.{⊤}
 use Rattle.pkops.specs.Operands.{memo_number}
 use Rattle.pkops.specs.Spelling.{Instruction}
-use Rattle.pkcheck.specs.Effects.{Effect, Operates, Moves, Stops, Raises, effect_of}
+use Rattle.pkmachine.specs.Effects.{Effect, Operates, Moves, Stops, Raises, effect_of}
 use Rattle.pkstack.specs.Shape.{Breach, NoItem, Entry, Shape, Taken, and_then, moved, operands, top}
-use Rattle.pkcheck.specs.declared.effect.Gives.{Gives}
+use Rattle.pkmachine.specs.declared.effect.Gives.{Gives}
 use Rattle.pkstack.specs.declared.Move.{Move}
 use Rattle.pkload.proofs.Accounts.{implies_across}
 use Rattle.pkload.proofs.Loading.{billed_more}

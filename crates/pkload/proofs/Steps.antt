@@ -10,25 +10,26 @@ use Rattle.std.specs.List.{list_all}
 use Rattle.pkops.specs.OldBytes.{old_bytes}
 use Rattle.pkops.specs.Operands.{memo_number}
 use Rattle.pkops.specs.Spelling.{Instruction}
-use Rattle.pkcheck.specs.declared.effect.Names.{Names}
-use Rattle.pkcheck.specs.declared.effect.Gives.{Gives}
+use Rattle.pkmachine.specs.declared.effect.Names.{Names}
+use Rattle.pkmachine.specs.declared.effect.Gives.{Gives}
 use Rattle.pkstack.specs.declared.Move.{Move}
-use Rattle.pkcheck.specs.declared.effect.Gives.TheVariants.{Makes, MakesIntOrBool, MakesText}
-use Rattle.pkcheck.specs.declared.effect.Gives.TheVariants.{MayMake, Answers, Leaves}
-use Rattle.pkcheck.specs.declared.effect.Class.TheVariants as class
-use Rattle.pkcheck.specs.declared.effect.Names.TheVariants.{NoName}
+use Rattle.pkmachine.specs.declared.effect.Gives.TheVariants.{Makes, MakesIntOrBool, MakesText}
+use Rattle.pkmachine.specs.declared.effect.Gives.TheVariants.{MayMake, Answers, Leaves}
+use Rattle.pkmachine.specs.declared.effect.Class.TheVariants as class
+use Rattle.pkmachine.specs.declared.effect.Names.TheVariants.{NoName}
 use Rattle.pkstack.specs.declared.Takes.TheVariants.{Objects}
-use Rattle.pkcheck.specs.declared.old_strings.OldStrings.{OldStrings}
-use Rattle.pkcheck.specs.declared.old_strings.OldStrings.TheVariants.{Unknown, Ascii, Bytes}
-use Rattle.pkcheck.specs.Covers.{Alike, AlikeEntry}
-use Rattle.pkcheck.specs.Effects.{Effect, Operates, Moves, Stops, Raises, answers, ascii_string}
-use Rattle.pkcheck.specs.Effects.{effect_as, effect_of, is_old_string, pushes}
+use Rattle.pkmachine.specs.declared.old_strings.OldStrings.{OldStrings}
+use Rattle.pkmachine.specs.declared.old_strings.OldStrings.TheVariants.{Unknown, Ascii, Bytes}
+use Rattle.pkmachine.specs.Covers.{Alike, AlikeEntry}
+use Rattle.pkmachine.specs.Effects.{Effect, Operates, Moves, Stops, Raises, answers, ascii_string}
+use Rattle.pkmachine.specs.Effects.{effect_as, effect_of, is_old_string, pushes}
 use Rattle.pkcheck.specs.NewRuns.{If}
-use Rattle.pkcheck.specs.Runs.{Did, Event, Foreign, Go, Import, Named, NoImport, NotTexts, Object}
-use Rattle.pkcheck.specs.Runs.{ObjectClass, Outcome, Pair, Raise, Raised, State, Stepped, Stopped}
-use Rattle.pkcheck.specs.Runs.{Stuck, WentOn, asks, class_at, come_of, effect_asks}
-use Rattle.pkcheck.specs.Runs.{gone_on, move_step, named, operate_step, operated, perform, step_as}
-use Rattle.pkcheck.specs.Runs.{stop_step, with_answer, with_event}
+use Rattle.pkmachine.specs.Runs.{Did, Event, Foreign, Go, Import, Named, NoImport, NotTexts, Object}
+use Rattle.pkmachine.specs.Runs.{ObjectClass, Outcome, Pair, Raise, Raised, State, Stepped, Stopped}
+use Rattle.pkmachine.specs.Runs.{Stuck, WentOn, asks, class_at, come_of, effect_asks}
+use Rattle.pkmachine.specs.Runs.{gone_on, move_step, named, operate_step, operated, perform}
+use Rattle.pkmachine.specs.Runs.{step_as}
+use Rattle.pkmachine.specs.Runs.{stop_step, with_answer, with_event}
 use Rattle.pkstack.specs.Shape.{Breach, NoItem, Entry, Item, Shape}
 use Rattle.pkstack.specs.Shape.{Taken, front, moved, operands, put, top}
 use Rattle.pkload.proofs.Accounts.{along_end, next_is_new, nothing_counted, since_end}

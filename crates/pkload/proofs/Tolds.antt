@@ -12,14 +12,14 @@ use Rattle.pkops.specs.declared.layout.Layout.TheVariants as layout
 use Rattle.pkops.specs.declared.layout.Width.{Width}
 use Rattle.pkops.specs.declared.layout.Width.TheVariants as width
 use Rattle.pkread.specs.Sequence.{NoStop}
-use Rattle.pkcheck.specs.Effects.{Effect, Operates, Moves, Stops, Raises, effect_of}
+use Rattle.pkmachine.specs.Effects.{Effect, Operates, Moves, Stops, Raises, effect_of}
 use Rattle.pkcheck.specs.Reports.{AreReportsBehind, Report, told_of}
-use Rattle.pkcheck.specs.RowRuns.{Beginning}
+use Rattle.pkmachine.specs.RowRuns.{Beginning}
 use Rattle.pkstack.specs.Shape.{Breach, Entry, NoItem, Shape, Taken, and_then, moved, operands, top}
-use Rattle.pkcheck.specs.declared.effect.Gives.{Gives}
+use Rattle.pkmachine.specs.declared.effect.Gives.{Gives}
 use Rattle.pkstack.specs.declared.Move.{Move}
-use Rattle.pkcheck.specs.declared.loading.Memo.{Memo}
-use Rattle.pkcheck.specs.declared.old_strings.OldStrings.{OldStrings}
+use Rattle.pkmachine.specs.declared.memo.Memo.{Memo}
+use Rattle.pkmachine.specs.declared.old_strings.OldStrings.{OldStrings}
 use Rattle.pkops.specs.Operands.{memo_number}
 use Rattle.pkload.specs.Bill.{Bill, all_billed, billed, billed_by, move_billed}
 use Rattle.pkload.specs.Bill.{operation_billed, stop_billed}

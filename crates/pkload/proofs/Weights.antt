@@ -4,7 +4,7 @@ use Rattle.std.proofs.Common.{length, set, refl, arith, length-set, cond}
 use Rattle.pkops.specs.Spelling.{Instruction}
 use Rattle.pkops.specs.declared.Op.{Op}
 use Rattle.pkops.specs.declared.Op.TheVariants as op
-use Rattle.pkcheck.specs.Effects.{answers, effect_of, is_old_string}
+use Rattle.pkmachine.specs.Effects.{answers, effect_of, is_old_string}
 use Rattle.pkstack.specs.declared.Takes.TheVariants.{Objects}
 use Rattle.pkload.proofs.Readings.{AreSome, IsLightIn}
 use Rattle.pkload.specs.Heft.{Heft, heft_made, imports_object}

@@ -5,17 +5,18 @@ use Rattle.std.proofs.Common.{Some, None, Result, Ok, Err, refl, sym, ap, subst,
 use Rattle.std.specs.Prelude.{⊤}
 use Rattle.pkops.specs.Operands.{memo_number}
 use Rattle.pkops.specs.Spelling.{Instruction}
-use Rattle.pkcheck.specs.declared.effect.Gives.{Gives}
+use Rattle.pkmachine.specs.declared.effect.Gives.{Gives}
 use Rattle.pkstack.specs.declared.Move.{Move}
-use Rattle.pkcheck.specs.declared.old_strings.OldStrings.{OldStrings}
-use Rattle.pkcheck.specs.Effects.{Effect, Operates, Moves, Stops, Raises, effect_as, effect_of}
+use Rattle.pkmachine.specs.declared.old_strings.OldStrings.{OldStrings}
+use Rattle.pkmachine.specs.Effects.{Effect, Operates, Moves, Stops, Raises, effect_as, effect_of}
 use Rattle.pkcheck.specs.NewRuns.{IfStopped, IfWentOn, InEachOf, Obeys, RowObeys}
-use Rattle.pkcheck.specs.Runs.{Outcome, Raised, State, Stepped, Stopped, Stuck, WentOn, effect_asks}
-use Rattle.pkcheck.specs.Runs.{start, step_as}
-use Rattle.pkcheck.specs.RowRuns.{Afresh, Beginning, Behind, next_from, run_row, sequences_of}
+use Rattle.pkmachine.specs.Runs.{Outcome, Raised, State, Stepped, Stopped, Stuck, WentOn}
+use Rattle.pkmachine.specs.Runs.{effect_asks}
+use Rattle.pkmachine.specs.Runs.{start, step_as}
+use Rattle.pkmachine.specs.RowRuns.{Afresh, Beginning, Behind, next_from, run_row, sequences_of}
 use Rattle.pkstack.specs.Shape.{Breach, NoItem, Entry, Shape, Taken, and_then, moved, operands, top}
-use Rattle.pkcheck.specs.WholeRuns.{Ended, EndedBy, Reached}
-use Rattle.pkcheck.specs.WholeRuns.{first_outcome, go_on, outcomes_after, run_as}
+use Rattle.pkmachine.specs.WholeRuns.{Ended, EndedBy, Reached}
+use Rattle.pkmachine.specs.WholeRuns.{first_outcome, go_on, outcomes_after, run_as}
 use Rattle.pkload.proofs.Accounts.{at_most_across, at_most_itself, none_since, operation_grows}
 use Rattle.pkload.proofs.Exactly.{exactly}
 use Rattle.pkload.proofs.Readings.{Reading}

@@ -5,13 +5,13 @@ use Rattle.std.specs.Prelude.{ℕ, ◌+◌, ◌-◌, max, List, [], ◌∷◌, �
 use Rattle.std.specs.Prelude.{Result, Ok, Err, Bool, true, false, if◌then◌else◌}
 use Rattle.pkops.specs.Spelling.{Instruction}
 use Rattle.pkops.specs.Operands.{memo_number}
-use Rattle.pkcheck.specs.declared.effect.Gives.{Gives}
-use Rattle.pkcheck.specs.declared.effect.Gives.TheVariants.{Leaves}
+use Rattle.pkmachine.specs.declared.effect.Gives.{Gives}
+use Rattle.pkmachine.specs.declared.effect.Gives.TheVariants.{Leaves}
 use Rattle.pkstack.specs.declared.Move.{Move}
-use Rattle.pkcheck.specs.Effects.{Effect, Operates, Moves, Stops, Raises, effect_of}
+use Rattle.pkmachine.specs.Effects.{Effect, Operates, Moves, Stops, Raises, effect_of}
 use Rattle.pkstack.specs.Shape.{Breach, NoItem, Entry, Shape, Taken}
 use Rattle.pkstack.specs.Shape.{and_then, operands, put, moved, top}
-use Rattle.pkcheck.specs.RowRuns.{Beginning, Afresh, Behind, sequences_of}
+use Rattle.pkmachine.specs.RowRuns.{Beginning, Afresh, Behind, sequences_of}
 use Rattle.pkload.specs.Heft.{Heft, heft_of}
 use Rattle.pkload.specs.Memory.{move_memory, number_kept, operation_memory}
 use Rattle.pkload.specs.declared.tally.Tally.{Tally}

@@ -6,19 +6,19 @@ use Rattle.pkops.specs.Spelling.{Instruction}
 use Rattle.pkread.specs.Admission.{IsAllowedBy}
 use Rattle.pkread.specs.Rows.{Sight, Takes}
 use Rattle.pkread.specs.Sequence.{NoStop, spellings}
-use Rattle.pkcheck.specs.Knowledge.{Policy}
+use Rattle.pkmachine.specs.Knowledge.{Policy}
 use Rattle.pkcheck.specs.NewRuns.{DecodesNew, GetsPast, InEachDecodedRun, InEachNewRun}
 use Rattle.pkcheck.specs.NewRuns.{InSomeNewRun}
 use Rattle.pkcheck.specs.RowOfPickles.{AreAccepted, begins, bytes_of_all}
-use Rattle.pkcheck.specs.RowRuns.{Pickle}
+use Rattle.pkmachine.specs.RowRuns.{Pickle}
 use Rattle.pkcheck.specs.RunFaults.{IsFaultless}
-use Rattle.pkcheck.specs.Runs.{Outcome, Raised, Stepped, Stopped, Stuck, WentOn, step_as}
+use Rattle.pkmachine.specs.Runs.{Outcome, Raised, Stepped, Stopped, Stuck, WentOn, step_as}
 use Rattle.pkstack.specs.Shape.{and_then}
-use Rattle.pkcheck.specs.WholeRuns.{Ended, EndedBy, Reached}
+use Rattle.pkmachine.specs.WholeRuns.{Ended, EndedBy, Reached}
 use Rattle.pkcheck.specs.declared.check_loop.Extent.{Extent}
 use Rattle.pkcheck.specs.declared.check_loop.Extent.TheVariants.{OnePickle}
 use Rattle.pkcheck.specs.declared.loading.Loading.{Loading}
-use Rattle.pkcheck.specs.declared.old_strings.OldStrings.{OldStrings}
+use Rattle.pkmachine.specs.declared.old_strings.OldStrings.{OldStrings}
 use Rattle.pkload.specs.Bill.{Bill, all_billed, bill_before, billed}
 use Rattle.pkload.specs.Loading.{KeepWithin}
 use Rattle.pkload.specs.Tolls.{Exceeds, IsExcess, KeepsWithin}

@@ -4,22 +4,22 @@ use Rattle.pkops.specs.Limits.{Bounds}
 use Rattle.pkops.specs.Spelling.{Instruction}
 use Rattle.pkread.specs.Rows.{Sight}
 use Rattle.pkcheck.specs.Accepted.{AcceptedFrom}
-use Rattle.pkcheck.specs.Knowledge.{Policy}
+use Rattle.pkmachine.specs.Knowledge.{Policy}
 use Rattle.pkcheck.specs.RowOfPickles.{AcceptedRow, begins}
 use Rattle.pkcheck.specs.declared.check_loop.Extent.{Extent}
 use Rattle.pkcheck.specs.declared.check_loop.Extent.TheVariants.{OnePickle, ToTheEnd}
 use Rattle.pkcheck.specs.declared.loading.Loading.{Loading}
-use Rattle.pkcheck.specs.declared.old_strings.OldStrings.{OldStrings}
+use Rattle.pkmachine.specs.declared.old_strings.OldStrings.{OldStrings}
 use Rattle.pkcheck.specs.declared.row_of_pickles.YesAll.{YesAll}
 use Rattle.pkload.specs.Loading.{AcceptedWithin}
 use Rattle.pkload.specs.declared.tolls.Excess.{Excess}
 use Rattle.pkload.specs.declared.tolls.Tolls.{Tolls}
-use Rattle.pkcheck.specs.Covers.{Alike}
+use Rattle.pkmachine.specs.Covers.{Alike}
 use Rattle.pkcheck.specs.NewRuns.{InEachNewRun}
-use Rattle.pkcheck.specs.RowRuns.{Beginning}
-use Rattle.pkcheck.specs.Runs.{State, WentOn, Raised, Stopped, Stuck}
+use Rattle.pkmachine.specs.RowRuns.{Beginning}
+use Rattle.pkmachine.specs.Runs.{State, WentOn, Raised, Stopped, Stuck}
 use Rattle.pkstack.specs.Shape.{and_then}
-use Rattle.pkcheck.specs.WholeRuns.{Ended, Reached, EndedBy}
+use Rattle.pkmachine.specs.WholeRuns.{Ended, Reached, EndedBy}
 use Rattle.pkload.specs.Bill.{Bill, all_billed, bill_before}
 use Rattle.pkload.specs.Heft.{Heft}
 use Rattle.pkload.specs.Tally.{IsAtMost}

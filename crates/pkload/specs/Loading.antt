@@ -6,19 +6,19 @@ use Rattle.pkops.specs.Spelling.{Instruction}
 use Rattle.pkread.specs.Rows.{Sight}
 use Rattle.pkcheck.specs.Accepted.{AcceptedFrom}
 use Rattle.pkimport.specs.Import.{asked_shown}
-use Rattle.pkcheck.specs.Knowledge.{Policy}
+use Rattle.pkmachine.specs.Knowledge.{Policy}
 use Rattle.pkcheck.specs.NewRuns.{InEachNewRun}
 use Rattle.pkcheck.specs.RowOfPickles.{AcceptedRow, RefusedInRow, begins}
-use Rattle.pkcheck.specs.RowRuns.{Beginning, Pickle}
-use Rattle.pkcheck.specs.Runs.{Raised, Stopped, Stuck, WentOn}
+use Rattle.pkmachine.specs.RowRuns.{Beginning, Pickle}
+use Rattle.pkmachine.specs.Runs.{Raised, Stopped, Stuck, WentOn}
 use Rattle.pkstack.specs.Shape.{and_then}
-use Rattle.pkcheck.specs.WholeRuns.{Ended, EndedBy, Reached}
+use Rattle.pkmachine.specs.WholeRuns.{Ended, EndedBy, Reached}
 use Rattle.pkcheck.specs.WithImports.{RefusedWithImports}
 use Rattle.pkcheck.specs.declared.check_loop.Extent.{Extent}
 use Rattle.pkcheck.specs.declared.check_loop.Extent.TheVariants.{OnePickle, ToTheEnd}
 use Rattle.pkcheck.specs.declared.check_loop.RefusedPickle.{RefusedPickle}
 use Rattle.pkcheck.specs.declared.loading.Loading.{Loading}
-use Rattle.pkcheck.specs.declared.old_strings.OldStrings.{OldStrings}
+use Rattle.pkmachine.specs.declared.old_strings.OldStrings.{OldStrings}
 use Rattle.pkcheck.specs.declared.row_of_pickles.YesAll.{YesAll}
 use Rattle.pkload.specs.Bill.{Bill, all_billed, bill_before}
 use Rattle.pkload.specs.Tolls.{IsWithin, KeepsWithin}

@@ -4,7 +4,7 @@ use Rattle.std.specs.Prelude.{◌≡◌, ◌≢◌, ◌≤◌, List, ℕ, Result
 use Rattle.pkops.specs.Limits.{Bounds}
 use Rattle.pkops.specs.declared.Reason.TheVariants as reason
 use Rattle.pkread.specs.Rows.{Sight, all_bytes}
-use Rattle.pkcheck.specs.Knowledge.{Policy}
+use Rattle.pkmachine.specs.Knowledge.{Policy}
 use Rattle.pkcheck.specs.declared.check_loop.Extent.{Extent}
 use Rattle.pkcheck.specs.declared.check_loop.RefusedPickle.{RefusedPickle}
 use Rattle.pkcheck.specs.declared.loading.Loading.{Loading}

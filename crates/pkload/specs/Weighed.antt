@@ -3,7 +3,7 @@ use Rattle.std.specs.Prelude.{ℕ, if◌then◌else◌, ltb, List, [], ◌∷◌
 use Rattle.std.specs.Prelude.{drop, length, map, set, take, Option, Some, None, slice_get}
 use Rattle.std.specs.Prelude.{false, true, unwrap_or}
 use Rattle.pkops.specs.Spelling.{Instruction}
-use Rattle.pkcheck.specs.Runs.{Event, Import, Did}
+use Rattle.pkmachine.specs.Runs.{Event, Import, Did}
 use Rattle.pkload.specs.Heft.{Heft, heft_of, imports_object}
 use Rattle.pkload.specs.declared.tally.Tally.{Tally}
 use Rattle.pkload.specs.Tally.{no_tally, with_operation}

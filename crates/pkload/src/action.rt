@@ -1,11 +1,11 @@
 //! What the bill does at each opcode.
 
 ghost use Rattle.std.specs.Prelude.{◌≡◌};
-ghost use Rattle.pkcheck.specs.Effects.{effect_of};
+ghost use Rattle.pkmachine.specs.Effects.{effect_of};
 ghost use Rattle.pkload.specs.Private.Billing.{action_in, action_of};
 
-use pkcheck::effect::{Move, SliceRule, Takes};
 use pkops::Op;
+use pkstack::{Move, SliceRule, Takes};
 
 /// What the bill does at an opcode.
 #[derive(Clone, Copy)]

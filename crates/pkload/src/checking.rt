@@ -2,7 +2,7 @@
 
 ghost use Rattle.std.specs.Prelude.{◌≡◌, ◌≢◌, IfErr, IfOk, None};
 ghost use Rattle.pkread.specs.Rows.{sight};
-ghost use Rattle.pkcheck.specs.Policies.{permit_of};
+ghost use Rattle.pkmachine.specs.Policies.{permit_of};
 ghost use Rattle.pkload.specs.Costly.{CostsTooMuch};
 ghost use Rattle.pkload.specs.Loading.{IsRightLoading};
 ghost use Rattle.pkload.specs.Private.Settled.{IsBilledAs, IsCostlyBy, NoneBefore};

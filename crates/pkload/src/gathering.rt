@@ -14,7 +14,7 @@ use crate::operands::Operands;
 use crate::packed::{LIGHT, LIGHT_SALTED, Packed};
 use crate::stack::{MARK, Stack};
 use crate::tally::Tally;
-use pkcheck::effect::{SliceRule, Takes};
+use pkstack::{SliceRule, Takes};
 
 /// Takes one more object, which may be a key.
 #[inline(always)]

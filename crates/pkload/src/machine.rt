@@ -2,7 +2,7 @@
 
 ghost use Rattle.std.specs.Prelude.{◌≡◌, [], IfOk, Ok, OnOk, false, true};
 ghost use Rattle.pkops.specs.Inst.{instruction_of};
-ghost use Rattle.pkcheck.specs.Effects.{effect_of};
+ghost use Rattle.pkmachine.specs.Effects.{effect_of};
 ghost use Rattle.pkcheck.specs.Reports.{Skipped};
 ghost use Rattle.pkstack.specs.Shape.{top};
 ghost use Rattle.pkload.specs.Bill.{billed, billed_by, no_bill, stop_billed};
@@ -26,8 +26,8 @@ use crate::packed::{LIGHT, Packed};
 use crate::stack::Stack;
 use crate::tally::Tally;
 use pkcheck::Memo as Between;
-use pkcheck::effect::Move;
 use pkops::{Inst, Op};
+use pkstack::Move;
 use std::alloc::Global;
 use std::marker::Model;
 

@@ -14,9 +14,9 @@ ghost use Rattle.pkload.specs.Private.Told.{bytes_before, skipped_memory};
 
 use crate::halt::Halt;
 use crate::memo::{self, Memo};
-use pkcheck::effect::Move;
 use pkops::lengths::{count_width, head_length};
 use pkops::{Arg, Inst, Op, Width, is_ascii, spells_itself};
+use pkstack::Move;
 
 /// So much more than any memory that sums of some of them fit 64 bits.
 const MOST: u64 = 1_125_899_906_842_624;

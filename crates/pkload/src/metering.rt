@@ -4,7 +4,7 @@ ghost use Rattle.std.specs.Prelude.{◌≡◌, IfOk, OnOk, Ok, false, true};
 ghost use Rattle.pkops.specs.Inst.{instruction_of};
 ghost use Rattle.pkcheck.specs.Reports.{Skipped, Whole};
 ghost use Rattle.pkload.specs.Bill.{no_bill};
-ghost use Rattle.pkcheck.specs.declared.loading.Memo.{Memo as Between};
+ghost use Rattle.pkmachine.specs.declared.memo.Memo.{Memo as Between};
 ghost use Rattle.pkload.specs.Private.Billing.{IfBilled, IsQuiet};
 ghost use Rattle.pkload.specs.Private.Told.{metered_told, next_if, ready};
 

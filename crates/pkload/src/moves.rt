@@ -10,7 +10,7 @@ use crate::memo::{self, Memo};
 use crate::operands::Operands;
 use crate::stack::Stack;
 use crate::tally::Tally;
-use pkcheck::effect::Move;
+use pkstack::Move;
 
 /// Removes the topmost entry.
 fn pop(stack: &mut Stack, memo: &Memo) -> Result<(), Halt>

@@ -13,11 +13,11 @@ use Rattle.pkops.specs.declared.Reason.TheVariants.{TooLarge}
 use Rattle.pkread.specs.Admission.{IsAllowed}
 use Rattle.pkread.specs.Framing.{CountingIsExact}
 use Rattle.pkread.specs.Sequence.{IsSequence, spellings}
-use Rattle.pkcheck.specs.declared.OldStrings.TheVariants.{Unknown}
+use Rattle.pkmachine.specs.declared.OldStrings.TheVariants.{Unknown}
 use Rattle.pkcheck.specs.Listing.{permitted_by}
 use Rattle.pkcheck.specs.Ends.{IsFree, WellCarriesOver, WellIsFree}
-use Rattle.pkcheck.specs.Runs.{Outcome, start}
-use Rattle.pkcheck.specs.WholeRuns.{Sound, run}
+use Rattle.pkmachine.specs.Runs.{Outcome, start}
+use Rattle.pkmachine.specs.WholeRuns.{Sound, run}
 use Rattle.pkcheck.specs.Heard.{Heard, IsRightAndHeard}
 use Rattle.pkcheck.specs.declared.Yes.{Yes}
 use Rattle.pkcheck.specs.declared.No.{No}

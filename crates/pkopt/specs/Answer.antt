@@ -8,12 +8,12 @@ use Rattle.pkread.specs.Framing.{Framed}
 use Rattle.pkread.specs.Pieces.{piece_of}
 use Rattle.pkread.specs.Rows.{Sight, in_memory}
 use Rattle.pkread.specs.Sequence.{IsSequence, spellings}
-use Rattle.pkcheck.specs.declared.OldStrings.TheVariants.{Unknown}
+use Rattle.pkmachine.specs.declared.OldStrings.TheVariants.{Unknown}
 use Rattle.pkcheck.specs.Accepted.{Accepted}
 use Rattle.pkimport.specs.Import.{Asked}
 use Rattle.pkcheck.specs.Listing.{permitted_by}
 use Rattle.pkcheck.specs.Refused.{Refused}
-use Rattle.pkcheck.specs.WholeRuns.{Sound}
+use Rattle.pkmachine.specs.WholeRuns.{Sound}
 use Rattle.pkopt.specs.Faultless.{StaysFaultless}
 use Rattle.pkopt.specs.Limit.{IsPastLimit}
 use Rattle.pkopt.specs.OneFrame.{optimized}

@@ -4,9 +4,9 @@ use Rattle.pkops.specs.Limits.{Bounds}
 use Rattle.pkops.specs.declared.Reason.{Reason}
 use Rattle.pkops.specs.declared.Reason.TheVariants.{Source, OutOfMemory, TooLarge}
 use Rattle.pkread.specs.Rows.{Sight, all_bytes, in_memory}
-use Rattle.pkcheck.specs.declared.OldStrings.TheVariants.{Unknown}
+use Rattle.pkmachine.specs.declared.OldStrings.TheVariants.{Unknown}
 use Rattle.pkcheck.specs.Accepted.{Accepted}
-use Rattle.pkcheck.specs.Knowledge.{Policy}
+use Rattle.pkmachine.specs.Knowledge.{Policy}
 use Rattle.pkimport.specs.Import.{Asked}
 use Rattle.pkcheck.specs.Refused.{Refused}
 use Rattle.pkopt.specs.Answer.{Optimizes}

@@ -2,8 +2,8 @@
 use Rattle.std.specs.Prelude.{◌≡◌, ℕ, ◌<◌, true, List, [], length}
 use Rattle.pkops.specs.Spelling.{Instruction}
 use Rattle.pkcheck.specs.Ends.{SameEnd}
-use Rattle.pkcheck.specs.Runs.{Outcome, start}
-use Rattle.pkcheck.specs.WholeRuns.{run}
+use Rattle.pkmachine.specs.Runs.{Outcome, start}
+use Rattle.pkmachine.specs.WholeRuns.{run}
 use Rattle.pkopt.specs.Writers.{sources, is_read, after_all}
 
 -- whatever operations answer, the two do the same and end the same way

@@ -8,7 +8,7 @@ use Rattle.pkops.specs.declared.Op.TheVariants as op
 use Rattle.pkops.specs.Spelling.{Argument, Nothing, Number, Line, Instruction, instruction}
 use Rattle.pkops.specs.Operands.{memo_number}
 use Rattle.pkstack.specs.declared.Move.TheVariants.{Stores, StoresNext, Fetches}
-use Rattle.pkcheck.specs.Effects.{Effect, Moves, effect_of}
+use Rattle.pkmachine.specs.Effects.{Effect, Moves, effect_of}
 use Rattle.pkopt.specs.Writers.{Writes, last_write, after, sources, is_read, new_number}
 
 -- the opcode for a number: the one-byte binary form below 256, the four-byte form from there on

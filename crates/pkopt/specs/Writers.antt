@@ -4,7 +4,7 @@ use Rattle.std.specs.Prelude.{length, Option, None, Some}
 use Rattle.pkops.specs.Spelling.{Instruction}
 use Rattle.pkops.specs.Operands.{memo_number}
 use Rattle.pkstack.specs.declared.Move.TheVariants.{Stores, StoresNext, Fetches}
-use Rattle.pkcheck.specs.Effects.{Effect, Moves, effect_of}
+use Rattle.pkmachine.specs.Effects.{Effect, Moves, effect_of}
 
 -- the numbers of the memo writes so far, the last first. A write is named by the number of writes
 -- before it

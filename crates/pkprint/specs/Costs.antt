@@ -3,7 +3,7 @@ use Rattle.std.specs.Prelude.{◌≢◌, ℕ, Bool, if◌then◌else◌, List, [
 use Rattle.std.specs.Prelude.{Result, Ok, Err, MatchResult}
 use Rattle.pkops.specs.Limits.{Bounds}
 use Rattle.pkread.specs.Rows.{Sight}
-use Rattle.pkcheck.specs.Knowledge.{Policy}
+use Rattle.pkmachine.specs.Knowledge.{Policy}
 use Rattle.pkcheck.specs.Printed.{no_text}
 use Rattle.pkcheck.specs.declared.Extent.{Extent}
 use Rattle.pkcheck.specs.declared.Extent.TheVariants.{OnePickle, ToTheEnd}

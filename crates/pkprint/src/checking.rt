@@ -3,7 +3,7 @@ ghost use Rattle.std.specs.Prelude.{◌≡◌, IfOk, Result};
 ghost use Rattle.std.specs.Io.KnownBytes.{Appends};
 ghost use Rattle.pkread.specs.Rows.{sight};
 ghost use Rattle.pkcheck.specs.Answered.{CountsFailures, IsRightAnswer};
-ghost use Rattle.pkcheck.specs.Policies.{policy_of};
+ghost use Rattle.pkmachine.specs.Policies.{policy_of};
 ghost use Rattle.pkcheck.specs.declared.Yes.{Yes};
 ghost use Rattle.pkcheck.specs.declared.No.{No};
 ghost use Rattle.pkprint.specs.Verdict.{outcome_of, verdict_line};

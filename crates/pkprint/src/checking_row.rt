@@ -2,7 +2,7 @@
 ghost use Rattle.std.specs.Prelude.{◌≡◌, IfOk, Result};
 ghost use Rattle.std.specs.Io.KnownBytes.{Appends};
 ghost use Rattle.pkread.specs.Rows.{sight};
-ghost use Rattle.pkcheck.specs.Policies.{policy_of};
+ghost use Rattle.pkmachine.specs.Policies.{policy_of};
 ghost use Rattle.pkcheck.specs.RowOfPickles.{CountsInRow, IsRightOfRow, each_afresh};
 ghost use Rattle.pkcheck.specs.declared.YesAll.{YesAll};
 ghost use Rattle.pkcheck.specs.declared.NoAll.{NoAll};

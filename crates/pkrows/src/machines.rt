@@ -1,6 +1,6 @@
 //! The machine, step by step.
 
-use pkcheck::{Machine, Moved, Policy};
+use pkmachine::{Machine, Moved, Policy};
 use pkops::{Arg, Inst, Limits, Op, Reason};
 use std::test::Fail;
 

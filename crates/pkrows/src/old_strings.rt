@@ -2,8 +2,8 @@
 
 use crate::giving::Pieces;
 use crate::judging::{Verdict, judge_as};
-use pkcheck::{Machine, OldStrings, Policy};
 use pklist::Allow;
+use pkmachine::{Machine, OldStrings, Policy};
 use pkops::{Limits, Reason, Scan, scan};
 use std::process::Abort;
 use std::test::Fail;

@@ -6,7 +6,7 @@ use Rattle.std.specs.Io.KnownBytes.{Appends, Keeps}
 use Rattle.pkops.specs.Limits.{standard}
 use Rattle.pkops.specs.Printed.{refusal_text}
 use Rattle.pklist.specs.declared.Allow.{Allow}
-use Rattle.pkcheck.specs.declared.OldStrings.{OldStrings}
+use Rattle.pkmachine.specs.declared.OldStrings.{OldStrings}
 use Rattle.pkargs.specs.Command.{AsksForJob, AsksForNone}
 use Rattle.pkargs.specs.declared.Job.{Job}
 use Rattle.pkargs.specs.declared.Pickles.{Pickles}

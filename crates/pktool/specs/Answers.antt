@@ -18,9 +18,9 @@ use Rattle.pklist.specs.declared.Allow.{Allow}
 use Rattle.pkcheck.specs.declared.Extent.{Extent}
 use Rattle.pkcheck.specs.declared.Extent.TheVariants.{OnePickle, ToTheEnd}
 use Rattle.pkcheck.specs.declared.Loading.{Loading}
-use Rattle.pkcheck.specs.declared.Memo.TheVariants.{Fresh}
-use Rattle.pkcheck.specs.declared.OldStrings.{OldStrings}
-use Rattle.pkcheck.specs.declared.OldStrings.TheVariants.{Unknown}
+use Rattle.pkmachine.specs.declared.Memo.TheVariants.{Fresh}
+use Rattle.pkmachine.specs.declared.OldStrings.{OldStrings}
+use Rattle.pkmachine.specs.declared.OldStrings.TheVariants.{Unknown}
 use Rattle.pkcheck.specs.declared.Yes.{Yes}
 use Rattle.pkcheck.specs.declared.No.{No}
 use Rattle.pkcheck.specs.declared.YesAll.{YesAll}

@@ -14,15 +14,16 @@ use Rattle.pkread.specs.Rows.{Sight, Takes, all_bytes}
 use Rattle.pkread.specs.Sequence.{CountsAt, IsSequence}
 use Rattle.pkread.specs.declared.Head.TheVariants as head
 use Rattle.pkcheck.specs.Heard.{refused_instruction}
-use Rattle.pkcheck.specs.Knowledge.{Knowledge, Policy, nothing_known}
+use Rattle.pkmachine.specs.Knowledge.{Knowledge, Policy, nothing_known}
 use Rattle.pkimport.specs.Import.{Asked}
-use Rattle.pkcheck.specs.Private.NextPickle.{IsRefusedBehind, listed_in, moved_apart, restarted}
+use Rattle.pkcheck.specs.Private.NextPickle.{IsRefusedBehind, listed_in}
+use Rattle.pkmachine.specs.View.{moved_apart, restarted}
 use Rattle.pkcheck.specs.ThreeEnds.{AcceptedAndTold, AreReportsOf}
 use Rattle.pkcheck.specs.Refused.{RefusedFrom}
 use Rattle.pkcheck.specs.Reports.{AreReportsBehind, Report}
 use Rattle.pkcheck.specs.RowOfPickles.{HasMore, begins, bytes_of_all}
-use Rattle.pkcheck.specs.RowRuns.{Pickle}
-use Rattle.pkcheck.specs.View.{View}
+use Rattle.pkmachine.specs.RowRuns.{Pickle}
+use Rattle.pkmachine.specs.View.{View}
 use Rattle.pkcheck.specs.WithImports.{ImportsBefore}
 use Rattle.pkcheck.specs.declared.check_loop.Extent.{Extent}
 use Rattle.pkcheck.specs.declared.check_loop.Extent.TheVariants.{OnePickle, ToTheEnd}
@@ -115,7 +116,7 @@ module _ (holding : Bool) (loading : Loading) (policy : Policy) (limits : Bounds
         laws = g.laws;
         one = g.one;
         law = g.law;
-        long = g.long;
+        bounded = g.bounded;
         here = t.source;
         origin = record { at = t.taken; beginning = begins loading.memo these; known = known };
         before = these;

@@ -1,6 +1,6 @@
 -- What is known after instructions were read and judged, and the answers that follow from it.
 use Rattle.pkcheck.specs.declared.checking.No.{No}
-use Rattle.pkcheck.specs.declared.old_strings.OldStrings.{OldStrings}
+use Rattle.pkmachine.specs.declared.old_strings.OldStrings.{OldStrings}
 use Rattle.std.proofs.Common.{◌≡◌, ℕ, ◌+◌, List, [], ◌∷◌, ◌++◌, map, Option, Some, None, Ok, Err}
 use Rattle.std.proofs.Common.{false, inl, inr, refl, sym, ap, subst, ◌∙◌, append-nil, arith}
 use Rattle.pkops.specs.Limits.{Bounds}
@@ -22,32 +22,31 @@ use Rattle.std.specs.Prelude.{option_map}
 use Rattle.pkimport.specs.Import.{Asked, asked_shown, asks_more}
 use Rattle.pkcheck.specs.Private.Judgement.{IsNoAt, BothGoOn, BreaksFrame, IsRefusedByMachine}
 use Rattle.pkcheck.specs.Private.Judgement.{IsRefused}
-use Rattle.pkcheck.specs.Knowledge.{Policy, Refusal, reason_of, advance, nothing_known}
+use Rattle.pkmachine.specs.Knowledge.{Policy, Refusal, reason_of, advance, nothing_known}
 use Rattle.pkcheck.specs.Listing.{imports_among, ImportsAreListed, permitted_by}
 use Rattle.pkcheck.specs.Refused.{RefusedFrom, Why, reading, judging, growing, HasFirstFault}
-use Rattle.pkcheck.specs.RowRuns.{Afresh, Beginning, listed_before}
-use Rattle.pkcheck.specs.RunFaults.{HasRunFault, IsFaultless, RunsFrom}
-use Rattle.pkcheck.specs.Faults.{HasFaultHere, everyone}
+use Rattle.pkmachine.specs.RowRuns.{Afresh, Beginning, listed_before}
+use Rattle.pkcheck.specs.RunFaults.{HasRunFault, IsFaultless}
+use Rattle.pkmachine.specs.RowRuns.{RunsFrom}
+use Rattle.pkmachine.specs.Faults.{HasFaultHere, everyone}
 use Rattle.pkcheck.specs.Heard.{refused_instruction}
-use Rattle.pkcheck.proofs.Coverage.OneTextStates.{Word}
-use Rattle.pkcheck.proofs.Coverage.Verdicts.{Yes, verdict}
-use Rattle.pkcheck.specs.Step.{StepWantsMemory}
-use Rattle.pkcheck.specs.View.{View, fresh, stopped_by, off_pair}
-use Rattle.pkcheck.specs.WholeRuns.{EndsWell, run_as}
-use Rattle.pkcheck.proofs.Wholes.FramesSoFar.{FrameLaws}
+use Rattle.pkcheck.proofs.Wholes.Verdicts.{Yes, verdict}
+use Rattle.pkmachine.specs.Step.{StepWantsMemory}
+use Rattle.pkmachine.specs.View.{View, fresh, stopped_by, off_pair}
+use Rattle.pkmachine.specs.WholeRuns.{EndsWell, run_as}
+use Rattle.pkcheck.proofs.Wholes.JudgingLaws.{JudgingLaws}
+use Rattle.pkcheck.proofs.Wholes.StopEffects.{same_end}
+use Rattle.pkmachine.specs.StepLaws.{IsBounded}
+use Rattle.pkmachine.specs.Witnesses.{Stands}
 use Rattle.pkcheck.proofs.Wholes.Faultless.{machine_fault, length-asked, each_asks, faultless}
 use Rattle.pkcheck.proofs.Wholes.Faultless.{each_reached}
 use Rattle.pkcheck.proofs.Wholes.Faultless.{unknown_is_open}
 use Rattle.pkcheck.proofs.Wholes.Given.{Took, Turned}
-use Rattle.pkcheck.proofs.Wholes.Listed.{among_more, listed_from, sound_from}
+use Rattle.pkcheck.proofs.Wholes.Listed.{among_more, listed_from}
+use Rattle.pkcheck.proofs.Wholes.Soundness.{sound_from}
 use Rattle.pkcheck.proofs.Wholes.Origins.{Begins, Origin, alone, begins_afresh, in_each}
 use Rattle.pkcheck.proofs.Wholes.Origins.{stands_from}
-use Rattle.pkcheck.proofs.StepParts.Stops.{stops_nowhere, nowhere_last, sequence_last}
-use Rattle.pkcheck.proofs.StepParts.Settings.{same_end, wants_no_registry}
-use Rattle.pkcheck.proofs.Coverage.ShownFaults.{IsLonger}
-use Rattle.pkcheck.proofs.Coverage.FaultsReached.{Stands, has_fault}
-use Rattle.pkcheck.proofs.Coverage.FirstFault.{first, pair_of}
-use Rattle.pkcheck.proofs.StepParts.Extensions.{no_extension}
+use Rattle.pkcheck.proofs.Wholes.Stops.{stops_nowhere, nowhere_last, sequence_last}
 use Rattle.pkcheck.proofs.Wholes.Walk.{along, verdict_more}
 use Rattle.pkcheck.proofs.Wholes.Refusals.{none_earlier, counts_at}
 
@@ -56,7 +55,7 @@ use Rattle.pkcheck.proofs.Wholes.Refusals.{none_earlier, counts_at}
 pub record Checked (setting : OldStrings) (policy : Policy) (limits : Bounds) (old : Sight)
     (o : Origin) (p : List Instruction) (asked : List (Option Asked)) (s : ReaderState)
     (still_open : ℕ) (m : View) : Type 0 where
-  pub laws : FrameLaws
+  pub laws : JudgingLaws
   pub begins : Begins setting policy o.beginning o.known
   pub reads : Reads old o.at (payload_limit limits) p s
   pub read_limits : s.limits ≡ limits
@@ -82,7 +81,7 @@ pub record IsReady (setting : OldStrings) (policy : Policy) (limits : Bounds) (b
 
 module _ (setting : OldStrings) (policy : Policy) (limits : Bounds) (old : Sight) where
   -- for the first pickle of a source
-  pub checked_first : FrameLaws → ReadingBegins → (b : Beginning) → listed_before b ≡ []
+  pub checked_first : JudgingLaws → ReadingBegins → (b : Beginning) → listed_before b ≡ []
       → Begins setting policy b nothing_known → Checked setting policy limits old
       (record { at = 0; beginning = b; known = nothing_known }) [] [] (begun old limits) 0
       (fresh setting limits)
@@ -101,12 +100,12 @@ module _ (setting : OldStrings) (policy : Policy) (limits : Bounds) (old : Sight
     stopped = refl;
   }
 
-  pub checked_none : FrameLaws → ReadingBegins
+  pub checked_none : JudgingLaws → ReadingBegins
       → Checked setting policy limits old alone [] [] (begun old limits) 0 (fresh setting limits)
   checked_none laws begins = checked_first laws begins Afresh refl (begins_afresh setting policy)
 
   -- for a pickle after others, when the reader is open again
-  pub checked_again : FrameLaws → ReadingGoesOn → (s : ReaderState) → s.phase ≡ Open
+  pub checked_again : JudgingLaws → ReadingGoesOn → (s : ReaderState) → s.phase ≡ Open
       → s.limits ≡ limits → (b : Beginning) (m : View) → IsReady setting policy limits b m
       → Checked setting policy limits s.source
       (record { at = s.taken; beginning = b; known = m.knowledge }) [] [] s 0 m
@@ -143,7 +142,7 @@ module _ (setting : OldStrings) (policy : Policy) (limits : Bounds) (old : Sight
           begins = h.begins;
           reads = took.more.reads;
           read_limits = took.same_limits ∙ h.read_limits;
-          frames = (h.laws.more p i still_open is_open h.frames frames).0;
+          frames = (h.laws.frames.more p i still_open is_open h.frames frames).0;
           accepts = verdict_more setting policy limits p i origin.known m.knowledge q asked
               h.accepts passes' ∙ ap (λ x. Yes x.knowledge (asked ++ q.import ∷ [])) (sym becomes);
           imports = ap (λ x. x.imports) becomes ∙ ap (asks_more q.import) h.imports
@@ -170,26 +169,26 @@ module _ (setting : OldStrings) (policy : Policy) (limits : Bounds) (old : Sight
             sequence = sequence;
             bytes = rw same h.reads.bytes;
             count = (let reads = h.reads.count in omega (arith, count, reads));
-            framed = h.laws.all p still_open h.frames;
+            framed = h.laws.frames.all p still_open h.frames;
             sound = in_each setting b p (EndsWell (permitted_by policy))
-                (λ st os c. sound_from setting policy limits p origin.known m.knowledge asked st os
-                h.accepts (h.begins.each st c) (h.begins.permitted st c));
-            reached = each_reached setting policy limits b origin.known h.begins p m.knowledge
-                asked last h.accepts;
+                (λ st os c. sound_from policy h.laws.steps setting limits p origin.known m.knowledge
+                asked st os h.accepts (h.begins.each st c) (h.begins.permitted st c));
+            reached = each_reached setting policy limits h.laws.steps b origin.known h.begins p
+                m.knowledge asked last h.accepts;
             asked = asked;
             each = length-asked setting policy limits p origin.known m.knowledge asked h.accepts;
             listed = lists;
             imported = in_each setting b p (ImportsAreListed (listed_before b ++ imports))
                 (λ st os c. subst (λ l. ImportsAreListed (listed_before b ++ l)
-                (run_as setting p os st)) (sym lists) (listed_from setting policy limits p
-                origin.known m.knowledge asked (listed_before b) st os last h.accepts
+                (run_as setting p os st)) (sym lists) (listed_from h.laws.steps setting policy
+                limits p origin.known m.knowledge asked (listed_before b) st os last h.accepts
                 (h.begins.each st c) (h.begins.listed st c)));
-            at_each = each_asks setting policy limits b origin.known h.begins p m.knowledge asked
-                last h.accepts;
-            faultless = faultless setting policy limits b origin.known h.begins p m.knowledge asked
-                last h.accepts h.laws.more still_open h.frames;
-            unknown = unknown_is_open setting policy limits b origin.known h.begins p m.knowledge
-                asked last h.accepts;
+            at_each = each_asks setting policy limits h.laws.steps b origin.known h.begins p
+                m.knowledge asked last h.accepts;
+            faultless = faultless setting policy limits h.laws.steps b origin.known h.begins p
+                m.knowledge asked last h.accepts h.laws.frames.more still_open h.frames;
+            unknown = unknown_is_open setting policy limits h.laws.steps b origin.known h.begins p
+                m.knowledge asked last h.accepts;
           },
           refl,
         )
@@ -198,14 +197,14 @@ module _ (setting : OldStrings) (policy : Policy) (limits : Bounds) (old : Sight
     pub known_behind : NoStop p → Stands m.knowledge (RunsFrom setting origin.beginning p)
     known_behind none = stands_from setting policy limits origin.beginning p origin.known
         m.knowledge h.begins
-        (along setting policy limits p origin.known m.knowledge asked
+        (along setting policy limits h.laws.steps p origin.known m.knowledge asked
         (stops_nowhere p none) h.accepts)
 
     -- none of these instructions has a fault
     pub faultless_here : NoStop p → IsFaultless setting origin.beginning policy limits p
-    faultless_here none = faultless setting policy limits origin.beginning origin.known h.begins p
-        m.knowledge asked (nowhere_last p (stops_nowhere p none)) h.accepts h.laws.more still_open
-        h.frames
+    faultless_here none = faultless setting policy limits h.laws.steps origin.beginning origin.known
+        h.begins p m.knowledge asked (nowhere_last p (stops_nowhere p none)) h.accepts
+        h.laws.frames.more still_open h.frames
 
     -- a refusal after these instructions, which come before the offset; q has the refused one
     -- too if it was read
@@ -238,7 +237,7 @@ module _ (setting : OldStrings) (policy : Policy) (limits : Bounds) (old : Sight
         here = s.source;
         bytes = h.reads.bytes;
         place = place ∙ h.reads.count;
-        framed = h.laws.all p still_open h.frames;
+        framed = h.laws.frames.all p still_open h.frames;
         faultless = faultless_here none;
         why = why;
       },
@@ -284,7 +283,7 @@ module _ (setting : OldStrings) (policy : Policy) (limits : Bounds) (old : Sight
           instruction = i;
           allowed = allowed;
           bytes = takes;
-          fault = h.laws.refused p i still_open h.frames e;
+          fault = h.laws.frames.refused p i still_open h.frames e;
           first = λ earlier lt g. none_earlier policy limits p i
               (everyone (RunsFrom setting origin.beginning p)) earlier lt g;
           asks = ap (λ x. x.off) becomes ∙ h.off;
@@ -306,7 +305,7 @@ module _ (setting : OldStrings) (policy : Policy) (limits : Bounds) (old : Sight
         refl,
       )
 
-      module _ (long : (v : Word) × IsLonger policy v.text) where
+      module _ (bounded : IsBounded policy) where
         known : Stands m.knowledge (RunsFrom setting origin.beginning p)
         known = known_behind took.more.no_stop
 
@@ -338,22 +337,21 @@ module _ (setting : OldStrings) (policy : Policy) (limits : Bounds) (old : Sight
             → advance setting policy limits i m.knowledge ≡ Err f
             → HasFirstFault setting origin.beginning policy limits p s.source new (reason_of f)
             (off_pair f)
-        judged is_open f o e = record {
-          instruction = i;
-          allowed = allowed;
-          bytes = takes;
-          fault = behind (reason_of f)
-              (has_fault policy limits i m.knowledge (RunsFrom setting origin.beginning p) known
-              long.0 long.1 f e
-              (no_extension setting policy limits i m.knowledge f
-              (wants_no_registry setting i allowed.admitted) e));
-          first = λ earlier lt g. first policy limits i m.knowledge
-              (RunsFrom setting origin.beginning p) known f e earlier lt
-              (machine_fault policy limits p i (h.laws.more p i still_open is_open h.frames o).1
-              (everyone (RunsFrom setting origin.beginning p)) earlier g);
-          asks = pair_of policy limits i m.knowledge (RunsFrom setting origin.beginning p) known f
-              e;
-        }
+        judged is_open f o e =
+            let b = origin.beginning in
+            let named = h.laws.steps.refused setting b p policy limits i m.knowledge f known bounded
+            allowed.admitted e in
+            record {
+              instruction = i;
+              allowed = allowed;
+              bytes = takes;
+              fault = behind (reason_of f) named.fault;
+              first = λ earlier lt g. named.first earlier lt
+                  (machine_fault policy limits p i
+                  (h.laws.frames.more p i still_open is_open h.frames o).1
+                  (everyone (RunsFrom setting b p)) earlier g);
+              asks = named.asks;
+            }
 
         refused_by_machine : (n : View) (why : Reason)
             → IsRefusedByMachine policy i still_open m n why → IsWhy why n.off

@@ -10,32 +10,39 @@ use Rattle.std.proofs.lemmas.List.{length-map, map-append}
 use Rattle.pkops.specs.OldBytes.{old_bytes}
 use Rattle.pkops.specs.Operands.{memo_number}
 use Rattle.pkops.specs.Spelling.{Instruction}
-use Rattle.pkcheck.specs.declared.old_strings.OldStrings.{OldStrings}
-use Rattle.pkcheck.specs.declared.old_strings.OldStrings.TheVariants.{Unknown, Ascii, Bytes}
-use Rattle.pkcheck.specs.declared.effect.Class.TheVariants as class
-use Rattle.pkcheck.specs.declared.effect.Names.{Names}
-use Rattle.pkcheck.specs.declared.effect.Names.TheVariants.{NoName}
-use Rattle.pkcheck.specs.declared.effect.Gives.{Gives}
-use Rattle.pkcheck.specs.declared.effect.Gives.TheVariants.{Makes, MakesIntOrBool, MakesText}
-use Rattle.pkcheck.specs.declared.effect.Gives.TheVariants.{MayMake, Answers, Leaves}
+use Rattle.pkops.specs.declared.Op.{Op}
+use Rattle.pkops.specs.declared.Op.TheVariants as op
+use Rattle.pkmachine.specs.declared.old_strings.OldStrings.{OldStrings}
+use Rattle.pkmachine.specs.declared.old_strings.OldStrings.TheVariants.{Unknown, Ascii, Bytes}
+use Rattle.pkmachine.specs.declared.effect.Class.TheVariants as class
+use Rattle.pkmachine.specs.declared.effect.Names.{Names}
+use Rattle.pkmachine.specs.declared.effect.Names.TheVariants.{NoName}
+use Rattle.pkmachine.specs.declared.effect.Gives.{Gives}
+use Rattle.pkmachine.specs.declared.effect.Gives.TheVariants.{Makes, MakesIntOrBool, MakesText}
+use Rattle.pkmachine.specs.declared.effect.Gives.TheVariants.{MayMake, Answers, Leaves}
 use Rattle.pkstack.specs.declared.Takes.TheVariants.{Objects}
-use Rattle.pkcheck.specs.Covers.{imports_of}
-use Rattle.pkcheck.specs.Effects.{Effect, Operates, Moves, Stops, Raises, effect_as, effect_of}
-use Rattle.pkcheck.specs.Effects.{is_old_string}
+use Rattle.pkmachine.specs.Covers.{imports_of}
+use Rattle.pkmachine.specs.Effects.{Effect, Operates, Moves, Stops, Raises, effect_as, effect_of}
+use Rattle.pkmachine.specs.Effects.{answers, is_old_string}
 use Rattle.pkstack.specs.Shape.{Breach, Entry, Shape, Taken, moved, operands, put, top}
-use Rattle.pkcheck.specs.Runs.{Event, Did, Import, Foreign, Go, Named, NoImport, NotTexts, Object}
-use Rattle.pkcheck.specs.Runs.{ObjectClass, Outcome, Pair, Plain, Raise, Raised, State, Stepped}
-use Rattle.pkcheck.specs.Runs.{Stopped, Stuck, Text, WentOn, answered, asks, class_at, come_of}
-use Rattle.pkcheck.specs.Runs.{effect_asks, given, int_or_bool, made_new, move_step}
-use Rattle.pkcheck.specs.Runs.{named, operate_step, operated, perform, start, step_as, stop_step}
-use Rattle.pkcheck.specs.Runs.{text, with_answer}
-use Rattle.pkcheck.specs.RowRuns.{Afresh, Behind, next_from, run_row, sequences_of}
-use Rattle.pkcheck.specs.WholeRuns.{AllListed, Ended, EndedBy, EndsWell, Reached, first_outcome}
-use Rattle.pkcheck.specs.WholeRuns.{go_on, outcomes_after, run_as}
-use Rattle.pkcheck.proofs.StepParts.PushedObjects.{old_unknown}
+use Rattle.pkmachine.specs.Runs.{Event, Did, Import, Foreign, Go, Named, NoImport, NotTexts, Object}
+use Rattle.pkmachine.specs.Runs.{ObjectClass, Outcome, Pair, Plain, Raise, Raised, State, Stepped}
+use Rattle.pkmachine.specs.Runs.{Stopped, Stuck, Text, WentOn, answered, asks, class_at, come_of}
+use Rattle.pkmachine.specs.Runs.{effect_asks, given, int_or_bool, made_new, move_step}
+use Rattle.pkmachine.specs.Runs.{named, operate_step, operated, perform, start, step_as, stop_step}
+use Rattle.pkmachine.specs.Runs.{text, with_answer}
+use Rattle.pkmachine.specs.RowRuns.{Afresh, Behind, next_from, run_row, sequences_of}
+use Rattle.pkmachine.specs.WholeRuns.{AllListed, Ended, EndedBy, EndsWell, Reached, first_outcome}
+use Rattle.pkmachine.specs.WholeRuns.{go_on, outcomes_after, run_as}
 use Rattle.pkcheck.proofs.Wholes.NextPickle.{cleared}
 use Rattle.pkcheck.proofs.Wholes.RunSteps.{kept, perform_unused}
 use Rattle.pkcheck.specs.EachSetting.{SoundInEach}
+
+old_answers : (o : Op) → is_old_string o ≡ true → effect_of o ≡ answers (Objects 0)
+old_answers op.String e = refl
+old_answers op.BinString e = refl
+old_answers op.ShortBinString e = refl
+old_answers _ e = cc
 
 abbrev classes : List Object → List ObjectClass
 classes objects = map (λ (o : Object). o.class_of) objects
@@ -220,9 +227,9 @@ module _ (xs ys : List Object) (e : classes xs ≡ classes ys) where
     step_matches Unknown b i o es is = (o, perform_same (effect_of i.op) i o es)
     step_matches Ascii false i o es is = rw is (o, perform_same (effect_of i.op) i o es)
     step_matches Bytes false i o es is = rw is (o, perform_same (effect_of i.op) i o es)
-    step_matches Ascii true i o es is = rw (is, old_unknown Unknown i is refl)
+    step_matches Ascii true i o es is = rw (is, old_answers i.op is)
         (ascii_matches (list_all is_ascii (unwrap_or (old_bytes i) [])) i o es)
-    step_matches Bytes true i o es is = rw (is, old_unknown Unknown i is refl)
+    step_matches Bytes true i o es is = rw (is, old_answers i.op is)
         (makes_matches (Makes class.Bytes) (Plain class.Bytes) i o es refl refl)
 
 -- ---- whole runs

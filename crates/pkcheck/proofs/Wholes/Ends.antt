@@ -1,11 +1,11 @@
 -- Two runs with the same end.
 use Rattle.std.proofs.Common.{refl, sym, subst, ◌∙◌}
-use Rattle.pkcheck.specs.Covers.{Pointwise, imports_of}
+use Rattle.pkmachine.specs.Covers.{Pointwise, imports_of}
 use Rattle.pkcheck.specs.Ends.{SameHistory, SameAsItself, SameEitherWay, SameAcross, SameEvents}
 use Rattle.pkcheck.specs.Ends.{WellIsFree, WellCarriesOver, ListedCarriesOver}
 use Rattle.pkcheck.specs.Listing.{IsBeginning, StandsFor}
-use Rattle.pkcheck.specs.Runs.{State, WentOn, Raised, Stopped, Stuck}
-use Rattle.pkcheck.specs.WholeRuns.{Reached, EndedBy, AllListed}
+use Rattle.pkmachine.specs.Runs.{State, WentOn, Raised, Stopped, Stuck}
+use Rattle.pkmachine.specs.WholeRuns.{Reached, EndedBy, AllListed}
 
 same_history : (s : State) → SameHistory s s
 same_history s = record { objects = refl; events = refl }

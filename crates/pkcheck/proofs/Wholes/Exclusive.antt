@@ -26,14 +26,15 @@ use Rattle.pkread.specs.Admission.{IsAllowedBy, objection, unadmitted_by}
 use Rattle.pkread.specs.Rows.{IsAmiss, IsBarred, ShowsReason, Sight, Takes, all_bytes}
 use Rattle.pkread.specs.Sequence.{IsSequence, spellings}
 use Rattle.pkread.specs.Sequences.{GoesOnBehind, OneFront, SequenceGoesOn}
-use Rattle.pkcheck.specs.declared.old_strings.OldStrings.{OldStrings}
-use Rattle.pkcheck.specs.Knowledge.{Policy}
+use Rattle.pkmachine.specs.declared.old_strings.OldStrings.{OldStrings}
+use Rattle.pkmachine.specs.Knowledge.{Policy}
 use Rattle.pkimport.specs.Import.{Asked}
-use Rattle.pkcheck.specs.Faults.{Arrivals, AsksOnce, HasFaultHere, InEachRun, everyone}
+use Rattle.pkmachine.specs.Faults.{Arrivals, AsksOnce, HasFaultHere, InEachRun, everyone}
 use Rattle.pkcheck.specs.Refused.{RefusedFrom, Why, reading, judging, growing}
-use Rattle.pkcheck.specs.RunFaults.{HasRunFault, RunsFrom}
-use Rattle.pkcheck.specs.RowRuns.{Afresh, Beginning}
-use Rattle.pkcheck.specs.Runs.{State}
+use Rattle.pkcheck.specs.RunFaults.{HasRunFault}
+use Rattle.pkmachine.specs.RowRuns.{RunsFrom}
+use Rattle.pkmachine.specs.RowRuns.{Afresh, Beginning}
+use Rattle.pkmachine.specs.Runs.{State}
 use Rattle.pkcheck.specs.ButForLimits.{RefusedForLimits}
 use Rattle.pkcheck.specs.Exclusive.{YesExcludesNo}
 use Rattle.pkcheck.proofs.Wholes.Origins.{any_arrives}
@@ -72,7 +73,7 @@ module _ (here : Arrivals) (real : (s : State) → here.some s → here.any s) w
 
 module _ (setting : OldStrings) (b : Beginning) (policy : Policy) (limits : Bounds)
     (before : List Instruction) (i : Instruction) where
-  shown : (r : Reason) → HasFaultHere policy limits (RunsFrom setting b before) i r
+  pub shown : (r : Reason) → HasFaultHere policy limits (RunsFrom setting b before) i r
       → HasFaultHere policy limits (everyone (RunsFrom setting b before)) i r
   shown = fault_of_any (RunsFrom setting b before) (any_arrives setting b before) policy limits i
 

@@ -16,20 +16,21 @@ use Rattle.pkread.specs.Rows.{IsAmiss, ShowsReason, Sight, Takes, all_bytes}
 use Rattle.pkread.specs.Sequence.{spellings}
 use Rattle.pkread.specs.Sequences.{OneFront, OneSequence, SequenceGoesOn}
 use Rattle.pkcheck.specs.declared.loading.Loading.{Loading}
-use Rattle.pkcheck.specs.declared.loading.Memo.{Memo}
-use Rattle.pkcheck.specs.declared.loading.Memo.TheVariants.{Fresh, Kept}
-use Rattle.pkcheck.specs.declared.old_strings.OldStrings.{OldStrings}
+use Rattle.pkmachine.specs.declared.memo.Memo.{Memo}
+use Rattle.pkmachine.specs.declared.memo.Memo.TheVariants.{Fresh, Kept}
+use Rattle.pkmachine.specs.declared.old_strings.OldStrings.{OldStrings}
 use Rattle.pkcheck.specs.Exclusive.{YesOfRowExcludesNo}
-use Rattle.pkcheck.specs.Faults.{Arrivals, everyone}
-use Rattle.pkcheck.specs.Knowledge.{Policy}
+use Rattle.pkmachine.specs.Faults.{Arrivals, everyone}
+use Rattle.pkmachine.specs.Knowledge.{Policy}
 use Rattle.pkimport.specs.Import.{Asked}
 use Rattle.pkcheck.specs.Refused.{RefusedFrom, Why, growing, judging, reading}
 use Rattle.pkcheck.specs.RowOfPickles.{AreAccepted, HasMore, begins, bytes_of_all}
-use Rattle.pkcheck.specs.RowRuns.{Beginning, Pickle, run_row, sequences_of}
-use Rattle.pkcheck.specs.RunFaults.{HasRunFault, RunsFrom}
-use Rattle.pkcheck.specs.Runs.{CanCome, Outcome, State, start}
-use Rattle.pkcheck.specs.WholeRuns.{CanGetTo, GetsTo}
-use Rattle.pkcheck.proofs.Coverage.Examples.{bare}
+use Rattle.pkmachine.specs.RowRuns.{Beginning, Pickle, run_row, sequences_of}
+use Rattle.pkcheck.specs.RunFaults.{HasRunFault}
+use Rattle.pkmachine.specs.RowRuns.{RunsFrom}
+use Rattle.pkmachine.specs.Runs.{CanCome, Outcome, State, start}
+use Rattle.pkmachine.specs.WholeRuns.{CanGetTo, GetsTo}
+use Rattle.pkcheck.proofs.Wholes.Examples.{bare}
 use Rattle.pkcheck.proofs.Wholes.Exclusive.{OneAnswer, at_end, consumed, not_amiss, not_refused}
 use Rattle.pkcheck.proofs.Wholes.RowOfPickles.{some_byte}
 

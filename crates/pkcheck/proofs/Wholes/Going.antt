@@ -11,8 +11,9 @@ use Rattle.pkops.specs.declared.Refusal.{Refusal as ReadRefusal}
 use Rattle.pkread.specs.ReaderCalls.{ReaderState}
 use Rattle.pkread.specs.Rows.{Sight}
 use Rattle.pkread.specs.Sequence.{CountsAt}
-use Rattle.pkcheck.specs.Covers.{Covers}
-use Rattle.pkcheck.specs.Knowledge.{Policy}
+use Rattle.pkmachine.specs.StepLaws.{IsBounded}
+use Rattle.pkmachine.specs.Covers.{Covers}
+use Rattle.pkmachine.specs.Knowledge.{Policy}
 use Rattle.pkimport.specs.Import.{Asked}
 use Rattle.pkcheck.specs.Listing.{imports_among}
 use Rattle.pkcheck.specs.Private.Judgement.{IsRefused, SessionView}
@@ -22,14 +23,12 @@ use Rattle.pkcheck.specs.ThreeEnds.{StoppedAndTold}
 use Rattle.pkcheck.specs.Private.Turns.{FailsNext, HearsNext, RefusesNext}
 use Rattle.pkcheck.specs.Reports.{AreReportsBehind, IsReportOf, Report, report, told_of}
 use Rattle.pkcheck.specs.RowOfPickles.{HasMore}
-use Rattle.pkcheck.specs.RowRuns.{Pickle, listed_before}
-use Rattle.pkcheck.specs.Runs.{State as RunState}
+use Rattle.pkmachine.specs.RowRuns.{Pickle, listed_before}
+use Rattle.pkmachine.specs.Runs.{State as RunState}
 use Rattle.pkstack.specs.Shape.{marks_of}
-use Rattle.pkcheck.specs.View.{View}
+use Rattle.pkmachine.specs.View.{View}
 use Rattle.pkcheck.specs.declared.check_loop.Extent.{Extent}
 use Rattle.pkcheck.specs.declared.loading.Loading.{Loading}
-use Rattle.pkcheck.proofs.Coverage.OneTextStates.{Word}
-use Rattle.pkcheck.proofs.Coverage.ShownFaults.{IsLonger}
 use Rattle.pkcheck.proofs.Wholes.Checked.{Checked, checked_took, count_took, refused_took}
 use Rattle.pkcheck.proofs.Wholes.Checked.{refused_turned}
 use Rattle.pkcheck.proofs.Wholes.Given.{Took, took_gave, turned_down}
@@ -56,7 +55,7 @@ module _ (holding : Bool) (loading : Loading) (policy : Policy) (limits : Bounds
     pub one : holding ≡ true → limits.passed ≡ limits.counted
     pub law : (x y z : A) (rs : List Report) (r : Report) → hears x y rs → hears y z (r ∷ [])
         → hears x z (rs ++ r ∷ [])
-    pub long : (v : Word) × IsLonger policy v.text
+    pub bounded : IsBounded policy
     pub here : Sight
     pub origin : Origin
     pub before : List Pickle
@@ -135,7 +134,7 @@ module _ (holding : Bool) (loading : Loading) (policy : Policy) (limits : Bounds
       laws = g.laws;
       one = g.one;
       law = g.law;
-      long = g.long;
+      bounded = g.bounded;
       here = g.here;
       origin = g.origin;
       before = g.before;
@@ -176,7 +175,7 @@ module _ (holding : Bool) (loading : Loading) (policy : Policy) (limits : Bounds
         → RefusedNow pickles r.at r.reason n.off (drop kept n.imports) new behind
     refuses_read p asked u still_open v checked r i n new took same why rs told behind heard =
         let after = refused_took loading.old_strings policy limits g.here g.origin p asked u
-        still_open v checked t r.at i new took same g.long n r.reason n.off why refl in
+        still_open v checked t r.at i new took same g.bounded n r.reason n.off why refl in
         record {
           reports = g.earlier ++ rs;
           right = refused_told holding loading policy limits old g.here g.origin pickles apart

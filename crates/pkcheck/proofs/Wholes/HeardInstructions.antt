@@ -8,20 +8,19 @@ use Rattle.pkops.specs.Spelling.{Instruction}
 use Rattle.pkops.specs.declared.Refusal.{Refusal}
 use Rattle.pkread.specs.ReaderCalls.{ReaderState}
 use Rattle.pkread.specs.Rows.{Sight}
-use Rattle.pkcheck.specs.Covers.{Covers}
-use Rattle.pkcheck.specs.Knowledge.{Policy}
+use Rattle.pkmachine.specs.Covers.{Covers}
+use Rattle.pkmachine.specs.Knowledge.{Policy}
 use Rattle.pkimport.specs.Import.{Asked}
 use Rattle.pkread.specs.Run.{LentIsRead, TakingTwice}
 use Rattle.pkcheck.specs.Private.Judgement.{IsRefused, SessionView}
 use Rattle.pkcheck.specs.Private.Lent.{FailsLent, GoesAlong, HearsMore, RefusesLent, heard_along}
 use Rattle.pkcheck.specs.Private.Lent.{heard_before, heard_refused}
 use Rattle.pkcheck.specs.Reports.{AreReportsBehind, IsReportOf, Report, report, told_of}
-use Rattle.pkcheck.specs.RowRuns.{Beginning}
-use Rattle.pkcheck.specs.Runs.{State as RunState}
+use Rattle.pkmachine.specs.RowRuns.{Beginning}
+use Rattle.pkmachine.specs.Runs.{State as RunState}
 use Rattle.pkstack.specs.Shape.{marks_of}
-use Rattle.pkcheck.specs.View.{View}
-use Rattle.pkcheck.specs.declared.old_strings.OldStrings.{OldStrings}
-use Rattle.pkcheck.proofs.OpenMarks.{marks_alike}
+use Rattle.pkmachine.specs.View.{View}
+use Rattle.pkmachine.specs.declared.old_strings.OldStrings.{OldStrings}
 use Rattle.pkcheck.proofs.Wholes.Checked.{Checked, known_behind}
 use Rattle.pkcheck.proofs.Wholes.Given.{Took}
 use Rattle.pkcheck.proofs.Wholes.InTurn.{one_more}
@@ -78,7 +77,7 @@ module _ (holding : Bool) (setting : OldStrings) (policy : Policy) (limits : Bou
   hears_on p asked s still_open m h t at i took rs each =
       heard_more holding setting o.beginning o.at [] p rs i (heard_before holding at i m) each
       (heard_here p asked s still_open m h t at i took (marks_of m.knowledge.entries)
-      (λ st here. marks_alike _ _ _ here.entries))
+      (λ st here. h.laws.steps.marks _ st here))
 
   module _ (lends : LentIsRead) (twice : TakingTwice) (p : List Instruction)
       (asked : List (Option Asked)) (s t : ReaderState) (frame : ℕ) (m : View)
@@ -159,7 +158,7 @@ module _ (holding : Bool) (setting : OldStrings) (policy : Policy) (limits : Bou
             heard_here x.read x.listed x.between k.here.between.frame k.here.between.machine
                 x.checked t (s.taken + k.before_it) k.here.instruction x.took
                 (marks_of k.here.between.machine.knowledge.entries)
-                (λ st here. marks_alike _ _ _ here.entries),
+                (λ st here. h.laws.steps.marks _ st here),
           )
 
 -- whatever the error is

@@ -14,16 +14,16 @@ use Rattle.pkread.specs.AtHand.{IsLent}
 use Rattle.pkread.specs.Framing.{Role, counted, other}
 use Rattle.pkread.specs.Pieces.{piece_of}
 use Rattle.pkread.specs.ReaderCalls.{is_ended}
-use Rattle.pkcheck.specs.Knowledge.{Policy}
+use Rattle.pkmachine.specs.Knowledge.{Policy}
 use Rattle.pkcheck.specs.Private.Judgement.{SessionView}
 use Rattle.pkcheck.specs.Private.Lent.{PassInTurn, StopsAt, TurnsDown, heard_before}
+use Rattle.pkcheck.proofs.Wholes.StopEffects.{same_end}
 use Rattle.pkcheck.specs.Reports.{Report, report, told_of}
 use Rattle.pkstack.specs.Shape.{marks_of}
-use Rattle.pkcheck.specs.Step.{FailsStep, GoesOn}
-use Rattle.pkcheck.specs.View.{View, stopped_by}
-use Rattle.pkcheck.specs.declared.machine.stepping.Moved.{Moved}
+use Rattle.pkmachine.specs.Step.{FailsStep, GoesOn}
+use Rattle.pkmachine.specs.View.{View, stopped_by}
+use Rattle.pkmachine.specs.declared.stepping.Moved.{Moved}
 use Rattle.pkcheck.specs.declared.turned.Turned.{Turned}
-use Rattle.pkcheck.proofs.StepParts.Settings.{same_end}
 
 -- some bytes, and as many of them as lie in the open frame
 pub record IsInside (frame : ℕ) (bytes inside : List ℕ) : Type 0 where

@@ -12,14 +12,14 @@ use Rattle.pkread.specs.AtHand.{AreNext, IsLent, beyond}
 use Rattle.pkread.specs.ReaderCalls.{ReaderState}
 use Rattle.pkread.specs.Rows.{Sight}
 use Rattle.pkread.specs.Run.{LentIsRead, TakingTwice}
-use Rattle.pkcheck.specs.Knowledge.{Policy}
+use Rattle.pkmachine.specs.Knowledge.{Policy}
 use Rattle.pkimport.specs.Import.{Asked}
 use Rattle.pkcheck.specs.Private.Judgement.{IsRefused, SessionView}
 use Rattle.pkcheck.specs.Private.Lent.{GoesAlong, PassInTurn, RefusesLent, StopsAt}
 use Rattle.pkcheck.specs.Private.Lent.{heard_along, heard_before}
 use Rattle.pkcheck.specs.Reports.{Report}
-use Rattle.pkcheck.specs.View.{View}
-use Rattle.pkcheck.specs.declared.old_strings.OldStrings.{OldStrings}
+use Rattle.pkmachine.specs.View.{View}
+use Rattle.pkmachine.specs.declared.old_strings.OldStrings.{OldStrings}
 use Rattle.pkcheck.proofs.Wholes.Checked.{Checked, checked_took}
 use Rattle.pkcheck.proofs.Wholes.Given.{Took, took_lent}
 use Rattle.pkcheck.proofs.Wholes.InTurn.{lent_within}

@@ -1,74 +1,42 @@
 -- The imports of every run are those that the checker lists.
-use Rattle.pkcheck.specs.declared.old_strings.OldStrings.{OldStrings}
-use Rattle.std.proofs.Common.{◌≡◌, ℕ, Bool, true, false, List, [], ◌∷◌, ◌++◌, Option, Some, None}
-use Rattle.std.proofs.Common.{Result, Ok, Err, inl, inr, refl, sym, ap, subst, ◌∙◌, append-nil}
+use Rattle.pkmachine.specs.declared.old_strings.OldStrings.{OldStrings}
+use Rattle.std.proofs.Common.{◌≡◌, ℕ, List, [], ◌∷◌, ◌++◌, Option, Some, None}
+use Rattle.std.proofs.Common.{inl, inr, refl, sym, ap, subst, ◌∙◌, append-nil}
 use Rattle.std.proofs.Common.{append_assoc}
-use Rattle.pkcheck.specs.declared.effect.Gives.{Gives}
-use Rattle.pkcheck.specs.declared.effect.Names.{Names}
-use Rattle.pkcheck.specs.Effects.{Effect, Operates, Moves, Stops, Raises, effect_as}
-use Rattle.pkstack.specs.Shape.{Breach, Shape, Taken, operands, moved}
+use Rattle.pkmachine.specs.Effects.{Stops, effect_as}
 use Rattle.pkops.specs.Spelling.{Instruction}
-use Rattle.pkops.specs.Operands.{memo_number}
-use Rattle.pkcheck.specs.Runs.{State, Event, Outcome, Raise, Go, Stepped, WentOn, Raised, Stopped}
-use Rattle.pkcheck.specs.Runs.{Stuck, Named, NoImport, Pair, NotTexts, asks, come_of, operated}
-use Rattle.pkcheck.specs.Runs.{move_step, operate_step, perform, step_as, effect_asks}
-use Rattle.pkcheck.specs.Knowledge.{Knowledge, Policy, Progress, advance}
+use Rattle.pkmachine.specs.Runs.{State, Event, Outcome, Stepped, WentOn, Raised, Stopped}
+use Rattle.pkmachine.specs.Runs.{Stuck}
+use Rattle.pkmachine.specs.Runs.{step_as, effect_asks}
+use Rattle.pkmachine.specs.Knowledge.{Knowledge, Policy, Progress, advance}
 use Rattle.pkimport.specs.Import.{Asked, AskedPair, AskedUnknown, asks_more}
 use Rattle.pkops.specs.Limits.{Bounds}
-use Rattle.pkcheck.specs.Covers.{Pointwise, IsObject, imports_of, IsAsked, Adds}
-use Rattle.pkcheck.proofs.StepParts.Settings.{only_stop as never_stops}
-use Rattle.pkcheck.proofs.Coverage.CoversBy.{any_answer, CoversBy, FollowsBy, FollowsIfOk}
-use Rattle.pkcheck.proofs.Coverage.CoversBy.{objects_grow}
-use Rattle.pkcheck.specs.WholeRuns.{Ended, first_outcome, outcomes_after, go_on, run_as, EndsWell}
-use Rattle.pkcheck.specs.WholeRuns.{AllListed}
-use Rattle.pkcheck.proofs.Coverage.Verdicts.{Yes, verdict, IsYes}
-use Rattle.pkcheck.proofs.Coverage.Verdicts.{StopsLast}
-use Rattle.pkcheck.specs.Listing.{StandsFor, IsBeginning, ImportsAreListed, imports_among}
-use Rattle.pkcheck.specs.Listing.{permitted_by}
-use Rattle.pkcheck.proofs.Coverage.Alike.{Pointwise-append}
-use Rattle.pkcheck.proofs.Coverage.AcceptedSteps.{step_follows}
-use Rattle.pkcheck.proofs.Coverage.Soundness.{emptied, imports_of-append, sound_along}
+use Rattle.pkmachine.specs.WholeRuns.{Ended, first_outcome, outcomes_after, go_on, run_as}
+use Rattle.pkmachine.specs.Covers.{Adds, Covers, Follows, IsAsked, Pointwise, imports_of}
+use Rattle.pkmachine.specs.StepLaws.{StepLaws}
+use Rattle.pkcheck.proofs.Wholes.StopEffects.{only_stop}
+use Rattle.pkcheck.proofs.Wholes.RunSteps.{stopped_by_stop}
+use Rattle.pkcheck.proofs.Wholes.Soundness.{imports_of-append}
+use Rattle.pkcheck.proofs.Wholes.Verdicts.{StopsLast, Yes, verdict}
 use Rattle.pkcheck.proofs.Wholes.Walk.{verdict_first}
-
--- only STOP stops
-asked_stops : (b : Bool) (gives : Gives) (i : Instruction) (t : Taken ℕ) (o : Outcome) (r : ℕ)
-    (s u : State) → come_of b gives i t o s ≡ Stopped r u → ⊥
-asked_stops true gives i t Raise r s u e = cc
-asked_stops true gives i t (Go n k) r s u e = cc
-asked_stops false gives i t o r s u e = cc
-
-operate_stops : (nm : Named) (gives : Gives) (i : Instruction) (t : Taken ℕ) (o : Outcome) (r : ℕ)
-    (s u : State) → operated nm gives i t o s ≡ Stopped r u → ⊥
-operate_stops NoImport gives i t o r s u e = asked_stops (asks gives) gives i t o r s u e
-operate_stops (Pair a b) gives i t o r s u e = asked_stops (asks gives) gives i t o r _ u e
-operate_stops NotTexts gives i t o r s u e = cc
-
-next_stops : (names : Names) (gives : Gives) (i : Instruction) (o : Outcome) (r : ℕ) (s u : State)
-    (y : Result (Taken ℕ) Breach) → operate_step names gives i o s y ≡ Stopped r u → ⊥
-next_stops names gives i o r s u (Ok t) e = operate_stops _ gives i t o r s u e
-next_stops names gives i o r s u (Err b) e = cc
-
-shape_stops : (r : ℕ) (s u : State) (y : Result (Shape ℕ) Breach) → move_step s y ≡ Stopped r u → ⊥
-shape_stops r s u (Ok h) e = cc
-shape_stops r s u (Err b) e = cc
-
-pub only_stop : (e : Effect) (i : Instruction) (r : ℕ) (s u : State) (o : Outcome)
-    → perform e i s o ≡ Stopped r u → e ≡ Stops
-only_stop (Operates takes names gives) i r s u o h =
-    absurd (next_stops names gives i o r s u (operands takes s.shape.entries) h)
-only_stop (Moves m) i r s u o h = absurd (shape_stops r s u (moved m (memo_number i) s.shape) h)
-only_stop Stops i r s u o h = refl
-only_stop Raises i r s u o h = cc
+use Rattle.pkcheck.specs.Listing.{StandsFor, IsBeginning, ImportsAreListed, imports_among}
 
 -- no instruction follows STOP
 pub stop_is_last : (setting : OldStrings) (i : Instruction) (is : List Instruction)
     → StopsLast (i ∷ is) → effect_as setting i ≡ Stops → is ≡ []
 stop_is_last setting i [] h e = refl
-stop_is_last setting i (j ∷ is) h e = absurd (never_stops setting i h.0 e)
+stop_is_last setting i (j ∷ is) h e = absurd (only_stop setting i h.0 e)
 
 pub after_first : (i : Instruction) (is : List Instruction) → StopsLast (i ∷ is) → StopsLast is
 after_first i [] h = tt
 after_first i (j ∷ is) h = h.1
+
+Pointwise-append : {A B : Type 0} (P : A → B → Type 0) (xs : List A) (ys : List B) (vs : List A)
+    (ws : List B) → Pointwise P xs ys → Pointwise P vs ws → Pointwise P (xs ++ vs) (ys ++ ws)
+Pointwise-append P [] [] vs ws h g = g
+Pointwise-append P (x ∷ xs) (y ∷ ys) vs ws h g = (h.0, Pointwise-append P xs ys vs ws h.1 g)
+Pointwise-append P [] (y ∷ ys) vs ws h g = absurd h
+Pointwise-append P (x ∷ xs) [] vs ws h g = absurd h
 
 -- all of a list is a prefix of a longer one
 all_begins : (as' bs : List Asked) (ps : List (List ℕ × List ℕ)) → Pointwise StandsFor as' ps
@@ -101,12 +69,12 @@ pub more_among : (a : Option Asked) (as' : List Asked) (asked : List (Option Ask
 more_among None as' asked = refl
 more_among (Some a) as' asked = append_assoc as' (a ∷ []) (imports_among asked)
 
-module _ (setting : OldStrings) (p : Policy) (l : Bounds) where
+module _ (laws : StepLaws) (setting : OldStrings) (p : Policy) (l : Bounds) where
   step_listed : (q : Progress) (s : State) (st : Stepped) (done : List Asked)
-      (rest : List (Option Asked)) (f : State → Ended) → FollowsBy IsObject q s st
+      (rest : List (Option Asked)) (f : State → Ended) → Follows q s st
       → Pointwise StandsFor done (imports_of s.events)
       → ((r : ℕ) (t : State) → st ≡ Stopped r t → rest ≡ [])
-      → ((t : State) → CoversBy IsObject q.after t → Pointwise StandsFor (asks_more q.import done)
+      → ((t : State) → Covers q.after t → Pointwise StandsFor (asks_more q.import done)
       (imports_of t.events) → ImportsAreListed (asks_more q.import done ++ imports_among rest)
       (f t)) → ImportsAreListed (done ++ imports_among (q.import ∷ rest)) (go_on st f)
   step_listed q s (WentOn t) done rest f g h last on = subst (λ x. ImportsAreListed x (f t))
@@ -135,7 +103,7 @@ module _ (setting : OldStrings) (p : Policy) (l : Bounds) where
   -- them if the run stopped
   pub listed_from : (is : List Instruction) (k known : Knowledge) (asked : List (Option Asked))
       (done : List Asked) (s : State) (os : List Outcome) → StopsLast is
-      → verdict setting p l is k ≡ Yes known asked → CoversBy IsObject k s
+      → verdict setting p l is k ≡ Yes known asked → Covers k s
       → Pointwise StandsFor done (imports_of s.events)
       → ImportsAreListed (done ++ imports_among asked) (run_as setting is os s)
   listed_from [] k known asked done s os last e c h =
@@ -143,9 +111,7 @@ module _ (setting : OldStrings) (p : Policy) (l : Bounds) where
   listed_from (i ∷ is) k known asked done s os last e c h =
       let f = verdict_first (advance setting p l i k) (verdict setting p l is) known asked e in
       let st = step_as setting i s (first_outcome os) in
-      let w : FollowsBy IsObject f.passed s st = subst (λ x. FollowsIfOk IsObject x s st) f.passes
-      (step_follows IsObject objects_grow setting p l i k s (first_outcome os) c
-      (any_answer s.objects (first_outcome os))) in
+      let w = laws.sound setting p l i k f.passed f.passes s (first_outcome os) c in
       subst
       (λ x. ImportsAreListed (done ++ imports_among x)
       (go_on st (run_as setting is (outcomes_after (effect_asks (effect_as setting i)) os))))
@@ -154,52 +120,9 @@ module _ (setting : OldStrings) (p : Policy) (l : Bounds) where
       (run_as setting is (outcomes_after (effect_asks (effect_as setting i)) os)) w h
       (λ r t g. none_left is f.passed.after known f.rest.listed
       (stop_is_last setting i is last
-      (only_stop (effect_as setting i) i r s t (first_outcome os) g)) f.rest.accepts)
+      (stopped_by_stop (effect_as setting i) i r s t (first_outcome os) g)) f.rest.accepts)
       (λ t d g. listed_from is f.passed.after known f.rest.listed
       (asks_more f.passed.import done) t _ (after_first i is last) f.rest.accepts d g))
-
--- every pair is on this list
-abbrev any_pair : List ℕ → List ℕ → Bool
-any_pair m n = true
-
-any_listed : (ps : List (List ℕ × List ℕ)) → AllListed any_pair ps
-any_listed [] = tt
-any_listed (p ∷ ps) = (refl, any_listed ps)
-
-step_fine : (q : Progress) (s : State) (st : Stepped) (f : State → Ended)
-    → FollowsBy IsObject q s st
-    → ((t : State) → CoversBy IsObject q.after t → EndsWell any_pair (f t))
-    → EndsWell any_pair (go_on st f)
-step_fine q s (WentOn t) f g on = on t g.0
-step_fine q s (Raised t) f g on = any_listed (imports_of t.events)
-step_fine q s (Stopped r t) f g on =
-    (emptied q.after.entries t.shape.entries _ g.1 g.2.entries, any_listed (imports_of t.events))
-step_fine q s (Stuck b) f g on = absurd g
-
-fine_from : (setting : OldStrings) (l : Bounds) (is : List Instruction) (k known : Knowledge)
-    (asked : List (Option Asked)) (s : State) (os : List Outcome)
-    → verdict setting None l is k ≡ Yes known asked → CoversBy IsObject k s
-    → EndsWell any_pair (run_as setting is os s)
-fine_from setting l [] k known asked s os e c = any_listed (imports_of s.events)
-fine_from setting l (i ∷ is) k known asked s os e c =
-    let f = verdict_first (advance setting None l i k) (verdict setting None l is) known asked e in
-    let st = step_as setting i s (first_outcome os) in
-    let w : FollowsBy IsObject f.passed s st = subst (λ x. FollowsIfOk IsObject x s st) f.passes
-    (step_follows IsObject objects_grow setting None l i k s (first_outcome os) c
-    (any_answer s.objects (first_outcome os))) in
-    step_fine f.passed s st (run_as setting is _) w
-    (λ t d. fine_from setting l is f.passed.after known f.rest.listed t _ f.rest.accepts d)
-
--- a yes is sound, whatever the policy
-pub sound_from : (setting : OldStrings) (p : Policy) (l : Bounds) (is : List Instruction)
-    (k known : Knowledge) (asked : List (Option Asked)) (s : State) (os : List Outcome)
-    → verdict setting p l is k ≡ Yes known asked → CoversBy IsObject k s
-    → AllListed (permitted_by p) (imports_of s.events)
-    → EndsWell (permitted_by p) (run_as setting is os s)
-sound_from setting None l is k known asked s os e c h =
-    fine_from setting l is k known asked s os e c
-sound_from setting (Some list) l is k known asked s os e c h =
-    sound_along list setting l is k s os (subst IsYes (sym e) tt) c h
 
 -- the imports that are listed with one more instruction
 pub among_more : (done : List Asked) (asked : List (Option Asked)) (a : Option Asked)

@@ -1,6 +1,6 @@
 -- Some run whose answers are new objects gets past instructions without a fault.
 use Rattle.std.proofs.Common.{◌≡◌, ℕ, Bool, true, false, List, [], ◌∷◌, ◌++◌, Some, None}
-use Rattle.std.proofs.Common.{Ok, refl, sym, ap, subst, ◌∙◌, arith, append-nil}
+use Rattle.std.proofs.Common.{refl, sym, ap, subst, ◌∙◌, arith, append-nil}
 use Rattle.std.proofs.Common.{Option, append_assoc, length}
 use Rattle.std.specs.Prelude.{All, ⊤}
 use Rattle.std.proofs.lemmas.List.{map-append}
@@ -11,42 +11,39 @@ use Rattle.pkops.specs.Spelling.{Instruction}
 use Rattle.pkops.specs.declared.Op.TheVariants as op
 use Rattle.pkread.specs.Admission.{IsAllowedBy}
 use Rattle.pkread.specs.Rows.{Sight}
-use Rattle.pkcheck.specs.Effects.{effect_as, number_stored}
-use Rattle.pkcheck.specs.Faults.{everyone}
-use Rattle.pkcheck.specs.Knowledge.{Knowledge, Policy, Progress, advance, learn, nothing_known}
+use Rattle.pkmachine.specs.Effects.{effect_as}
+use Rattle.pkmachine.specs.Faults.{everyone}
+use Rattle.pkmachine.specs.Knowledge.{Knowledge, Policy, Progress, advance, nothing_known}
 use Rattle.pkimport.specs.Import.{Asked}
 use Rattle.pkcheck.specs.Listing.{imports_among}
 use Rattle.pkcheck.specs.NewRuns.{AnswersNew, FaultlessIsRun, GetsPast, If, IfStopped, IfWentOn}
 use Rattle.pkcheck.specs.NewRuns.{InSomeNewRun, IsNew, Obeys, RowObeys}
 use Rattle.pkcheck.specs.RowOfPickles.{AreAccepted, begins}
-use Rattle.pkcheck.specs.RowRuns.{Afresh, Behind, Pickle, next_from, run_row}
-use Rattle.pkcheck.specs.RowRuns.{sequences_of}
+use Rattle.pkmachine.specs.RowRuns.{Afresh, Behind, Pickle, next_from, run_row}
+use Rattle.pkmachine.specs.RowRuns.{sequences_of}
 use Rattle.pkcheck.specs.RunFaults.{HasRunFault, IsFaultless}
-use Rattle.pkcheck.specs.Runs.{CanCome, Outcome, Raised, State, Stepped, Stopped, Stuck, Text}
-use Rattle.pkcheck.specs.Runs.{WentOn, effect_asks, start, step_as}
-use Rattle.pkcheck.specs.WholeRuns.{Ended, EndedBy, Reached, first_outcome, go_on, outcomes_after}
-use Rattle.pkcheck.specs.WholeRuns.{run_as}
+use Rattle.pkmachine.specs.Runs.{CanCome, Outcome, Raised, State, Stepped, Stopped, Stuck}
+use Rattle.pkmachine.specs.Runs.{WentOn, effect_asks, start, step_as}
+use Rattle.pkmachine.specs.WholeRuns.{Ended, EndedBy, Reached, first_outcome, go_on, outcomes_after}
+use Rattle.pkmachine.specs.WholeRuns.{run_as}
 use Rattle.pkcheck.specs.declared.loading.Loading.{Loading}
-use Rattle.pkcheck.specs.declared.loading.Memo.{Memo}
-use Rattle.pkcheck.specs.declared.loading.Memo.TheVariants.{Fresh, Kept}
-use Rattle.pkcheck.specs.declared.old_strings.OldStrings.{OldStrings}
-use Rattle.pkcheck.proofs.Coverage.AcceptedSteps.{step_follows}
-use Rattle.pkcheck.proofs.Coverage.CoversBy.{CoversBy, FollowsBy, FollowsIfOk}
-use Rattle.pkcheck.proofs.Coverage.OneTextStates.{Answered, IsGoing, grows, learn_exactly}
-use Rattle.pkcheck.proofs.Coverage.OneTextStates.{new_text, new_text_holds}
-use Rattle.pkcheck.proofs.Coverage.Verdicts.{Yes, verdict}
-use Rattle.pkcheck.proofs.Coverage.Words.{empty}
-use Rattle.pkcheck.proofs.StepParts.Settings.{only_stop}
-use Rattle.pkcheck.proofs.StepParts.Stops.{last_more, sequence_last, stops_nowhere}
+use Rattle.pkmachine.specs.declared.memo.Memo.{Memo}
+use Rattle.pkmachine.specs.declared.memo.Memo.TheVariants.{Fresh, Kept}
+use Rattle.pkmachine.specs.declared.old_strings.OldStrings.{OldStrings}
+use Rattle.pkcheck.proofs.Wholes.Verdicts.{Yes, verdict}
+use Rattle.pkcheck.proofs.Wholes.Stops.{last_more, sequence_last, stops_nowhere}
 use Rattle.pkcheck.proofs.Wholes.ExclusiveRows.{same_runs}
 use Rattle.pkcheck.proofs.Wholes.NextPickle.{begins_next, cleared, covers_cleared, memo_of}
-use Rattle.pkcheck.proofs.Wholes.NextPickle.{stop_ends, stop_stops}
-use Rattle.pkcheck.proofs.Wholes.Origins.{Begins, begins_afresh, begins_row}
-use Rattle.pkcheck.proofs.Wholes.RunSteps.{going, gone, kept, perform_unused}
+use Rattle.pkcheck.proofs.Wholes.NextPickle.{stop_ends}
+use Rattle.pkcheck.proofs.Wholes.Origins.{Begins, begins_afresh, begins_row, empty}
+use Rattle.pkcheck.proofs.Wholes.RunSteps.{gone, kept, never_stops, perform_unused}
+use Rattle.pkcheck.proofs.Wholes.StopEffects.{stop_stops}
+use Rattle.pkmachine.specs.StepLaws.{StepLaws}
+use Rattle.pkmachine.specs.Witnesses.{Answered, CoversBy, StepsPast, new_text}
 use Rattle.pkcheck.proofs.Wholes.Unlisted.{accepted}
 use Rattle.pkcheck.proofs.Wholes.Walk.{StopsNowhere, verdict_first, yes_parts}
 
-module _ (setting : OldStrings) (limits : Bounds) where
+module _ (laws : StepLaws) (setting : OldStrings) (limits : Bounds) where
   -- ---- a run in which each answer is a new object, and the empty text
 
   abbrev IsCovered : Knowledge → State → Type 0
@@ -113,26 +110,10 @@ module _ (setting : OldStrings) (limits : Bounds) where
     comes : Comes known ended
     stops : last.op ≡ op.Stop → IsStopped ended
 
-  -- what the step of an accepted instruction does
-  record Steps (i : Instruction) (q : Progress) (s : State) : Type 0 where
-    goes : IsGoing (effect_as setting i) (step_as setting i s (new_text [] s))
-    follows : FollowsBy (Answered []) q s (step_as setting i s (new_text [] s))
-
-  steps : (i : Instruction) (k : Knowledge) (q : Progress) (s : State)
-      → advance setting None limits i k ≡ Ok q → IsCovered k s → Steps i q s
-  steps i k q s e c = record {
-    goes = going limits (number_stored (effect_as setting i) i) [] (effect_as setting i) k s
-        (step_as setting i s (new_text [] s)) q (learn None (effect_as setting i) i k)
-        (learn_exactly [] None (effect_as setting i) i k s (length s.objects) (Text []) c) e;
-    follows = subst (λ x. FollowsIfOk (Answered []) x s (step_as setting i s (new_text [] s))) e
-        (step_follows (Answered []) (grows []) setting None limits i k s (new_text [] s) c
-        (new_text_holds [] s));
-  }
-
   at_last : (i : Instruction) (q : Progress) (s : State) (st : Stepped)
-      → step_as setting i s (new_text [] s) ≡ st → IsGoing (effect_as setting i) st
-      → FollowsBy (Answered []) q s st → Past (i ∷ []) i q.after s
-  at_last i q s (WentOn u) e g h =
+      → step_as setting i s (new_text [] s) ≡ st → StepsPast [] q.after st
+      → Past (i ∷ []) i q.after s
+  at_last i q s (WentOn u) e h =
       let m = new_on (effect_asks (effect_as setting i)) i [] s (new_text [] s) [] (Reached u)
       empty.utf8 (All-nil CanCome) (omega arith) refl
       (subst (λ st. IfWentOn st (Obeys AnswersNew setting [] [])) (sym e) tt)
@@ -143,11 +124,11 @@ module _ (setting : OldStrings) (limits : Bounds) where
         new = m.2;
         ended = Reached u;
         runs = m.3;
-        comes = h.0;
+        comes = h;
         stops = λ f. stop_ends (effect_as setting i) i s u (new_text [] s)
             (stop_stops setting i f) e;
       }
-  at_last i q s (Stopped r t) e g h =
+  at_last i q s (Stopped r t) e h =
       let m = new_on (effect_asks (effect_as setting i)) i [] s (new_text [] s) []
       (EndedBy (Stopped r t)) empty.utf8 (All-nil CanCome) (omega arith) refl
       (subst (λ st. IfWentOn st (Obeys AnswersNew setting [] [])) (sym e) tt)
@@ -158,11 +139,11 @@ module _ (setting : OldStrings) (limits : Bounds) where
         new = m.2;
         ended = EndedBy (Stopped r t);
         runs = m.3;
-        comes = h.2;
+        comes = h;
         stops = λ f. tt;
       }
-  at_last i q s (Raised u) e g h = absurd g
-  at_last i q s (Stuck b) e g h = absurd g
+  at_last i q s (Raised u) e h = absurd h
+  at_last i q s (Stuck b) e h = absurd h
 
   past : (is : List Instruction) (last : Instruction) (k known : Knowledge)
       (asked : List (Option Asked)) → StopsNowhere is
@@ -171,17 +152,17 @@ module _ (setting : OldStrings) (limits : Bounds) where
   past [] last k known asked on e s c =
       let f = verdict_first (advance setting None limits last k)
       (verdict setting None limits []) known asked e in
-      let w = steps last k f.passed s f.passes c in
       subst (λ x. Past (last ∷ []) last x s)
       (yes_parts f.passed.after known [] f.rest.listed f.rest.accepts).0
-      (at_last last f.passed s (step_as setting last s (new_text [] s)) refl w.goes w.follows)
+      (at_last last f.passed s (step_as setting last s (new_text [] s)) refl
+      (laws.goes_on setting None limits last k f.passed f.passes [] s c))
   past (i ∷ is) last k known asked on e s c =
       let rest = is ++ last ∷ [] in
       let f = verdict_first (advance setting None limits i k)
       (verdict setting None limits rest) known asked e in
-      let w = steps i k f.passed s f.passes c in
-      let u = gone (effect_as setting i) (Answered []) f.passed s
-      (step_as setting i s (new_text [] s)) (only_stop setting i on.0) w.goes w.follows in
+      let o = new_text [] s in
+      let u = gone [] f.passed (step_as setting i s o) (never_stops setting i on.0 s o)
+      (laws.goes_on setting None limits i k f.passed f.passes [] s c) in
       let m = past is last f.passed.after known f.rest.listed on.1 f.rest.accepts u.0 u.2 in
       let n = new_on (effect_asks (effect_as setting i)) i rest s (new_text [] s) m.outcomes m.ended
       empty.utf8 m.can (omega arith) refl
@@ -299,13 +280,13 @@ module _ (setting : OldStrings) (limits : Bounds) where
       row = λ s c. no_pickles k s c;
     }
     begun_behind (p ∷ ps) done like k old here (between, (h, is_p), a) e b =
-        let y = accepted setting limits policy (begins Kept like) k b h.instructions h.sequence.each
-        (sequence_last (payload_limit limits) h.instructions h.sequence)
+        let y = accepted laws setting limits policy (begins Kept like) k b h.instructions
+        h.sequence.each (sequence_last (payload_limit limits) h.instructions h.sequence)
         (same_faultless like done h.instructions e h.faultless) in
         let this : Pickle =
         record { instructions = h.instructions; imports = imports_among y.asked } in
-        let next = begins_next setting None limits like k (behind like k b) (payload_limit limits)
-        h.instructions h.sequence y.known y.asked y.accepts in
+        let next = begins_next laws setting None limits like k (behind like k b)
+        (payload_limit limits) h.instructions h.sequence y.known y.asked y.accepts in
         let m = begun_behind ps (done ++ p ∷ []) (like ++ this ∷ []) (memo_of y.known) between here
         a
         (map-append (λ (z : Pickle). z.instructions) like (this ∷ [])
@@ -359,21 +340,21 @@ module _ (setting : OldStrings) (limits : Bounds) where
           before → IsFaultless setting (begins memo before) policy limits p
           → InSomeNewRun setting (begins memo before) p GetsPast
       by_memo Fresh before old here a f =
-          let y = accepted setting limits policy Afresh nothing_known (begins_afresh setting None)
-          p allowed (last_more is last on) f in
+          let y = accepted laws setting limits policy Afresh nothing_known
+          (begins_afresh setting None) p allowed (last_more is last on) f in
           let b = past is last nothing_known y.known y.asked on y.accepts start
           (record { entries = tt; memo = tt }) in
           (b.outcomes, b.can, b.new, past_end p last y.known 0 start b)
       by_memo Kept before old here a f =
           let m = begun_behind before [] [] nothing_known old here a refl
           (begins_afresh setting None) in
-          let y = accepted setting limits policy (begins Kept m.all) m.known m.begun p allowed
+          let y = accepted laws setting limits policy (begins Kept m.all) m.known m.begun p allowed
           (last_more is last on) (same_faultless m.all before p m.same f) in
           let r = m.row start (record { entries = tt; memo = tt }) in
           joined before m.known y.known r
           (past is last m.known y.known y.asked on y.accepts r.first r.covered)
 
-pub faultless_is_run : FaultlessIsRun
-faultless_is_run loading policy limits old here before is last a n allowed f =
-    by_memo loading.old_strings limits policy is last (stops_nowhere is n) allowed loading.memo
+pub faultless_is_run : StepLaws → FaultlessIsRun
+faultless_is_run laws loading policy limits old here before is last a n allowed f =
+    by_memo laws loading.old_strings limits policy is last (stops_nowhere is n) allowed loading.memo
     before old here a f

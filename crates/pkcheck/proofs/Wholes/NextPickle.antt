@@ -1,7 +1,6 @@
 -- Where the runs of the next pickle begin after an accepted one, if the memo is kept.
-use Rattle.pkcheck.specs.declared.old_strings.OldStrings.{OldStrings}
-use Rattle.pkcheck.specs.declared.old_strings.OldStrings.TheVariants.{Unknown, Ascii, Bytes}
-use Rattle.std.proofs.Common.{◌≡◌, ℕ, List, [], ◌∷◌, ◌++◌, length, Option, Some, Result, Ok, Err}
+use Rattle.pkmachine.specs.declared.old_strings.OldStrings.{OldStrings}
+use Rattle.std.proofs.Common.{◌≡◌, ℕ, List, [], ◌∷◌, ◌++◌, Option, Some, Result, Ok, Err}
 use Rattle.std.proofs.Common.{refl, sym, ap, subst, ◌∙◌, append-nil}
 use Rattle.std.specs.Prelude.{All}
 use Rattle.std.proofs.lemmas.Grind.{flat_map-append}
@@ -12,30 +11,28 @@ use Rattle.pkops.specs.Spelling.{Instruction}
 use Rattle.pkops.specs.declared.Op.{Op}
 use Rattle.pkops.specs.declared.Op.TheVariants as op
 use Rattle.pkread.specs.Sequence.{IsSequence}
-use Rattle.pkcheck.specs.Covers.{IsObject, Pointwise}
-use Rattle.pkcheck.specs.Covers.{imports_of as imported}
-use Rattle.pkcheck.specs.Effects.{Effect, Operates, Moves, Stops, Raises, effect_as, number_stored}
-use Rattle.pkcheck.specs.Knowledge.{Knowledge, Policy, Progress, advance, learn}
+use Rattle.pkmachine.specs.Covers.{Covers, Follows, IsObject, Pointwise}
+use Rattle.pkmachine.specs.StepLaws.{StepLaws}
+use Rattle.pkmachine.specs.Witnesses.{Answered, CoversBy, StepsPast, Word, new_text}
+use Rattle.pkmachine.specs.Covers.{imports_of as imported}
+use Rattle.pkmachine.specs.Effects.{Effect, Operates, Moves, Stops, Raises, effect_as}
+use Rattle.pkmachine.specs.Knowledge.{Knowledge, Policy, Progress, advance}
 use Rattle.pkimport.specs.Import.{Asked}
 use Rattle.pkcheck.specs.Listing.{StandsFor, ImportsAreListed, imports_among, permitted_by}
-use Rattle.pkcheck.specs.RowRuns.{Behind, Pickle, imports_of_all, next_from, run_row, sequences_of}
-use Rattle.pkcheck.specs.Runs.{CanCome, Object, Outcome, State, Text, Stepped, WentOn, Raised}
-use Rattle.pkcheck.specs.Runs.{Stopped, Stuck, effect_asks, perform, start, step_as, stop_step}
+use Rattle.pkmachine.specs.RowRuns.{Behind, Pickle, imports_of_all, next_from, run_row}
+use Rattle.pkmachine.specs.RowRuns.{sequences_of}
+use Rattle.pkmachine.specs.Runs.{CanCome, Object, Outcome, State, Stepped, WentOn, Raised}
+use Rattle.pkmachine.specs.Runs.{Stopped, Stuck, effect_asks, perform, start, step_as, stop_step}
 use Rattle.pkstack.specs.Shape.{Breach, Entry, top}
-use Rattle.pkcheck.specs.WholeRuns.{AllListed, Ended, EndedBy, EndsWell, Reached, first_outcome}
-use Rattle.pkcheck.specs.WholeRuns.{go_on, outcomes_after, run_as}
-use Rattle.pkcheck.proofs.Coverage.OneTextStates.{Answered, IsGoing, Word, grows, learn_exactly}
-use Rattle.pkcheck.proofs.Coverage.OneTextStates.{new_text, new_text_holds}
-use Rattle.pkcheck.proofs.Coverage.CoversBy.{CoversBy, FollowsBy, FollowsIfOk, any_answer}
-use Rattle.pkcheck.proofs.Coverage.CoversBy.{objects_grow}
-use Rattle.pkcheck.proofs.Coverage.AcceptedSteps.{step_follows}
-use Rattle.pkcheck.proofs.Coverage.Verdicts.{StopsLast, Yes, verdict}
-use Rattle.pkcheck.proofs.StepParts.Settings.{only_stop}
-use Rattle.pkcheck.proofs.StepParts.Stops.{stops_nowhere, sequence_last}
-use Rattle.pkcheck.proofs.Wholes.Listed.{after_first, listed_from, only_stop as stopped_by_stop}
-use Rattle.pkcheck.proofs.Wholes.Listed.{sound_from, stop_is_last}
+use Rattle.pkmachine.specs.WholeRuns.{AllListed, Ended, EndedBy, EndsWell, Reached, first_outcome}
+use Rattle.pkmachine.specs.WholeRuns.{go_on, outcomes_after, run_as}
+use Rattle.pkcheck.proofs.Wholes.Verdicts.{StopsLast, Yes, verdict}
+use Rattle.pkcheck.proofs.Wholes.Stops.{stops_nowhere, sequence_last}
+use Rattle.pkcheck.proofs.Wholes.Listed.{after_first, listed_from, stop_is_last}
+use Rattle.pkcheck.proofs.Wholes.Soundness.{sound_from}
+use Rattle.pkcheck.proofs.Wholes.StopEffects.{stop_stops}
 use Rattle.pkcheck.proofs.Wholes.Origins.{Begins, StartsIn}
-use Rattle.pkcheck.proofs.Wholes.RunSteps.{going, gone, run_on}
+use Rattle.pkcheck.proofs.Wholes.RunSteps.{gone, never_stops, run_on, stopped_by_stop}
 use Rattle.pkcheck.proofs.Wholes.Walk.{StopsNowhere, verdict_first, yes_parts}
 
 -- a stopped state, cleared for the next pickle
@@ -140,12 +137,6 @@ module _ (setting : OldStrings) where
 
 -- ---- the end of an accepted pickle
 
-pub stop_stops : (setting : OldStrings) (i : Instruction) → i.op ≡ op.Stop
-    → effect_as setting i ≡ Stops
-stop_stops Unknown i e = rw e refl
-stop_stops Ascii i e = rw e refl
-stop_stops Bytes i e = rw e refl
-
 -- STOP does not go on
 never_on : (s u : State) (x : Result (ℕ × List (Entry ℕ)) Breach) → stop_step s x ≡ WentOn u → ⊥
 never_on s u (Ok t) e = cc
@@ -167,15 +158,15 @@ pub imports_more : (before : List Pickle) (x : Pickle)
 imports_more before x = flat_map-append (λ (y : Pickle). y.imports) before (x ∷ [])
     ∙ ap (λ l. imports_of_all before ++ l) (append-nil x.imports)
 
-module _ (setting : OldStrings) (policy : Policy) (limits : Bounds) where
+module _ (laws : StepLaws) (setting : OldStrings) (policy : Policy) (limits : Bounds) where
   -- what is known at the end covers each state in which a run stops
   stops_on : (i : Instruction) (is : List Instruction) (q : Progress) (s : State) (st : Stepped)
       (known : Knowledge) (listed : List (Option Asked)) (os : List Outcome) (r : ℕ) (t : State)
       → StopsLast (i ∷ is) → verdict setting policy limits is q.after ≡ Yes known listed
-      → FollowsBy IsObject q s st → ((r' : ℕ) (u : State) → st ≡ Stopped r' u
-      → effect_as setting i ≡ Stops) → ((u : State) → CoversBy IsObject q.after u
-      → run_as setting is os u ≡ EndedBy (Stopped r t) → CoversBy IsObject known t)
-      → go_on st (run_as setting is os) ≡ EndedBy (Stopped r t) → CoversBy IsObject known t
+      → Follows q s st → ((r' : ℕ) (u : State) → st ≡ Stopped r' u
+      → effect_as setting i ≡ Stops) → ((u : State) → Covers q.after u
+      → run_as setting is os u ≡ EndedBy (Stopped r t) → Covers known t)
+      → go_on st (run_as setting is os) ≡ EndedBy (Stopped r t) → Covers known t
   stops_on i is q s (WentOn u) known listed os r t last e g by on h = on u g.0 h
   stops_on i is q s (Raised u) known listed os r t last e g by on h = cc
   stops_on i is q s (Stuck b) known listed os r t last e g by on h = cc
@@ -183,22 +174,20 @@ module _ (setting : OldStrings) (policy : Policy) (limits : Bounds) where
       let none = stop_is_last setting i is last (by n u refl) in
       let same = yes_parts q.after known [] listed
       (subst (λ x. verdict setting policy limits x q.after ≡ Yes known listed) none e) in
-      subst (λ x. CoversBy IsObject known x) (same_end n r u t h)
-      (subst (λ x. CoversBy IsObject x u) same.0 g.2)
+      subst (λ x. Covers known x) (same_end n r u t h)
+      (subst (λ x. Covers x u) same.0 g.2)
 
   pub stopped_covered : (is : List Instruction) (k known : Knowledge) (asked : List (Option Asked))
       (s : State) (os : List Outcome) (r : ℕ) (t : State) → StopsLast is
-      → verdict setting policy limits is k ≡ Yes known asked → CoversBy IsObject k s
-      → run_as setting is os s ≡ EndedBy (Stopped r t) → CoversBy IsObject known t
+      → verdict setting policy limits is k ≡ Yes known asked → Covers k s
+      → run_as setting is os s ≡ EndedBy (Stopped r t) → Covers known t
   stopped_covered [] k known asked s os r t last e c h = cc
   stopped_covered (i ∷ is) k known asked s os r t last e c h =
       let o = first_outcome os in
       let st = step_as setting i s o in
       let f = verdict_first (advance setting policy limits i k)
       (verdict setting policy limits is) known asked e in
-      let w : FollowsBy IsObject f.passed s st = subst (λ x. FollowsIfOk IsObject x s st) f.passes
-      (step_follows IsObject objects_grow setting policy limits i k s o c
-      (any_answer s.objects o)) in
+      let w = laws.sound setting policy limits i k f.passed f.passes s o c in
       stops_on i is f.passed s st known f.rest.listed (outcomes_after
       (effect_asks (effect_as setting i)) os) r t last f.rest.accepts w
       (λ n u g. stopped_by_stop (effect_as setting i) i n s u o g)
@@ -215,39 +204,18 @@ module _ (setting : OldStrings) (policy : Policy) (limits : Bounds) where
     stops : run_as setting p outcomes s ≡ EndedBy (Stopped result state)
     covered : CoversBy (Answered v.text) known state
 
-  -- the step of an accepted instruction, if each answer is one text
-  record Steps (i : Instruction) (q : Progress) (v : Word) (s : State) : Type 0 where
-    goes : IsGoing (effect_as setting i) (step_as setting i s (new_text v.text s))
-    follows : FollowsBy (Answered v.text) q s (step_as setting i s (new_text v.text s))
-
-  steps : (i : Instruction) (k : Knowledge) (q : Progress) (v : Word) (s : State)
-      → advance setting policy limits i k ≡ Ok q → CoversBy (Answered v.text) k s → Steps i q v s
-  steps i k q v s e c =
-      let o = new_text v.text s in
-      let st = step_as setting i s o in
-      record {
-        goes = going limits (number_stored (effect_as setting i) i) v.text
-            (effect_as setting i) k s st q (learn policy (effect_as setting i) i k)
-            (learn_exactly v.text policy (effect_as setting i) i k s (length s.objects)
-            (Text v.text) c) e;
-        follows = subst (λ x. FollowsIfOk (Answered v.text) x s st) e
-            (step_follows (Answered v.text) (grows v.text) setting policy limits i k s o c
-            (new_text_holds v.text s));
-      }
-
   stops_at : (i : Instruction) (q : Progress) (v : Word) (s : State) (st : Stepped)
       → step_as setting i s (new_text v.text s) ≡ st → effect_as setting i ≡ Stops
-      → IsGoing (effect_as setting i) st → FollowsBy (Answered v.text) q s st
-      → StopsSomewhere (i ∷ []) q.after v s
-  stops_at i q v s (WentOn u) is e g w = absurd
+      → StepsPast v.text q.after st → StopsSomewhere (i ∷ []) q.after v s
+  stops_at i q v s (WentOn u) is e w = absurd
       (stop_ends (effect_as setting i) i s u (new_text v.text s) e is)
-  stops_at i q v s (Raised u) is e g w = absurd g
-  stops_at i q v s (Stuck b) is e g w = absurd g
-  stops_at i q v s (Stopped r t) is e g w =
+  stops_at i q v s (Raised u) is e w = absurd w
+  stops_at i q v s (Stuck b) is e w = absurd w
+  stops_at i q v s (Stopped r t) is e w =
       let m = run_on setting (effect_asks (effect_as setting i)) i [] s (new_text v.text s) []
       (EndedBy (Stopped r t)) v.utf8 (All-nil CanCome) refl
       (ap (λ x. go_on x (run_as setting [] [])) is) in
-      record { outcomes = m.0; can = m.1; result = r; state = t; stops = m.2; covered = w.2 }
+      record { outcomes = m.0; can = m.1; result = r; state = t; stops = m.2; covered = w }
 
   some_stops : (front : List Instruction) (last : Instruction) (k known : Knowledge)
       (asked : List (Option Asked)) → StopsNowhere front → last.op ≡ op.Stop
@@ -257,18 +225,18 @@ module _ (setting : OldStrings) (policy : Policy) (limits : Bounds) where
   some_stops [] last k known asked on is e v s c =
       let f = verdict_first (advance setting policy limits last k)
       (verdict setting policy limits []) known asked e in
-      let w = steps last k f.passed v s f.passes c in
       let m = stops_at last f.passed v s (step_as setting last s (new_text v.text s)) refl
-      (stop_stops setting last is) w.goes w.follows in
+      (stop_stops setting last is)
+      (laws.goes_on setting policy limits last k f.passed f.passes v.text s c) in
       subst (λ x. StopsSomewhere (last ∷ []) x v s)
       (yes_parts f.passed.after known [] f.rest.listed f.rest.accepts).0 m
   some_stops (i ∷ front) last k known asked on is e v s c =
       let rest = front ++ last ∷ [] in
       let f = verdict_first (advance setting policy limits i k)
       (verdict setting policy limits rest) known asked e in
-      let w = steps i k f.passed v s f.passes c in
-      let u = gone (effect_as setting i) (Answered v.text) f.passed s
-      (step_as setting i s (new_text v.text s)) (only_stop setting i on.0) w.goes w.follows in
+      let o = new_text v.text s in
+      let u = gone v.text f.passed (step_as setting i s o) (never_stops setting i on.0 s o)
+      (laws.goes_on setting policy limits i k f.passed f.passes v.text s c) in
       let m = some_stops front last f.passed.after known f.rest.listed on.1 is f.rest.accepts v u.0
       u.2 in
       let n = run_on setting (effect_asks (effect_as setting i)) i rest s
@@ -321,10 +289,10 @@ module _ (setting : OldStrings) (policy : Policy) (limits : Bounds) where
     last = sequence_last limit p sequence
 
     next_each : (s : State) → StartsIn setting (Behind (before ++ this ∷ [])) s
-        → CoversBy IsObject (memo_of known) s
+        → Covers (memo_of known) s
     next_each s h =
         let w = came s h in
-        subst (CoversBy IsObject (memo_of known)) (sym w.is)
+        subst (Covers (memo_of known)) (sym w.is)
         (covers_cleared IsObject known w.state
         (stopped_covered p k known asked w.first w.outcomes w.result w.state last accepts
         (begins.each w.first w.starts) w.stops))
@@ -334,7 +302,7 @@ module _ (setting : OldStrings) (policy : Policy) (limits : Bounds) where
     next_permitted s h =
         let w = came s h in
         let ends = subst (EndsWell (permitted_by policy)) w.stops
-        (sound_from setting policy limits p k known asked w.first w.outcomes accepts
+        (sound_from policy laws setting limits p k known asked w.first w.outcomes accepts
         (begins.each w.first w.starts) (begins.permitted w.first w.starts)) in
         subst (λ x. AllListed (permitted_by policy) (imported x.events)) (sym w.is) ends.1
 
@@ -343,7 +311,7 @@ module _ (setting : OldStrings) (policy : Policy) (limits : Bounds) where
     next_listed s h =
         let w = came s h in
         let all = subst (ImportsAreListed (imports_of_all before ++ imports_among asked)) w.stops
-        (listed_from setting policy limits p k known asked
+        (listed_from laws setting policy limits p k known asked
         (imports_of_all before) w.first w.outcomes last accepts (begins.each w.first w.starts)
         (begins.listed w.first w.starts)) in
         subst (λ x. Pointwise StandsFor x (imported s.events)) (sym (imports_more before this))

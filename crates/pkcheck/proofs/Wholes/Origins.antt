@@ -1,22 +1,26 @@
 -- Where the runs of a pickle begin, and what is known there.
-use Rattle.pkcheck.specs.declared.old_strings.OldStrings.{OldStrings}
+use Rattle.pkmachine.specs.declared.old_strings.OldStrings.{OldStrings}
 use Rattle.std.proofs.Common.{◌≡◌, ℕ, List, [], Some, refl, sym, ap, subst}
 use Rattle.std.specs.Prelude.{All}
 use Rattle.std.proofs.lemmas.List.Elements.{All-nil}
+use Rattle.std.proofs.lemmas.Str.{IsUtf8-nil}
 use Rattle.pkops.specs.Limits.{Bounds}
 use Rattle.pkops.specs.Spelling.{Instruction}
-use Rattle.pkcheck.specs.Covers.{IsObject, Pointwise, imports_of}
-use Rattle.pkcheck.specs.Knowledge.{Knowledge, Policy, nothing_known}
+use Rattle.pkmachine.specs.Covers.{Covers, Pointwise, imports_of}
+use Rattle.pkmachine.specs.Witnesses.{Answered, CoversBy, Stands, Word}
+use Rattle.pkmachine.specs.Knowledge.{Knowledge, Policy, nothing_known}
 use Rattle.pkcheck.specs.Listing.{StandsFor, permitted_by}
-use Rattle.pkcheck.specs.RowRuns.{Afresh, Arrives, Beginning, Behind, CanArrive, CanComeTo, ComesTo}
-use Rattle.pkcheck.specs.RowRuns.{InEachRunFrom, listed_before}
-use Rattle.pkcheck.specs.RunFaults.{RunsFrom}
-use Rattle.pkcheck.specs.Runs.{CanCome, Outcome, State, start}
-use Rattle.pkcheck.specs.WholeRuns.{AllListed, CanGetTo, Ended, GetsTo, run_as}
-use Rattle.pkcheck.proofs.Coverage.OneTextStates.{Answered, Word}
-use Rattle.pkcheck.proofs.Coverage.CoversBy.{CoversBy}
-use Rattle.pkcheck.proofs.Coverage.FaultsReached.{Stands}
+use Rattle.pkmachine.specs.RowRuns.{Afresh, Arrives, Beginning, Behind, CanArrive, CanComeTo}
+use Rattle.pkmachine.specs.RowRuns.{ComesTo}
+use Rattle.pkmachine.specs.RowRuns.{InEachRunFrom, listed_before}
+use Rattle.pkmachine.specs.RowRuns.{RunsFrom}
+use Rattle.pkmachine.specs.Runs.{CanCome, Outcome, State, start}
+use Rattle.pkmachine.specs.WholeRuns.{AllListed, CanGetTo, Ended, GetsTo, run_as}
 use Rattle.pkcheck.proofs.Wholes.Walk.{Along}
+
+-- the empty text
+abbrev pub empty : Word
+empty = record { text = []; utf8 = IsUtf8-nil }
 
 -- the offset of the first byte of a pickle, where its runs begin, and what is known there
 pub record Origin : Type 0 where
@@ -41,7 +45,7 @@ module _ (setting : OldStrings) where
 
   -- what is known where the runs begin
   pub record Begins (policy : Policy) (b : Beginning) (known : Knowledge) : Type 0 where
-    pub each : (s : State) → StartsIn b s → CoversBy IsObject known s
+    pub each : (s : State) → StartsIn b s → Covers known s
     pub some : (v : Word) → (s : State) × CanStartIn b s × CoversBy (Answered v.text) known s
     pub permitted : (s : State) → StartsIn b s → AllListed (permitted_by policy)
         (imports_of s.events)
@@ -75,7 +79,7 @@ module _ (setting : OldStrings) where
     -- at the start, nothing is known
     pub begins_afresh : Begins policy Afresh nothing_known
     begins_afresh = record {
-      each = λ s e. subst (CoversBy IsObject nothing_known) (sym e)
+      each = λ s e. subst (Covers nothing_known) (sym e)
           (record { entries = tt; memo = tt });
       some = λ v. (start, refl, record { entries = tt; memo = tt });
       permitted = λ s e. subst (λ x. AllListed (permitted_by policy) (imports_of x.events))

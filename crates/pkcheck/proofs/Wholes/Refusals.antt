@@ -6,12 +6,12 @@ use Rattle.pkops.specs.declared.Reason.{Reason}
 use Rattle.pkops.specs.declared.Reason.TheVariants as reason
 use Rattle.pkread.specs.Sequence.{CountsAt}
 use Rattle.pkcheck.specs.Private.Judgement.{IsRefused}
-use Rattle.pkcheck.specs.Knowledge.{Policy, Refusal, reason_of, Lacks, WrongClass, NotText}
-use Rattle.pkcheck.specs.Knowledge.{UnknownImport, OffList, LeftOver, NotAscii, TooLarge}
+use Rattle.pkmachine.specs.Knowledge.{Policy, Refusal, reason_of, Lacks, WrongClass, NotText}
+use Rattle.pkmachine.specs.Knowledge.{UnknownImport, OffList, LeftOver, NotAscii, TooLarge}
 use Rattle.pkstack.specs.Shape.{NoMark, NoItem, NoMemo, Odd, Extension}
 use Rattle.pkcheck.specs.RunFaults.{HasRunFault}
-use Rattle.pkcheck.specs.Faults.{Arrivals, rank}
-use Rattle.pkcheck.specs.View.{View}
+use Rattle.pkmachine.specs.Faults.{Arrivals, rank}
+use Rattle.pkmachine.specs.View.{View}
 
 -- no fault is tried before the frame rules
 pub none_earlier : (policy : Policy) (limits : Bounds) (p : List Instruction) (i : Instruction)

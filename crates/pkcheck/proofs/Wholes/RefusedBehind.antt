@@ -12,7 +12,7 @@ use Rattle.pkread.specs.Admission.{IsAllowedBy}
 use Rattle.pkread.specs.Sequence.{spellings}
 use Rattle.pkread.specs.Sequences.{GoesOnBehind, OneFront, SequenceGoesOn}
 use Rattle.pkcheck.specs.Exclusive.{OneBegins, RefusedBehind}
-use Rattle.pkcheck.specs.Faults.{everyone}
+use Rattle.pkmachine.specs.Faults.{everyone}
 use Rattle.pkcheck.specs.RowOfPickles.{begins}
 use Rattle.pkcheck.specs.RunFaults.{HasRunFault}
 use Rattle.pkcheck.proofs.Wholes.Exclusive.{OneAnswer, consumed, not_why}

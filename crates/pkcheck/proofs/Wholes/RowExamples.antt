@@ -1,18 +1,18 @@
 -- Worked examples of runs of a row under one Unpickler, by computation.
-use Rattle.pkcheck.specs.declared.old_strings.OldStrings.TheVariants.{Unknown}
+use Rattle.pkmachine.specs.declared.old_strings.OldStrings.TheVariants.{Unknown}
 use Rattle.std.proofs.Common.{◌≡◌, ℕ, List, [], ◌∷◌, Option, Some, None, true, refl}
 use Rattle.pkops.specs.Spelling.{Instruction}
 use Rattle.pkops.specs.declared.Op.TheVariants as op
-use Rattle.pkcheck.specs.declared.loading.Memo.TheVariants.{Fresh, Kept}
-use Rattle.pkcheck.specs.declared.effect.Class.TheVariants as class
-use Rattle.pkcheck.specs.Covers.{imports_of}
+use Rattle.pkmachine.specs.declared.memo.Memo.TheVariants.{Fresh, Kept}
+use Rattle.pkmachine.specs.declared.effect.Class.TheVariants as class
+use Rattle.pkmachine.specs.Covers.{imports_of}
 use Rattle.pkcheck.specs.RowOfPickles.{begins}
-use Rattle.pkcheck.specs.RowRuns.{Afresh, Behind, Pickle, run_row}
-use Rattle.pkcheck.specs.Runs.{Did, Event, Foreign, Go, Outcome, Plain, Raise, State, WentOn}
-use Rattle.pkcheck.specs.Runs.{Raised, Stopped, Stuck, start}
+use Rattle.pkmachine.specs.RowRuns.{Afresh, Behind, Pickle, run_row}
+use Rattle.pkmachine.specs.Runs.{Did, Event, Foreign, Go, Outcome, Plain, Raise, State, WentOn}
+use Rattle.pkmachine.specs.Runs.{Raised, Stopped, Stuck, start}
 use Rattle.pkstack.specs.Shape.{NoItem, NoMark, NoMemo}
-use Rattle.pkcheck.specs.WholeRuns.{Ended, EndedBy, Reached, run}
-use Rattle.pkcheck.proofs.Coverage.Examples.{at, bare, text}
+use Rattle.pkmachine.specs.WholeRuns.{Ended, EndedBy, Reached, run}
+use Rattle.pkcheck.proofs.Wholes.Examples.{at, bare, text}
 
 abbrev get : ℕ → Instruction
 get n = at op.BinGet n

@@ -24,24 +24,25 @@ use Rattle.pkcheck.proofs.Wholes.Checked.{Checked, IsReady, accepted, checked_ag
 use Rattle.pkcheck.proofs.Wholes.Checked.{refused_turned}
 use Rattle.pkcheck.proofs.Wholes.NextPickle.{begins_next, imports_more}
 use Rattle.pkcheck.proofs.Wholes.Origins.{Begins, Origin, begins_afresh, begins_row}
-use Rattle.pkcheck.proofs.Wholes.FramesSoFar.{FrameLaws}
-use Rattle.pkcheck.specs.declared.old_strings.OldStrings.{OldStrings}
+use Rattle.pkcheck.proofs.Wholes.JudgingLaws.{JudgingLaws}
+use Rattle.pkmachine.specs.declared.old_strings.OldStrings.{OldStrings}
 use Rattle.pkcheck.specs.declared.loading.Loading.{Loading}
-use Rattle.pkcheck.specs.declared.loading.Memo.{Memo}
-use Rattle.pkcheck.specs.declared.loading.Memo.TheVariants.{Fresh, Kept}
-use Rattle.pkcheck.specs.View.{View}
+use Rattle.pkmachine.specs.declared.memo.Memo.{Memo}
+use Rattle.pkmachine.specs.declared.memo.Memo.TheVariants.{Fresh, Kept}
+use Rattle.pkmachine.specs.View.{View}
 use Rattle.pkcheck.specs.Accepted.{AcceptedFrom}
-use Rattle.pkcheck.specs.Knowledge.{Knowledge, Policy, nothing_known}
+use Rattle.pkmachine.specs.Knowledge.{Knowledge, Policy, nothing_known}
 use Rattle.pkimport.specs.Import.{Asked}
 use Rattle.pkcheck.specs.Listing.{imports_among}
-use Rattle.pkcheck.specs.Private.NextPickle.{IsRefusedBehind, listed_apart, listed_in, moved_apart}
-use Rattle.pkcheck.specs.Private.NextPickle.{restarted}
+use Rattle.pkcheck.specs.Private.NextPickle.{IsRefusedBehind, listed_apart, listed_in}
+use Rattle.pkmachine.specs.View.{moved_apart}
+use Rattle.pkmachine.specs.View.{restarted}
 use Rattle.pkcheck.specs.Heard.{refused_instruction}
 use Rattle.pkcheck.specs.Refused.{RefusedFrom}
 use Rattle.pkcheck.specs.RowOfPickles.{AcceptedRow, AreAccepted, IsAcceptedBehind}
 use Rattle.pkcheck.specs.RowOfPickles.{begins, bytes_of_all}
-use Rattle.pkcheck.specs.RowRuns.{Beginning, Behind, Pickle, imports_of_all, listed_before}
-use Rattle.pkcheck.specs.RowRuns.{sequences_of}
+use Rattle.pkmachine.specs.RowRuns.{Beginning, Behind, Pickle, imports_of_all, listed_before}
+use Rattle.pkmachine.specs.RowRuns.{sequences_of}
 use Rattle.pkcheck.proofs.Wholes.AnotherPickle.{refuses_again}
 
 -- a sequence has at least one byte
@@ -284,8 +285,9 @@ module _ (taking : TakingLaws) (loading : Loading) (policy : Policy) (limits : B
           subst (λ b. IsReady loading.old_strings policy limits b (restarted Kept m))
           (sym (kept_more before (this p asked)))
           (record {
-            begins = begins_next loading.old_strings policy limits before origin.known begun
-                (payload_limit limits) p sequence m.knowledge asked checked.accepts;
+            begins = begins_next checked.laws.steps loading.old_strings policy limits before
+                origin.known begun (payload_limit limits) p sequence m.knowledge asked
+                checked.accepts;
             imports = checked.imports
                 ∙ (ap (λ b. listed_before b ++ imports_among asked) e
                 ∙ (ap (λ l. l ++ imports_among asked) (kept_listed before)
@@ -334,8 +336,9 @@ module _ (taking : TakingLaws) (loading : Loading) (policy : Policy) (limits : B
     pub none_failed : here.failures ≡ old.failures
     none_failed = (accepted_bytes old here [] before h.each).count
 
-  module _ (laws : FrameLaws) (begins : ReadingGoesOn) (s : ReaderState) (same : s.limits ≡ limits)
-      (b : Beginning) (m : View) (ready : IsReady loading.old_strings policy limits b m) where
+  module _ (laws : JudgingLaws) (begins : ReadingGoesOn) (s : ReaderState)
+      (same : s.limits ≡ limits) (b : Beginning) (m : View)
+      (ready : IsReady loading.old_strings policy limits b m) where
     -- no byte was taken of the pickle that would begin
     abbrev RefusedFirst : ReadRefusal → Sight → Type 0
     RefusedFirst x new =

@@ -1,23 +1,26 @@
 -- One step of a whole run.
-use Rattle.pkcheck.specs.declared.old_strings.OldStrings.{OldStrings}
-use Rattle.std.proofs.Common.{◌≡◌, ℕ, Bool, true, false, List, [], ◌∷◌, Result, Ok, Err, refl, sym}
+use Rattle.pkmachine.specs.declared.old_strings.OldStrings.{OldStrings}
+use Rattle.std.proofs.Common.{◌≡◌, ◌≢◌, ℕ, Bool, true, false, List, [], ◌∷◌, Result, Ok, Err, refl}
+use Rattle.std.proofs.Common.{sym}
 use Rattle.std.proofs.Common.{ap, subst, ◌∙◌}
 use Rattle.std.specs.Prelude.{All}
 use Rattle.std.proofs.lemmas.List.Elements.{All-cons}
+use Rattle.pkops.specs.Operands.{memo_number}
 use Rattle.pkops.specs.Spelling.{Instruction}
-use Rattle.pkops.specs.Limits.{Bounds}
-use Rattle.pkcheck.specs.declared.effect.Names.{Names}
-use Rattle.pkcheck.specs.declared.effect.Gives.{Gives}
-use Rattle.pkcheck.specs.Effects.{Effect, Operates, Moves, Stops, Raises, effect_as}
-use Rattle.pkstack.specs.Shape.{Breach, Taken, and_then, operands}
-use Rattle.pkcheck.specs.Runs.{Object, State, Outcome, CanCome, Stepped, WentOn, Raised, Stopped}
-use Rattle.pkcheck.specs.Runs.{Stuck, Named, NoImport, Pair, NotTexts, asks, come_of, operated}
-use Rattle.pkcheck.specs.Runs.{operate_step, perform, step_as, effect_asks}
-use Rattle.pkcheck.specs.Knowledge.{Knowledge, Progress, Refusal, within}
-use Rattle.pkcheck.specs.Covers.{IsObject}
-use Rattle.pkcheck.proofs.Coverage.CoversBy.{CoversBy, FollowsBy}
-use Rattle.pkcheck.specs.WholeRuns.{Ended, Reached, first_outcome, outcomes_after, go_on, run_as}
-use Rattle.pkcheck.proofs.Coverage.OneTextStates.{IsGoing, Exactly}
+use Rattle.pkops.specs.declared.Op.TheVariants as op
+use Rattle.pkmachine.specs.declared.effect.Names.{Names}
+use Rattle.pkmachine.specs.declared.effect.Gives.{Gives}
+use Rattle.pkmachine.specs.Effects.{Effect, Operates, Moves, Stops, Raises, effect_as}
+use Rattle.pkstack.specs.Shape.{Breach, Shape, Taken, moved, operands}
+use Rattle.pkmachine.specs.Runs.{Go, Raise, move_step}
+use Rattle.pkmachine.specs.Runs.{State, Outcome, CanCome, Stepped, WentOn, Raised, Stopped}
+use Rattle.pkmachine.specs.Runs.{Stuck, Named, NoImport, Pair, NotTexts, asks, come_of, operated}
+use Rattle.pkmachine.specs.Runs.{operate_step, perform, step_as, effect_asks}
+use Rattle.pkmachine.specs.Knowledge.{Knowledge, Progress}
+use Rattle.pkcheck.proofs.Wholes.StopEffects.{only_stop}
+use Rattle.pkmachine.specs.Covers.{Covers, Follows}
+use Rattle.pkmachine.specs.WholeRuns.{Ended, Reached, first_outcome, outcomes_after, go_on, run_as}
+use Rattle.pkmachine.specs.Witnesses.{Answered, CoversBy, StepsPast}
 
 -- a step that asks nothing ignores the outcome
 come_unused : (b : Bool) (gives : Gives) (i : Instruction) (t : Taken ℕ) (o q : Outcome) (s : State)
@@ -44,6 +47,43 @@ perform_unused (Operates takes names gives) i s o q h =
 perform_unused (Moves m) i s o q h = refl
 perform_unused Stops i s o q h = refl
 perform_unused Raises i s o q h = refl
+
+-- only STOP stops
+asked_stops : (b : Bool) (gives : Gives) (i : Instruction) (t : Taken ℕ) (o : Outcome) (r : ℕ)
+    (s u : State) → come_of b gives i t o s ≡ Stopped r u → ⊥
+asked_stops true gives i t Raise r s u e = cc
+asked_stops true gives i t (Go n k) r s u e = cc
+asked_stops false gives i t o r s u e = cc
+
+operate_stops : (nm : Named) (gives : Gives) (i : Instruction) (t : Taken ℕ) (o : Outcome) (r : ℕ)
+    (s u : State) → operated nm gives i t o s ≡ Stopped r u → ⊥
+operate_stops NoImport gives i t o r s u e = asked_stops (asks gives) gives i t o r s u e
+operate_stops (Pair a b) gives i t o r s u e = asked_stops (asks gives) gives i t o r _ u e
+operate_stops NotTexts gives i t o r s u e = cc
+
+next_stops : (names : Names) (gives : Gives) (i : Instruction) (o : Outcome) (r : ℕ) (s u : State)
+    (y : Result (Taken ℕ) Breach) → operate_step names gives i o s y ≡ Stopped r u → ⊥
+next_stops names gives i o r s u (Ok t) e = operate_stops _ gives i t o r s u e
+next_stops names gives i o r s u (Err b) e = cc
+
+shape_stops : (r : ℕ) (s u : State) (y : Result (Shape ℕ) Breach) → move_step s y ≡ Stopped r u → ⊥
+shape_stops r s u (Ok h) e = cc
+shape_stops r s u (Err b) e = cc
+
+pub stopped_by_stop : (e : Effect) (i : Instruction) (r : ℕ) (s u : State) (o : Outcome)
+    → perform e i s o ≡ Stopped r u → e ≡ Stops
+stopped_by_stop (Operates takes names gives) i r s u o h =
+    absurd (next_stops names gives i o r s u (operands takes s.shape.entries) h)
+stopped_by_stop (Moves m) i r s u o h =
+    absurd (shape_stops r s u (moved m (memo_number i) s.shape) h)
+stopped_by_stop Stops i r s u o h = refl
+stopped_by_stop Raises i r s u o h = cc
+
+-- any other instruction doesn't stop
+pub never_stops : (setting : OldStrings) (i : Instruction) → i.op ≢ op.Stop → (s : State)
+    (o : Outcome) (r : ℕ) (u : State) → step_as setting i s o ≡ Stopped r u → ⊥
+never_stops setting i other s o r u e =
+    only_stop setting i other (stopped_by_stop (effect_as setting i) i r s u o e)
 
 pub kept : (os : List Outcome) → outcomes_after false os ≡ os
 kept [] = refl
@@ -76,24 +116,18 @@ same_reached s t e = cc
 
 pub each_on : (setting : OldStrings) (q : Progress) (s : State) (st : Stepped)
     (is : List Instruction) (os : List Outcome) (t : State) (known : Knowledge)
-    → FollowsBy IsObject q s st → ((u : State) → CoversBy IsObject q.after u
-    → run_as setting is os u ≡ Reached t → CoversBy IsObject known t)
-    → go_on st (run_as setting is os) ≡ Reached t → CoversBy IsObject known t
+    → Follows q s st → ((u : State) → Covers q.after u
+    → run_as setting is os u ≡ Reached t → Covers known t)
+    → go_on st (run_as setting is os) ≡ Reached t → Covers known t
 each_on setting q s (WentOn u) is os t known h on e = on u h.0 e
 each_on setting q s (Raised u) is os t known h on e = cc
 each_on setting q s (Stopped r u) is os t known h on e = cc
 each_on setting q s (Stuck b) is os t known h on e = absurd h
 
-pub gone : (e : Effect) (U : List Object → ℕ → Type 0) (q : Progress) (s : State) (st : Stepped)
-    → (e ≡ Stops → ⊥) → IsGoing e st → FollowsBy U q s st → (u : State) × (st ≡ WentOn u)
-    × CoversBy U q.after u
-gone e U q s (WentOn u) ne g h = (u, refl, h.0)
-gone e U q s (Stopped r u) ne g h = absurd (ne g)
-gone e U q s (Raised u) ne g h = absurd g
-gone e U q s (Stuck b) ne g h = absurd g
-
-pub going : (l : Bounds) (n : ℕ) (v : List ℕ) (e : Effect) (k : Knowledge) (s : State)
-    (st : Stepped) (q : Progress) (x : Result Progress Refusal) → Exactly v e k s st x
-    → and_then x (within l n) ≡ Ok q → IsGoing e st
-going l n v e k s st q (Ok q') h g = h.0
-going l n v e k s st q (Err r) h g = cc
+-- a step that doesn't stop and gets past its instruction goes on
+pub gone : (v : List ℕ) (q : Progress) (st : Stepped) → ((r : ℕ) (u : State) → st ≡ Stopped r u
+    → ⊥) → StepsPast v q.after st → (u : State) × (st ≡ WentOn u) × CoversBy (Answered v) q.after u
+gone v q (WentOn u) on h = (u, refl, h)
+gone v q (Stopped r u) on h = absurd (on r u refl)
+gone v q (Raised u) on h = absurd h
+gone v q (Stuck b) on h = absurd h

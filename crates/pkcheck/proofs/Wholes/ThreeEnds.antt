@@ -15,7 +15,7 @@ use Rattle.pkread.specs.Run.{ReadingGoesOn, RefusalIsRead, RefusalOfHeads, SoFar
 use Rattle.pkread.specs.Sequence.{IsSequence, NoStop, spellings}
 use Rattle.pkcheck.specs.Accepted.{AcceptedFrom}
 use Rattle.pkcheck.specs.Heard.{refused_instruction}
-use Rattle.pkcheck.specs.Knowledge.{Policy}
+use Rattle.pkmachine.specs.Knowledge.{Policy}
 use Rattle.pkimport.specs.Import.{Asked}
 use Rattle.pkcheck.specs.Listing.{imports_among}
 use Rattle.pkcheck.specs.ThreeEnds.{AcceptedAndTold, AreReportsOf, RefusedAndTold}
@@ -23,13 +23,13 @@ use Rattle.pkcheck.specs.ThreeEnds.{StoppedAndTold, StoppedFrom}
 use Rattle.pkcheck.specs.Refused.{RefusedFrom}
 use Rattle.pkcheck.specs.Reports.{AreReportsBehind, IsReportOf, Report}
 use Rattle.pkcheck.specs.RowOfPickles.{HasMore, begins, bytes_of_all}
-use Rattle.pkcheck.specs.RowRuns.{Beginning, Pickle, listed_before}
-use Rattle.pkcheck.specs.View.{View}
+use Rattle.pkmachine.specs.RowRuns.{Beginning, Pickle, listed_before}
+use Rattle.pkmachine.specs.View.{View}
 use Rattle.pkcheck.specs.WithImports.{ImportsBefore, RefusedWithImports}
 use Rattle.pkcheck.specs.declared.check_loop.Extent.{Extent}
 use Rattle.pkcheck.specs.declared.check_loop.Extent.TheVariants.{OnePickle, ToTheEnd}
 use Rattle.pkcheck.specs.declared.loading.Loading.{Loading}
-use Rattle.pkcheck.specs.declared.old_strings.OldStrings.{OldStrings}
+use Rattle.pkmachine.specs.declared.old_strings.OldStrings.{OldStrings}
 use Rattle.pkcheck.proofs.Wholes.Checked.{Checked, RefusedAfter, accepted, faultless_here}
 use Rattle.pkcheck.proofs.Wholes.Given.{Took}
 use Rattle.pkcheck.proofs.Wholes.ImportsBefore.{imports_before}
@@ -226,7 +226,7 @@ module _ (holding : Bool) (loading : Loading) (policy : Policy) (limits : Bounds
           admitted = took.more.reads.each;
           bytes = subst (λ x. Takes here x (spellings (p ++ i ∷ []))) (sym same)
               took.more.reads.bytes;
-          framed = checked.laws.all p still_open checked.frames;
+          framed = checked.laws.frames.all p still_open checked.frames;
           faultless = faultless_here loading.old_strings policy limits here origin p asked s
               still_open m checked took.more.no_stop;
         },

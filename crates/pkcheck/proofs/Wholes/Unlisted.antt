@@ -8,25 +8,26 @@ use Rattle.pkops.specs.Limits.{Bounds}
 use Rattle.pkops.specs.Payloads.{payload_limit}
 use Rattle.pkops.specs.Spelling.{Instruction}
 use Rattle.pkread.specs.Admission.{IsAllowedBy}
-use Rattle.pkcheck.specs.Faults.{Arrivals, HasFaultHere, everyone}
-use Rattle.pkcheck.specs.Knowledge.{Knowledge, Lacks, LeftOver, NotAscii, NotText, OffList, Policy}
-use Rattle.pkcheck.specs.Knowledge.{Progress, Refusal, TooLarge, UnknownImport, WrongClass, advance}
-use Rattle.pkcheck.specs.Knowledge.{reason_of}
+use Rattle.pkmachine.specs.Faults.{Arrivals, HasFaultHere, everyone}
+use Rattle.pkmachine.specs.Knowledge.{Knowledge, Lacks, LeftOver, NotAscii, NotText, OffList}
+use Rattle.pkmachine.specs.Knowledge.{Policy}
+use Rattle.pkmachine.specs.Knowledge.{Progress, Refusal, TooLarge, UnknownImport, WrongClass}
+use Rattle.pkmachine.specs.Knowledge.{advance}
+use Rattle.pkmachine.specs.Knowledge.{reason_of}
+use Rattle.pkmachine.specs.StepLaws.{StepLaws}
+use Rattle.pkcheck.proofs.Wholes.Exclusive.{shown}
 use Rattle.pkimport.specs.Import.{Asked}
-use Rattle.pkcheck.specs.RowRuns.{Beginning}
-use Rattle.pkcheck.specs.RunFaults.{HasRunFault, IsFaultless, RunsFrom}
+use Rattle.pkmachine.specs.RowRuns.{Beginning}
+use Rattle.pkcheck.specs.RunFaults.{HasRunFault, IsFaultless}
+use Rattle.pkmachine.specs.RowRuns.{RunsFrom}
 use Rattle.pkstack.specs.Shape.{Extension, NoItem, NoMark, NoMemo, Odd}
-use Rattle.pkcheck.specs.declared.old_strings.OldStrings.{OldStrings}
-use Rattle.pkcheck.proofs.Coverage.FaultsReached.{has_fault, stands_for_all}
-use Rattle.pkcheck.proofs.Coverage.Verdicts.{StopsLast, Yes, verdict}
-use Rattle.pkcheck.proofs.Coverage.Words.{empty}
-use Rattle.pkcheck.proofs.StepParts.Extensions.{no_extension}
-use Rattle.pkcheck.proofs.StepParts.Settings.{wants_no_registry}
-use Rattle.pkcheck.proofs.StepParts.Stops.{nowhere_before}
+use Rattle.pkmachine.specs.declared.old_strings.OldStrings.{OldStrings}
+use Rattle.pkcheck.proofs.Wholes.Verdicts.{StopsLast, Yes, verdict}
+use Rattle.pkcheck.proofs.Wholes.Stops.{nowhere_before}
 use Rattle.pkcheck.proofs.Wholes.Origins.{Begins, stands_from}
 use Rattle.pkcheck.proofs.Wholes.Walk.{along, verdict_more}
 
-module _ (setting : OldStrings) (limits : Bounds) where
+module _ (laws : StepLaws) (setting : OldStrings) (limits : Bounds) where
   -- a fault that doesn't depend on a list is a fault whatever the list
   as_run_fault : (policy : Policy) (before : List Instruction) (here : Arrivals) (i : Instruction)
       (r : Refusal) → HasFaultHere None limits here i (reason_of r)
@@ -66,17 +67,15 @@ module _ (setting : OldStrings) (limits : Bounds) where
         → verdict setting None limits before first ≡ Yes known asked → (r : Refusal)
         → advance setting None limits i known ≡ Err r → ⊥
     not_refused before i is known asked e a r g =
-        let w = along setting None limits before first known asked
+        let w = along setting None limits laws before first known asked
         (nowhere_before before i is (subst StopsLast (sym e) last)) a in
-        let stands = stands_for_all known (RunsFrom setting b before)
-        (stands_from setting None limits b before first known begun w) in
+        let stands = stands_from setting None limits b before first known begun w in
+        let named = laws.refused setting b before None limits i known r stands tt
+        (allowed_at before i is
+        (subst (All (IsAllowedBy (payload_limit limits))) (sym e) allowed)).admitted g in
         faultless before i is (sym e) (reason_of r)
         (as_run_fault policy before (everyone (RunsFrom setting b before)) i r
-        (has_fault None limits i known (everyone (RunsFrom setting b before)) stands empty tt r g
-        (no_extension setting None limits i known r
-        (wants_no_registry setting i
-        (allowed_at before i is
-        (subst (All (IsAllowedBy (payload_limit limits))) (sym e) allowed)).admitted) g)))
+        (shown setting b None limits before i (reason_of r) named.fault))
 
     accepted_on : (is before : List Instruction) (known : Knowledge) (asked : List (Option Asked))
         → before ++ is ≡ p → verdict setting None limits before first ≡ Yes known asked

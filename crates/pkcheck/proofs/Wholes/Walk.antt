@@ -1,26 +1,22 @@
 -- The checker on a list that grows at its end, and what is known along it.
-use Rattle.pkcheck.specs.declared.old_strings.OldStrings.{OldStrings}
-use Rattle.std.proofs.Common.{◌≡◌, ◌≢◌, List, [], ◌∷◌, ◌++◌, length, Result, Ok, Err, refl, sym, ap}
+use Rattle.pkmachine.specs.declared.old_strings.OldStrings.{OldStrings}
+use Rattle.std.proofs.Common.{◌≡◌, ◌≢◌, List, [], ◌∷◌, ◌++◌, Result, Ok, Err, refl, sym, ap}
 use Rattle.std.proofs.Common.{subst, ◌∙◌}
 use Rattle.std.specs.Prelude.{Option}
 use Rattle.pkops.specs.declared.Op.TheVariants as op
-use Rattle.pkcheck.specs.Effects.{effect_as, number_stored}
+use Rattle.pkmachine.specs.Effects.{effect_as}
 use Rattle.std.proofs.lemmas.List.Elements.{All-nil}
 use Rattle.pkops.specs.Spelling.{Instruction}
-use Rattle.pkcheck.specs.Runs.{CanCome, Text, State, Outcome, step_as, effect_asks}
-use Rattle.pkcheck.specs.Knowledge.{Knowledge, Policy, Progress, Refusal, learn, advance}
+use Rattle.pkmachine.specs.Runs.{CanCome, State, Outcome, step_as, effect_asks}
+use Rattle.pkmachine.specs.Knowledge.{Knowledge, Policy, Progress, Refusal, advance}
 use Rattle.pkimport.specs.Import.{Asked}
 use Rattle.pkops.specs.Limits.{Bounds}
-use Rattle.pkcheck.specs.Covers.{IsObject}
-use Rattle.pkcheck.proofs.Coverage.CoversBy.{any_answer, CoversBy, FollowsBy, FollowsIfOk}
-use Rattle.pkcheck.proofs.Coverage.CoversBy.{objects_grow}
-use Rattle.pkcheck.specs.WholeRuns.{Reached, first_outcome, go_on, run_as, CanGetTo}
-use Rattle.pkcheck.proofs.Coverage.Verdicts.{Verdict, Yes, No, with_import, verdict_on, verdict}
-use Rattle.pkcheck.proofs.Coverage.AcceptedSteps.{step_follows}
-use Rattle.pkcheck.proofs.Coverage.OneTextStates.{Answered, Word, new_text, new_text_holds, grows}
-use Rattle.pkcheck.proofs.Coverage.OneTextStates.{learn_exactly}
-use Rattle.pkcheck.proofs.StepParts.Settings.{only_stop}
-use Rattle.pkcheck.proofs.Wholes.RunSteps.{run_on, same_reached, each_on, gone, going}
+use Rattle.pkmachine.specs.WholeRuns.{Reached, first_outcome, go_on, run_as, CanGetTo}
+use Rattle.pkcheck.proofs.Wholes.Verdicts.{Verdict, Yes, No, with_import, verdict_on, verdict}
+use Rattle.pkcheck.proofs.Wholes.RunSteps.{each_on, gone, never_stops, run_on, same_reached}
+use Rattle.pkmachine.specs.Covers.{Covers}
+use Rattle.pkmachine.specs.StepLaws.{StepLaws}
+use Rattle.pkmachine.specs.Witnesses.{Answered, CoversBy, Word, new_text}
 
 -- no instruction is STOP
 abbrev pub StopsNowhere : List Instruction → Type 0
@@ -117,26 +113,20 @@ module _ (setting : OldStrings) (p : Policy) (l : Bounds) where
 
   -- what is known after these instructions, and that some run gets past them
   pub record Along (is : List Instruction) (k known : Knowledge) : Type 0 where
-    pub each : (s t : State) (os : List Outcome) → CoversBy IsObject k s
-        → run_as setting is os s ≡ Reached t → CoversBy IsObject known t
+    pub each : (s t : State) (os : List Outcome) → Covers k s
+        → run_as setting is os s ≡ Reached t → Covers known t
     pub some : (v : Word) (s : State) → CoversBy (Answered v.text) k s
         → (t : State) × CanGetTo setting is s t × CoversBy (Answered v.text) known t
 
-  some_on : (i : Instruction) (is : List Instruction) (k known : Knowledge) (q : Progress)
-      (h : Along is q.after known) → advance setting p l i k ≡ Ok q → i.op ≢ op.Stop
-      → (v : Word) (s : State) → CoversBy (Answered v.text) k s
+  some_on : (laws : StepLaws) (i : Instruction) (is : List Instruction) (k known : Knowledge)
+      (q : Progress) (h : Along is q.after known) → advance setting p l i k ≡ Ok q
+      → i.op ≢ op.Stop → (v : Word) (s : State) → CoversBy (Answered v.text) k s
       → (t : State) × CanGetTo setting (i ∷ is) s t × CoversBy (Answered v.text) known t
-  some_on i is k known q h e on word s c =
+  some_on laws i is k known q h e on word s c =
       let v = word.text in
       let o = new_text v s in
-      let f : FollowsBy (Answered v) q s (step_as setting i s o) = subst
-      (λ x. FollowsIfOk (Answered v) x s (step_as setting i s o)) e
-      (step_follows (Answered v) (grows v) setting p l i k s o c (new_text_holds v s)) in
-      let goes = going l (number_stored (effect_as setting i) i) v (effect_as setting i) k s
-      (step_as setting i s o) q (learn p (effect_as setting i) i k)
-      (learn_exactly v p (effect_as setting i) i k s (length s.objects) (Text v) c) e in
-      let w = gone (effect_as setting i) (Answered v) q s (step_as setting i s o)
-      (only_stop setting i on) goes f in
+      let w = gone v q (step_as setting i s o) (never_stops setting i on s o)
+      (laws.goes_on setting p l i k q e v s c) in
       let m = h.some word w.0 w.2 in (
         m.0,
         run_on setting (effect_asks (effect_as setting i)) i is s o m.1.0
@@ -145,26 +135,25 @@ module _ (setting : OldStrings) (p : Policy) (l : Bounds) where
         m.2,
       )
 
-  pub along : (is : List Instruction) (k known : Knowledge) (asked : List (Option Asked))
+  pub along : (laws : StepLaws) (is : List Instruction) (k known : Knowledge)
+      (asked : List (Option Asked))
       → StopsNowhere is → verdict setting p l is k ≡ Yes known asked → Along is k known
-  along [] k known asked on e =
+  along laws [] k known asked on e =
       let s = yes_parts k known [] asked e in
       record {
-        each = λ s' t os c h. subst (λ x. CoversBy IsObject known x) (same_reached s' t h)
-            (subst (λ x. CoversBy IsObject x s') s.0 c);
+        each = λ s' t os c h. subst (λ x. Covers known x) (same_reached s' t h)
+            (subst (λ x. Covers x s') s.0 c);
         some = λ v s' c.
             (s', ([], All-nil CanCome, refl), subst (λ x. CoversBy (Answered v.text) x s') s.0 c);
       }
-  along (i ∷ is) k known asked on e =
+  along laws (i ∷ is) k known asked on e =
       let f = verdict_first (advance setting p l i k) (verdict setting p l is) known asked e in
-      let h = along is f.passed.after known f.rest.listed on.1 f.rest.accepts in
+      let h = along laws is f.passed.after known f.rest.listed on.1 f.rest.accepts in
       record {
         each = λ s t os c g.
-            let st = step_as setting i s (first_outcome os) in
-            let w : FollowsBy IsObject f.passed s st = subst
-            (λ x. FollowsIfOk IsObject x s st) f.passes
-            (step_follows IsObject objects_grow setting p l i k s (first_outcome os) c
-            (any_answer s.objects (first_outcome os))) in
+            let o = first_outcome os in
+            let st = step_as setting i s o in
+            let w = laws.sound setting p l i k f.passed f.passes s o c in
             each_on setting f.passed s st is _ t known w (λ u c'. h.each u t _ c') g;
-        some = some_on i is k known f.passed h f.passes on.0;
+        some = some_on laws i is k known f.passed h f.passes on.0;
       }

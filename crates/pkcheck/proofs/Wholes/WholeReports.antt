@@ -4,16 +4,16 @@ use Rattle.pkops.specs.Limits.{Bounds}
 use Rattle.pkops.specs.Spelling.{Instruction}
 use Rattle.pkread.specs.Rows.{Sight}
 use Rattle.pkread.specs.Sequence.{spellings}
-use Rattle.pkcheck.specs.Faults.{InEachRun}
+use Rattle.pkmachine.specs.Faults.{InEachRun}
 use Rattle.pkcheck.specs.Heard.{AreHeardBehind, Heard, IsCutShort}
-use Rattle.pkcheck.specs.Knowledge.{Policy}
+use Rattle.pkmachine.specs.Knowledge.{Policy}
 use Rattle.pkcheck.specs.ThreeEnds.{StoppedFrom}
 use Rattle.pkcheck.specs.Private.WholeReports.{whole_of, wholes}
 use Rattle.pkcheck.specs.Reports.{AreReportsBehind, Report, Told, Whole}
-use Rattle.pkcheck.specs.RowRuns.{Afresh}
-use Rattle.pkcheck.specs.RunFaults.{RunsFrom}
+use Rattle.pkmachine.specs.RowRuns.{Afresh}
+use Rattle.pkmachine.specs.RowRuns.{RunsFrom}
 use Rattle.pkstack.specs.Shape.{marks_of}
-use Rattle.pkcheck.specs.declared.old_strings.OldStrings.TheVariants.{Unknown}
+use Rattle.pkmachine.specs.declared.old_strings.OldStrings.TheVariants.{Unknown}
 
 -- what was heard of one instruction
 one_whole : (before : List Instruction) (i : Instruction) (is : List Instruction) (at n : ℕ)

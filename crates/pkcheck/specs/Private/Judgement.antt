@@ -7,11 +7,11 @@ use Rattle.pkops.specs.declared.Reason.TheVariants.{BrokenFrame}
 use Rattle.pkread.specs.Framing.{counted}
 use Rattle.pkread.specs.Pieces.{piece_of}
 use Rattle.pkimport.specs.Import.{Asked, asked_shown}
-use Rattle.pkcheck.specs.Knowledge.{Policy}
-use Rattle.pkcheck.specs.Step.{FailsStep, GoesOn}
-use Rattle.pkcheck.specs.View.{View}
+use Rattle.pkmachine.specs.Knowledge.{Policy}
+use Rattle.pkmachine.specs.Step.{FailsStep, GoesOn}
+use Rattle.pkmachine.specs.View.{View}
 use Rattle.pkcheck.specs.declared.checking.No.{No}
-use Rattle.pkcheck.specs.declared.machine.stepping.Moved.{Moved}
+use Rattle.pkmachine.specs.declared.stepping.Moved.{Moved}
 
 -- the state of a check: the bytes left in the open frame, and the machine
 pub record SessionView : Type 0 where

@@ -5,11 +5,11 @@ use Rattle.pkops.specs.Spelling.{Instruction, spelling}
 use Rattle.pkops.specs.declared.Refusal.{Refusal}
 use Rattle.pkread.specs.AtHand.{AreNext, IsLent, beyond}
 use Rattle.pkread.specs.ReaderCalls.{ReaderState}
-use Rattle.pkcheck.specs.Knowledge.{Policy}
+use Rattle.pkmachine.specs.Knowledge.{Policy}
 use Rattle.pkcheck.specs.Private.Judgement.{BothGoOn, IsRefused, SessionView}
 use Rattle.pkcheck.specs.Reports.{Report, report, told_of}
 use Rattle.pkstack.specs.Shape.{marks_of}
-use Rattle.pkcheck.specs.View.{View}
+use Rattle.pkmachine.specs.View.{View}
 use Rattle.pkcheck.specs.declared.turned.Turned.{Turned}
 
 -- what a listener hears of an instruction at this offset before it is judged

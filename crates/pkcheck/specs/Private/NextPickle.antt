@@ -1,5 +1,5 @@
 -- What is kept for the next pickle of a row.
-use Rattle.std.specs.Prelude.{◌≡◌, ℕ, ◌+◌, ◌++◌, Bool, false, IfErr, IfOk, List, [], None, Ok}
+use Rattle.std.specs.Prelude.{◌≡◌, ℕ, ◌+◌, Bool, IfErr, IfOk, List, [], None, Ok}
 use Rattle.std.specs.Prelude.{OnErr, OnOk, Option, Result}
 use Rattle.pkops.specs.declared.Refusal.{Refusal}
 use Rattle.pkread.specs.Again.{StepsAgain, TakesOneAhead, WhyNoByte}
@@ -8,25 +8,11 @@ use Rattle.pkread.specs.ReaderCalls.{KeepsSource, ReaderState, state}
 use Rattle.pkread.specs.declared.reader.Reader.{Reader}
 use Rattle.pkcheck.specs.declared.row_of_pickles.PickleRow.{PickleRow}
 use Rattle.pkcheck.specs.Private.Judgement.{SessionView}
-use Rattle.pkcheck.specs.declared.loading.Memo.{Memo}
-use Rattle.pkcheck.specs.declared.loading.Memo.TheVariants.{Fresh, Kept}
+use Rattle.pkmachine.specs.declared.memo.Memo.{Memo}
+use Rattle.pkmachine.specs.declared.memo.Memo.TheVariants.{Fresh, Kept}
 use Rattle.pkimport.specs.Import.{Asked}
-use Rattle.pkcheck.specs.RowRuns.{Pickle, imports_of_all}
-use Rattle.pkcheck.specs.View.{View, fresh}
-
--- the machine at the start of the next pickle: a new one, or the same with an empty stack
-abbrev pub restarted : Memo → View → View
-restarted Fresh view = fresh view.old_strings view.limits
-restarted Kept view = record view {
-  knowledge = record { entries = []; memo = view.knowledge.memo };
-  stopped = false;
-}
-
--- the imports outside the machine after a restart; with a fresh memo, those of the machine are
--- moved there
-abbrev pub moved_apart : Memo → List Asked → List Asked → List Asked
-moved_apart Fresh apart own = apart ++ own
-moved_apart Kept apart own = apart
+use Rattle.pkmachine.specs.RowRuns.{Pickle, imports_of_all}
+use Rattle.pkmachine.specs.View.{moved_apart, restarted}
 
 -- the imports outside the machine after these pickles
 abbrev pub listed_apart : Memo → List Pickle → List Asked

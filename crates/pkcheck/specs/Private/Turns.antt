@@ -10,13 +10,13 @@ use Rattle.pkread.specs.ReaderCalls.{ReaderState, Steps}
 use Rattle.pkread.specs.Rows.{all_bytes}
 use Rattle.pkread.specs.declared.Head.TheVariants as head
 use Rattle.pkread.specs.declared.Next.TheVariants as next
-use Rattle.pkcheck.specs.Covers.{Covers}
-use Rattle.pkcheck.specs.Knowledge.{Policy}
+use Rattle.pkmachine.specs.Covers.{Covers}
+use Rattle.pkmachine.specs.Knowledge.{Policy}
 use Rattle.pkcheck.specs.Private.Judgement.{BothGoOn, HasLength, IsRefused, SessionView}
 use Rattle.pkcheck.specs.Reports.{Report, report, told_of}
-use Rattle.pkcheck.specs.Runs.{State}
+use Rattle.pkmachine.specs.Runs.{State}
 use Rattle.pkstack.specs.Shape.{marks_of}
-use Rattle.pkcheck.specs.View.{View}
+use Rattle.pkmachine.specs.View.{View}
 
 module _ (s t : ReaderState) where
   -- the reader returned the instruction at this offset, whole, or without its payload if none is

@@ -1,5 +1,5 @@
 -- With every import permitted, a refusal tells the imports before it, and has no pair.
-use Rattle.pkcheck.specs.Policies.{permit_of}
+use Rattle.pkmachine.specs.Policies.{permit_of}
 use Rattle.pkguard.proofs.Unpaired.{told_before}
 use Rattle.pkguard.proofs.imported.Goals as goal
 

@@ -4,7 +4,7 @@ use Rattle.std.proofs.Common.{length, refl, sym, ap, ◌∙◌, arith, Option, S
 use Rattle.std.proofs.Common.{append_assoc}
 use Rattle.std.specs.Prelude.{option_map}
 use Rattle.pkops.specs.Spelling.{Instruction}
-use Rattle.pkcheck.specs.Runs.{Event, Import, Did}
+use Rattle.pkmachine.specs.Runs.{Event, Import, Did}
 use Rattle.pkjson.specs.Contents.{Kind, same, kind_by_effect, kinds, maker, given_to, all_given}
 use Rattle.pkjson.specs.Contents.{held_by, contents, paired, standing, characters, OfItems, OfPairs}
 use Rattle.pkjson.specs.Contents.{OfValue}

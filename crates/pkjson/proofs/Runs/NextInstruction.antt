@@ -8,8 +8,8 @@ use Rattle.pkops.specs.Inst.{instruction_of}
 use Rattle.pkops.specs.Limits.{Bounds}
 use Rattle.pkops.specs.Spelling.{Argument, Instruction, instruction, spelling}
 use Rattle.pkread.specs.Sequence.{spellings}
-use Rattle.pkcheck.specs.Effects as effect
-use Rattle.pkcheck.specs.Effects.{effect_of}
+use Rattle.pkmachine.specs.Effects as effect
+use Rattle.pkmachine.specs.Effects.{effect_of}
 use Rattle.pkstack.specs.Shape.{Entry, top}
 use Rattle.pkjson.specs.declared.action.Action.{Action}
 use Rattle.pkjson.specs.declared.action.Action.TheVariants.{Stops}

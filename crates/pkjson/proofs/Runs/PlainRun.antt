@@ -7,17 +7,17 @@ use Rattle.pkops.specs.declared.Op.TheVariants as op
 use Rattle.pkops.specs.Spelling.{Instruction, spelling}
 use Rattle.pkread.specs.Admission.{IsAllowed}
 use Rattle.pkread.specs.Sequence.{spellings}
-use Rattle.pkcheck.specs.declared.effect.Class.TheVariants as class
-use Rattle.pkcheck.specs.Effects as effect
-use Rattle.pkcheck.specs.declared.effect.Gives.{Gives}
-use Rattle.pkcheck.specs.declared.effect.Gives.TheVariants as gives
-use Rattle.pkcheck.specs.declared.effect.Names.TheVariants.{NoName}
-use Rattle.pkcheck.specs.declared.effect.Wanted.TheVariants.{WantsList, WantsDict}
-use Rattle.pkcheck.specs.Effects.{Effect, effect_of}
+use Rattle.pkmachine.specs.declared.effect.Class.TheVariants as class
+use Rattle.pkmachine.specs.Effects as effect
+use Rattle.pkmachine.specs.declared.effect.Gives.{Gives}
+use Rattle.pkmachine.specs.declared.effect.Gives.TheVariants as gives
+use Rattle.pkmachine.specs.declared.effect.Names.TheVariants.{NoName}
+use Rattle.pkmachine.specs.declared.effect.Wanted.TheVariants.{WantsList, WantsDict}
+use Rattle.pkmachine.specs.Effects.{Effect, effect_of}
 use Rattle.pkstack.specs.Shape.{Breach, Entry, Taken, operands, top}
-use Rattle.pkcheck.specs.Runs.{Object, State, Stepped, WentOn, Raised, Stopped, Stuck, step}
-use Rattle.pkcheck.specs.Runs.{perform, operate_step, effect_asks, class_at, start}
-use Rattle.pkcheck.specs.WholeRuns.{Ended, EndedBy, EndsWell, run, go_on, outcomes_after}
+use Rattle.pkmachine.specs.Runs.{Object, State, Stepped, WentOn, Raised, Stopped, Stuck, step}
+use Rattle.pkmachine.specs.Runs.{perform, operate_step, effect_asks, class_at, start}
+use Rattle.pkmachine.specs.WholeRuns.{Ended, EndedBy, EndsWell, run, go_on, outcomes_after}
 use Rattle.pkjson.specs.declared.action.Action.{Action}
 use Rattle.pkjson.specs.declared.action.Action.TheVariants.{Makes, Fills, Moves, Stops}
 use Rattle.pkjson.specs.declared.action.Made.TheVariants as made

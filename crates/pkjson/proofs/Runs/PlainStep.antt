@@ -5,18 +5,18 @@ use Rattle.std.proofs.Common.{length-append, Result, Ok, Err}
 use Rattle.serde_json.specs.Data.{Data, boolean}
 use Rattle.pkops.specs.Spelling.{Instruction}
 use Rattle.pkops.specs.Operands.{names_bool, memo_number}
-use Rattle.pkcheck.specs.declared.effect.Class.TheVariants as class
-use Rattle.pkcheck.specs.Effects as effect
-use Rattle.pkcheck.specs.declared.effect.Gives.{Gives}
-use Rattle.pkcheck.specs.declared.effect.Gives.TheVariants as gives
-use Rattle.pkcheck.specs.declared.effect.Names.TheVariants.{NoName}
-use Rattle.pkcheck.specs.declared.effect.Wanted.TheVariants.{WantsList, WantsDict}
-use Rattle.pkcheck.specs.Effects.{Effect, effect_of}
+use Rattle.pkmachine.specs.declared.effect.Class.TheVariants as class
+use Rattle.pkmachine.specs.Effects as effect
+use Rattle.pkmachine.specs.declared.effect.Gives.{Gives}
+use Rattle.pkmachine.specs.declared.effect.Gives.TheVariants as gives
+use Rattle.pkmachine.specs.declared.effect.Names.TheVariants.{NoName}
+use Rattle.pkmachine.specs.declared.effect.Wanted.TheVariants.{WantsList, WantsDict}
+use Rattle.pkmachine.specs.Effects.{Effect, effect_of}
 use Rattle.pkstack.specs.Shape.{Breach, Entry, Mark, Item, Shape, Taken, and_then, operands, moved}
 use Rattle.pkstack.specs.Shape.{front, top}
-use Rattle.pkcheck.specs.Runs.{ObjectClass, Text, Plain, Object, Did, State, Stepped, WentOn}
-use Rattle.pkcheck.specs.Runs.{Raised, Stopped, Stuck, step, perform, operate_step, move_step}
-use Rattle.pkcheck.specs.Runs.{stop_step, class_at, text, int_or_bool}
+use Rattle.pkmachine.specs.Runs.{ObjectClass, Text, Plain, Object, Did, State, Stepped, WentOn}
+use Rattle.pkmachine.specs.Runs.{Raised, Stopped, Stuck, step, perform, operate_step, move_step}
+use Rattle.pkmachine.specs.Runs.{stop_step, class_at, text, int_or_bool}
 use Rattle.pkjson.specs.declared.action.Action.{Action}
 use Rattle.pkjson.specs.declared.action.Action.TheVariants.{Makes, Fills, Moves, Stops}
 use Rattle.pkjson.specs.declared.action.Made.{Made}

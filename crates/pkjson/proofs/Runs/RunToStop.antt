@@ -13,14 +13,14 @@ use Rattle.pkops.specs.Answer.{Answer, Whole, More, Bad, Answers}
 use Rattle.pkops.specs.declared.Fault.{Fault}
 use Rattle.pkops.specs.declared.Reason.{Reason}
 use Rattle.pkread.specs.Rows.{Sight, in_memory}
-use Rattle.pkcheck.specs.declared.OldStrings.TheVariants.{Unknown}
+use Rattle.pkmachine.specs.declared.OldStrings.TheVariants.{Unknown}
 use Rattle.pkimport.specs.Import.{Asked}
 use Rattle.pkcheck.specs.Refused.{Refused}
 use Rattle.pkjson.specs.declared.error.ExportError.{ExportError}
 use Rattle.pkread.specs.Admission.{IsAllowed}
 use Rattle.pkread.specs.Sequence.{IsSequence, spellings}
-use Rattle.pkcheck.specs.Runs.{Outcome, start}
-use Rattle.pkcheck.specs.WholeRuns.{EndsWell, run}
+use Rattle.pkmachine.specs.Runs.{Outcome, start}
+use Rattle.pkmachine.specs.WholeRuns.{EndsWell, run}
 use Rattle.pkcheck.specs.Listing.{permitted_by}
 use Rattle.pkcheck.specs.Accepted.{Accepted}
 use Rattle.pkjson.specs.Plain.{goes_on}

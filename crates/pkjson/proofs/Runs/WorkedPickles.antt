@@ -6,8 +6,8 @@ use Rattle.serde_json.specs.Data.{no_items, item, no_members, member}
 use Rattle.pkops.specs.declared.Op.{Op}
 use Rattle.pkops.specs.declared.Op.TheVariants as op
 use Rattle.pkops.specs.Spelling.{Instruction, instruction, Nothing, Number, Counted, Line}
-use Rattle.pkcheck.specs.Runs.{Event, Stopped, start}
-use Rattle.pkcheck.specs.WholeRuns.{Ended, EndedBy}
+use Rattle.pkmachine.specs.Runs.{Event, Stopped, start}
+use Rattle.pkmachine.specs.WholeRuns.{Ended, EndedBy}
 use Rattle.pkjson.specs.Contents.{contents}
 use Rattle.pkjson.specs.Plain.{OtherKey, LargeNumber, OtherOpcode, plain_run, first_fault}
 use Rattle.pkjson.specs.Unfolds.{Unfolds}

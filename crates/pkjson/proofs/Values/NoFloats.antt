@@ -8,12 +8,12 @@ use Rattle.serde_json.specs.Find.{of_integer}
 use Rattle.serde_json.specs.Written.{has_float, items_have_float, members_have_float}
 use Rattle.pkops.specs.Operands.{names_bool}
 use Rattle.pkops.specs.Spelling.{Instruction}
-use Rattle.pkcheck.specs.declared.effect.Class.TheVariants as class
-use Rattle.pkcheck.specs.declared.effect.Gives.{Gives}
-use Rattle.pkcheck.specs.declared.effect.Gives.TheVariants.{Makes, MakesIntOrBool, MakesText}
-use Rattle.pkcheck.specs.declared.effect.Gives.TheVariants.{MayMake}
-use Rattle.pkcheck.specs.Effects.{effect_of}
-use Rattle.pkcheck.specs.Runs.{Event}
+use Rattle.pkmachine.specs.declared.effect.Class.TheVariants as class
+use Rattle.pkmachine.specs.declared.effect.Gives.{Gives}
+use Rattle.pkmachine.specs.declared.effect.Gives.TheVariants.{Makes, MakesIntOrBool, MakesText}
+use Rattle.pkmachine.specs.declared.effect.Gives.TheVariants.{MayMake}
+use Rattle.pkmachine.specs.Effects.{effect_of}
+use Rattle.pkmachine.specs.Runs.{Event}
 use Rattle.pkjson.specs.Contents.{Kind, OfItems, OfPairs, OfValue, all_given, contents, gives_of}
 use Rattle.pkjson.specs.Contents.{held_by, kind_given, kind_by_effect, kinds, maker, says_true}
 use Rattle.pkjson.specs.Integers.{integer_named}

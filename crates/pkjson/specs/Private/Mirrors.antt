@@ -1,7 +1,7 @@
 -- When the arena matches the state of a run.
 use Rattle.std.specs.Prelude.{◌≡◌, ◌<◌, ℕ, List, [], ◌∷◌, length}
 use Rattle.pkstack.specs.Shape.{Entry, Mark, Item, Shape}
-use Rattle.pkcheck.specs.Runs.{Event, State, class_at}
+use Rattle.pkmachine.specs.Runs.{Event, State, class_at}
 use Rattle.pkjson.specs.Contents.{kinds, all_given}
 use Rattle.pkjson.specs.Plain.{is_known_text}
 use Rattle.pkjson.specs.Private.Arena.{Kept, Arena, kind_at, given_at, kept_in, is_text_kind}

@@ -5,17 +5,17 @@ use Rattle.serde_json.specs.Data.{string, null, boolean, number}
 use Rattle.serde_json.specs.Find.{of_integer}
 use Rattle.pkops.specs.Spelling.{Instruction}
 use Rattle.pkops.specs.Operands.{names_bool, memo_number}
-use Rattle.pkcheck.specs.declared.effect.Class.TheVariants as class
-use Rattle.pkcheck.specs.Effects.{Effect}
-use Rattle.pkcheck.specs.Effects as effect
-use Rattle.pkcheck.specs.declared.effect.Gives.{Gives}
-use Rattle.pkcheck.specs.declared.effect.Gives.TheVariants as gives
+use Rattle.pkmachine.specs.declared.effect.Class.TheVariants as class
+use Rattle.pkmachine.specs.Effects.{Effect}
+use Rattle.pkmachine.specs.Effects as effect
+use Rattle.pkmachine.specs.declared.effect.Gives.{Gives}
+use Rattle.pkmachine.specs.declared.effect.Gives.TheVariants as gives
 use Rattle.pkstack.specs.declared.Move.{Move as MoveOf}
 use Rattle.pkstack.specs.declared.Move.TheVariants as moves
-use Rattle.pkcheck.specs.declared.effect.Names.TheVariants.{NoName}
+use Rattle.pkmachine.specs.declared.effect.Names.TheVariants.{NoName}
 use Rattle.pkstack.specs.declared.Takes.{Takes as TakesOf}
 use Rattle.pkstack.specs.declared.Takes.TheVariants as takes
-use Rattle.pkcheck.specs.declared.effect.Wanted.TheVariants.{WantsList, WantsDict}
+use Rattle.pkmachine.specs.declared.effect.Wanted.TheVariants.{WantsList, WantsDict}
 use Rattle.pkstack.specs.Shape.{Breach, Entry, Item, Taken, and_then, items, slice, front, moved}
 use Rattle.pkjson.specs.declared.action.Action.{Action}
 use Rattle.pkjson.specs.declared.action.Action.TheVariants.{Makes, Fills, Moves, Stops}

@@ -4,8 +4,8 @@ use Rattle.pkops.specs.declared.Op.TheVariants as op
 use Rattle.pkops.specs.Spelling.{Instruction, spelling}
 use Rattle.pkread.specs.Admission.{IsAllowed}
 use Rattle.pkread.specs.Sequence.{spellings}
-use Rattle.pkcheck.specs.Runs.{State, start}
-use Rattle.pkcheck.specs.WholeRuns.{EndsWell}
+use Rattle.pkmachine.specs.Runs.{State, start}
+use Rattle.pkmachine.specs.WholeRuns.{EndsWell}
 use Rattle.pkjson.specs.Plain.{plain_run, first_fault}
 use Rattle.pkjson.specs.Private.Arena.{Arena}
 use Rattle.pkjson.specs.Private.Mirrors.{MirrorsState}

@@ -1,7 +1,7 @@
 -- The result of replaying a plain pickle to its end.
 use Rattle.std.specs.Prelude.{◌≡◌, ◌<◌, ℕ, List, length}
 use Rattle.pkops.specs.Limits.{Bounds}
-use Rattle.pkcheck.specs.Runs.{Event}
+use Rattle.pkmachine.specs.Runs.{Event}
 use Rattle.pkjson.specs.Private.Arena.{Kept, holds}
 use Rattle.pkjson.specs.Contents.{contents}
 use Rattle.pkjson.specs.Export.{Results}

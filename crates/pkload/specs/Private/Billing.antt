@@ -5,12 +5,12 @@ use Rattle.pkops.specs.declared.Op.{Op}
 use Rattle.pkops.specs.declared.Op.TheVariants as op
 use Rattle.pkops.specs.Operands.{memo_number}
 use Rattle.pkops.specs.Spelling.{Instruction}
-use Rattle.pkcheck.specs.declared.effect.Gives.TheVariants.{Leaves}
+use Rattle.pkmachine.specs.declared.effect.Gives.TheVariants.{Leaves}
 use Rattle.pkstack.specs.declared.Move.{Move}
 use Rattle.pkstack.specs.declared.Move.TheVariants.{PushesMark, Stores, StoresNext, Fetches}
 use Rattle.pkstack.specs.declared.Takes.{Takes}
 use Rattle.pkstack.specs.declared.Takes.TheVariants.{Objects}
-use Rattle.pkcheck.specs.Effects.{Effect, Operates, Moves, Stops, Raises, effect_of}
+use Rattle.pkmachine.specs.Effects.{Effect, Operates, Moves, Stops, Raises, effect_of}
 use Rattle.pkstack.specs.Shape.{Breach, Entry, Item, Taken, and_then, is_even, moved, operands}
 use Rattle.pkstack.specs.Shape.{put, slice}
 use Rattle.pkload.specs.Bill.{Bill, move_billed}

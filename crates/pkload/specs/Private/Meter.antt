@@ -4,7 +4,7 @@ use Rattle.std.proofs.Common.{IfOk, refl, ap, subst, sym, ◌∙◌}
 use Rattle.std.specs.Prelude.{⊤, ◌≢◌}
 use Rattle.pkcheck.specs.Reports.{Report}
 use Rattle.pkstack.specs.Shape.{Breach, and_then}
-use Rattle.pkcheck.specs.declared.loading.Memo.{Memo}
+use Rattle.pkmachine.specs.declared.memo.Memo.{Memo}
 use Rattle.pkload.specs.Private.Told.{Metering, all_metered, metered}
 use Rattle.pkload.specs.Tolls.{Exceeds, KeepsWithin, unlimited}
 use Rattle.pkload.specs.declared.tolls.Excess.{Excess}

@@ -5,8 +5,8 @@ use Rattle.pkops.specs.declared.Op.{Op}
 use Rattle.pkops.specs.declared.Op.TheVariants as op
 use Rattle.pkcheck.specs.Reports.{Report, Skipped, Told, Whole}
 use Rattle.pkstack.specs.Shape.{Breach, Item, NoItem, and_then}
-use Rattle.pkcheck.specs.declared.loading.Memo.{Memo}
-use Rattle.pkcheck.specs.declared.loading.Memo.TheVariants.{Fresh, Kept}
+use Rattle.pkmachine.specs.declared.memo.Memo.{Memo}
+use Rattle.pkmachine.specs.declared.memo.Memo.TheVariants.{Fresh, Kept}
 use Rattle.pkload.specs.Bill.{Bill, billed, next_bill, no_bill}
 use Rattle.pkload.specs.Heft.{heft_made}
 use Rattle.pkload.specs.Memory.{held_memory, plain_memory}

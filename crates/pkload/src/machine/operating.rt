@@ -16,8 +16,8 @@ use crate::making::{builds_import, made, made_text, tied};
 use crate::memory::{after_operation, after_text};
 use crate::operands::Operands;
 use crate::stack::Stack;
-use pkcheck::effect::{SliceRule, Takes};
 use pkops::Op;
+use pkstack::{SliceRule, Takes};
 
 impl Machine {
     /// Pushes a text of these bytes. Returns false, since it counts no key.

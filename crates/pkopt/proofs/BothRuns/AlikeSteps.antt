@@ -2,17 +2,20 @@
 use Rattle.std.proofs.Common.{◌≡◌, ℕ, Bool, true, false, List, [], ◌∷◌, map, Result, Ok, Err, refl}
 use Rattle.std.proofs.Common.{sym, subst}
 use Rattle.pkops.specs.Spelling.{Instruction}
-use Rattle.pkcheck.specs.declared.effect.Names.{Names}
-use Rattle.pkcheck.specs.declared.effect.Gives.{Gives}
-use Rattle.pkcheck.specs.Effects.{Effect, Operates, Moves, Stops, Raises}
+use Rattle.pkmachine.specs.declared.effect.Names.{Names}
+use Rattle.pkmachine.specs.declared.effect.Gives.{Gives}
+use Rattle.pkmachine.specs.Effects.{Effect, Operates, Moves, Stops, Raises}
 use Rattle.pkstack.specs.declared.Move.TheVariants.{PushesMark, Pops, PopsMark, Duplicates}
 use Rattle.pkstack.specs.declared.Move.TheVariants.{Stores, StoresNext, Fetches, Passes}
 use Rattle.pkstack.specs.declared.Move.TheVariants.{Extends}
 use Rattle.pkstack.specs.Shape.{Breach, Entry, Item, Taken, and_then, slice, operands, top, popped}
-use Rattle.pkcheck.specs.Runs.{Import, State, Outcome, Raise, Go, Stepped, WentOn, Raised, Stopped}
-use Rattle.pkcheck.specs.Runs.{Stuck, Named, NoImport, Pair, NotTexts, class_at, named, with_event}
-use Rattle.pkcheck.specs.Runs.{asks, come_of, operated, move_step, stop_step, operate_step, perform}
-use Rattle.pkcheck.specs.WholeRuns.{Ended, go_on}
+use Rattle.pkmachine.specs.Runs.{Import, State, Outcome, Raise, Go, Stepped, WentOn, Raised}
+use Rattle.pkmachine.specs.Runs.{Stopped}
+use Rattle.pkmachine.specs.Runs.{Stuck, Named, NoImport, Pair, NotTexts, class_at, named}
+use Rattle.pkmachine.specs.Runs.{with_event}
+use Rattle.pkmachine.specs.Runs.{asks, come_of, operated, move_step, stop_step, operate_step}
+use Rattle.pkmachine.specs.Runs.{perform}
+use Rattle.pkmachine.specs.WholeRuns.{Ended, go_on}
 use Rattle.pkcheck.specs.Ends.{IsFree, SameHistory, SameEnd}
 
 -- the same state with another memo

@@ -13,22 +13,24 @@ use Rattle.pkops.specs.declared.Reason.{Reason}
 use Rattle.pkops.specs.declared.Reason.TheVariants as reason
 use Rattle.pkread.specs.Framing.{Framed, IsFramed, Piece, Span, frame_spans, contents_of}
 use Rattle.pkread.specs.Pieces.{piece_of}
-use Rattle.pkcheck.specs.declared.OldStrings.TheVariants.{Unknown}
+use Rattle.pkmachine.specs.declared.OldStrings.TheVariants.{Unknown}
 use Rattle.pkcheck.specs.ButForLimits.{IsFaultlessButForLimits}
-use Rattle.pkcheck.specs.Covers.{Adds, imports_of}
-use Rattle.pkcheck.specs.Effects.{Effect, Operates, effect_of}
+use Rattle.pkmachine.specs.Covers.{Adds, imports_of}
+use Rattle.pkmachine.specs.Effects.{Effect, Operates, effect_of}
 use Rattle.pkcheck.specs.Ends.{SameEnd}
-use Rattle.pkcheck.specs.Faults.{AsksAlways, AsksFor, AsksOnce, HasNonText, HasWrongReceiver}
-use Rattle.pkcheck.specs.Faults.{InEachRun, IsRaise, IsStuck, LeavesMore, RaisesThere, everyone}
-use Rattle.pkcheck.specs.Knowledge.{Policy}
+use Rattle.pkmachine.specs.Faults.{AsksAlways, AsksFor, AsksOnce, HasNonText, HasWrongReceiver}
+use Rattle.pkmachine.specs.Faults.{InEachRun, IsRaise, IsStuck, LeavesMore, RaisesThere, everyone}
+use Rattle.pkmachine.specs.Knowledge.{Policy}
 use Rattle.pkimport.specs.Import.{AskedPair}
-use Rattle.pkcheck.specs.RowRuns.{Afresh, Arrives}
-use Rattle.pkcheck.specs.RunFaults.{HasRunFault, RunsBehind}
-use Rattle.pkcheck.specs.Runs.{Event, State, Outcome, Raise, Stepped, WentOn, Raised, Stopped}
-use Rattle.pkcheck.specs.Runs.{Stuck, effect_asks, move_step, perform, start, step}
+use Rattle.pkmachine.specs.RowRuns.{Afresh, Arrives}
+use Rattle.pkcheck.specs.RunFaults.{HasRunFault}
+use Rattle.pkmachine.specs.RowRuns.{RunsBehind}
+use Rattle.pkmachine.specs.Runs.{Event, State, Outcome, Raise, Stepped, WentOn, Raised, Stopped}
+use Rattle.pkmachine.specs.Runs.{Stuck, effect_asks, move_step, perform, start, step}
 use Rattle.pkstack.specs.Shape.{Breach, Entry, Shape, moved}
-use Rattle.pkcheck.specs.WholeRuns.{Ended, EndedBy, EndsWell, Reached, Sound, first_outcome, go_on}
-use Rattle.pkcheck.specs.WholeRuns.{outcomes_after, run}
+use Rattle.pkmachine.specs.WholeRuns.{Ended, EndedBy, EndsWell, Reached, Sound, first_outcome}
+use Rattle.pkmachine.specs.WholeRuns.{go_on}
+use Rattle.pkmachine.specs.WholeRuns.{outcomes_after, run}
 use Rattle.pkopt.specs.Faultless.{StaysFaultless}
 use Rattle.pkopt.proofs.BothRuns.AlikeSteps.{SameStep, perform_same, with_memo}
 use Rattle.pkopt.proofs.BothRuns.Origins.{Counterpart, IsMove}

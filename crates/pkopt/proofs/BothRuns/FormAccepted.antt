@@ -13,9 +13,9 @@ use Rattle.pkread.specs.Admission.{IsAllowedBy}
 use Rattle.pkread.specs.Rows.{all_bytes}
 use Rattle.pkread.specs.Sequences.{OneSequence}
 use Rattle.pkstack.specs.declared.Move.{Move}
-use Rattle.pkcheck.specs.declared.OldStrings.TheVariants.{Unknown}
+use Rattle.pkmachine.specs.declared.OldStrings.TheVariants.{Unknown}
 use Rattle.pkcheck.specs.ButForLimits.{IsFaultlessButForLimits, RefusedForLimits}
-use Rattle.pkcheck.specs.Effects.{Moves, effect_of}
+use Rattle.pkmachine.specs.Effects.{Moves, effect_of}
 use Rattle.pkopt.specs.Answer.{pickle}
 use Rattle.pkopt.specs.Laws.{FormIsAccepted}
 use Rattle.pkopt.specs.OneFrame.{optimized}

@@ -5,7 +5,7 @@ use Rattle.std.specs.Prelude.{OnOk}
 use Rattle.pkops.specs.Operands.{memo_number}
 use Rattle.pkops.specs.Spelling.{Instruction, spelling}
 use Rattle.pkread.specs.Sequence.{spellings}
-use Rattle.pkcheck.specs.Effects.{effect_of}
+use Rattle.pkmachine.specs.Effects.{effect_of}
 use Rattle.pkcheck.specs.Heard.{Heard, heard, AreHeardBehind}
 use Rattle.pkopt.specs.declared.place.Part.{Part}
 use Rattle.pkopt.specs.declared.place.Place.{Place}

@@ -6,11 +6,12 @@ use Rattle.pkops.specs.Operands.{memo_number}
 use Rattle.pkops.specs.Spelling.{Instruction}
 use Rattle.pkstack.specs.declared.Move.{Move}
 use Rattle.pkstack.specs.declared.Move.TheVariants.{Stores, StoresNext, Fetches, Passes}
-use Rattle.pkcheck.specs.Effects.{Effect, Moves, effect_of}
+use Rattle.pkmachine.specs.Effects.{Effect, Moves, effect_of}
 use Rattle.pkcheck.specs.Ends.{IsFree, SameEnd}
-use Rattle.pkcheck.specs.Runs.{State, Outcome, Stepped, WentOn, Raised, Stopped, Stuck, start, step}
-use Rattle.pkcheck.specs.Runs.{effect_asks}
-use Rattle.pkcheck.specs.WholeRuns.{Ended, go_on, run, first_outcome, outcomes_after}
+use Rattle.pkmachine.specs.Runs.{State, Outcome, Stepped, WentOn, Raised, Stopped, Stuck, start}
+use Rattle.pkmachine.specs.Runs.{step}
+use Rattle.pkmachine.specs.Runs.{effect_asks}
+use Rattle.pkmachine.specs.WholeRuns.{Ended, go_on, run, first_outcome, outcomes_after}
 use Rattle.pkopt.specs.OneFrame.{is_proto, has_frame, frame_around, in_frame, optimized}
 use Rattle.pkopt.specs.RunsAlike.{RunsAlike}
 use Rattle.pkopt.specs.Slim.{is_frame, renumbered, read_left, left_of, slim_from, slim}

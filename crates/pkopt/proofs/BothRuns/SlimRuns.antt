@@ -12,12 +12,12 @@ use Rattle.pkops.specs.declared.Op.TheVariants as op
 use Rattle.pkops.specs.Spelling.{Instruction}
 use Rattle.pkops.specs.Operands.{memo_number}
 use Rattle.pkstack.specs.declared.Move.TheVariants.{Stores, StoresNext, Fetches, Passes}
-use Rattle.pkcheck.specs.Effects.{Effect, Moves, effect_of}
+use Rattle.pkmachine.specs.Effects.{Effect, Moves, effect_of}
 use Rattle.pkcheck.specs.Ends.{IsFree, SameEnd}
 use Rattle.pkstack.specs.Shape.{Entry, Mark, Item, recalled, fetched}
-use Rattle.pkcheck.specs.Runs.{Object, Event, State, Outcome, move_step, perform, effect_asks}
-use Rattle.pkcheck.specs.Runs.{start}
-use Rattle.pkcheck.specs.WholeRuns.{first_outcome, outcomes_after, go_on, run}
+use Rattle.pkmachine.specs.Runs.{Object, Event, State, Outcome, move_step, perform, effect_asks}
+use Rattle.pkmachine.specs.Runs.{start}
+use Rattle.pkmachine.specs.WholeRuns.{first_outcome, outcomes_after, go_on, run}
 use Rattle.pkopt.specs.Writers.{Writes, last_write, different, wrote, after, read_by, sources}
 use Rattle.pkopt.specs.Writers.{is_this, is_read, new_number, after_all, more_if_none}
 use Rattle.pkopt.specs.Slim.{renumbered, is_frame, read_left, left_of, slim_from, slim}

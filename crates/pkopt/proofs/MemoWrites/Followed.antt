@@ -5,7 +5,7 @@ use Rattle.std.specs.Prelude.{OnOk}
 use Rattle.pkops.specs.declared.Op.{Op}
 use Rattle.pkops.specs.declared.Op.TheVariants as op
 use Rattle.pkstack.specs.declared.Move.TheVariants as move
-use Rattle.pkcheck.specs.Effects.{Moves, effect_of}
+use Rattle.pkmachine.specs.Effects.{Moves, effect_of}
 use Rattle.pkopt.specs.declared.memo.MemoUse.TheVariants.{Stores, StoresNext, Fetches}
 use Rattle.pkopt.specs.declared.memo.Memo.{Memo}
 use Rattle.pkopt.specs.declared.trace.Trace.{Trace}

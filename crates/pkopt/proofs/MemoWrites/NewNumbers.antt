@@ -6,7 +6,7 @@ use Rattle.std.proofs.lemmas.Bool.Decides.{eqb_tells}
 use Rattle.pkops.specs.Spelling.{Instruction}
 use Rattle.pkops.specs.Operands.{memo_number}
 use Rattle.pkstack.specs.declared.Move.TheVariants.{Stores, StoresNext}
-use Rattle.pkcheck.specs.Effects.{Effect, Moves, effect_of}
+use Rattle.pkmachine.specs.Effects.{Effect, Moves, effect_of}
 use Rattle.pkopt.specs.Writers.{Writes, wrote, after, is_read, new_number, after_all}
 
 pub tells_eq : (a b : ℕ) → (a ≡ b) ⊎ (a ≢ b)

@@ -15,10 +15,10 @@ use Rattle.pkread.specs.Genops.{is_stop}
 use Rattle.pkread.specs.Pieces.{role_of, number_of, piece_of}
 use Rattle.pkread.specs.Sequence.{spellings}
 use Rattle.pkstack.specs.declared.Move.TheVariants.{Stores, StoresNext, Fetches}
-use Rattle.pkcheck.specs.Effects.{Effect, Moves, effect_of}
+use Rattle.pkmachine.specs.Effects.{Effect, Moves, effect_of}
 use Rattle.pkcheck.specs.Ends.{SameEnd}
-use Rattle.pkcheck.specs.Runs.{State, Outcome, start}
-use Rattle.pkcheck.specs.WholeRuns.{run}
+use Rattle.pkmachine.specs.Runs.{State, Outcome, start}
+use Rattle.pkmachine.specs.WholeRuns.{run}
 use Rattle.pkopt.specs.Private.Fronts.{EndsInStop}
 use Rattle.pkopt.specs.OneFrame.{is_proto, has_frame, frame_around, in_frame, optimized}
 use Rattle.pkopt.specs.RunsAlike.{RunsAlike}

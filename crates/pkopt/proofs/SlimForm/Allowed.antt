@@ -19,7 +19,7 @@ use Rattle.pkops.specs.Operands.{memo_number}
 use Rattle.pkops.specs.Spelling.{IsLine, Instruction, instruction}
 use Rattle.pkread.specs.Admission.{IsAllowed}
 use Rattle.pkstack.specs.declared.Move.TheVariants.{Stores, StoresNext, Fetches}
-use Rattle.pkcheck.specs.Effects.{Effect, Moves, effect_of}
+use Rattle.pkmachine.specs.Effects.{Effect, Moves, effect_of}
 use Rattle.pkopt.specs.Private.Fronts.{EndsInStop}
 use Rattle.pkopt.specs.Slim.{form_of, argument_for, is_frame, read_left, left_of, slim_from, slim}
 use Rattle.pkopt.specs.Writers.{Writes, last_write, wrote, after, sources, is_read, new_number}

@@ -11,7 +11,7 @@ use Rattle.pkops.specs.Operands.{memo_number, names_memo_entry}
 use Rattle.pkops.specs.Spelling.{Nothing, Instruction, instruction, spelling}
 use Rattle.pkread.specs.Sequence.{spellings}
 use Rattle.pkstack.specs.declared.Move.TheVariants as move
-use Rattle.pkcheck.specs.Effects.{Effect, Moves, effect_of}
+use Rattle.pkmachine.specs.Effects.{Effect, Moves, effect_of}
 use Rattle.pkopt.specs.declared.fate.Fate.{Fate}
 use Rattle.pkopt.specs.declared.fate.Fate.TheVariants.{Goes, Stays, Gets, IsPast}
 use Rattle.pkopt.specs.declared.memo.MemoUse.{MemoUse}

@@ -4,7 +4,7 @@ use Rattle.pkops.specs.declared.Op.{Op}
 use Rattle.pkops.specs.declared.Op.TheVariants as op
 use Rattle.pkops.specs.Operands.{memo_number}
 use Rattle.pkops.specs.Spelling.{Instruction}
-use Rattle.pkcheck.specs.Effects.{effect_of}
+use Rattle.pkmachine.specs.Effects.{effect_of}
 use Rattle.pkopt.specs.Private.Places.{stays_as_is}
 use Rattle.pkopt.specs.Slim.{is_frame, left_of}
 use Rattle.pkopt.specs.Writers.{Writes, wrote, after, read_by}

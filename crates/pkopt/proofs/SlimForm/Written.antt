@@ -5,7 +5,7 @@ use Rattle.std.proofs.Common.{length-append}
 use Rattle.std.specs.Prelude.{◌≢◌}
 use Rattle.pkops.specs.Spelling.{Instruction, spelling}
 use Rattle.pkread.specs.Sequence.{spellings}
-use Rattle.pkcheck.specs.Effects.{effect_of}
+use Rattle.pkmachine.specs.Effects.{effect_of}
 use Rattle.pkopt.specs.declared.fate.Fate.{Fate}
 use Rattle.pkopt.specs.declared.fate.Fate.TheVariants.{IsPast}
 use Rattle.pkopt.specs.declared.fate.Plan.{Plan}

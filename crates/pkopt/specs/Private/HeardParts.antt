@@ -3,7 +3,7 @@ use Rattle.std.proofs.Common.{◌≡◌, ℕ, Bool, true, false, cond, List, [],
 use Rattle.std.proofs.Common.{refl, sym, ap, subst, ◌∙◌, append_assoc, append-nil}
 use Rattle.pkops.specs.Operands.{memo_number}
 use Rattle.pkops.specs.Spelling.{Instruction}
-use Rattle.pkcheck.specs.Effects.{effect_of}
+use Rattle.pkmachine.specs.Effects.{effect_of}
 use Rattle.pkcheck.specs.Heard.{Heard}
 use Rattle.pkopt.specs.declared.place.Place.{Place}
 use Rattle.pkopt.specs.declared.trace.Trace.{Trace}

@@ -4,7 +4,7 @@ use Rattle.std.specs.Prelude.{Option, Some, None, slice_index_or}
 use Rattle.pkops.specs.declared.Op.{Op}
 use Rattle.pkops.specs.declared.Op.TheVariants as op
 use Rattle.pkops.specs.Spelling.{Instruction}
-use Rattle.pkcheck.specs.Effects.{effect_of}
+use Rattle.pkmachine.specs.Effects.{effect_of}
 use Rattle.pkcheck.specs.Heard.{Heard}
 use Rattle.pkopt.specs.declared.memo.MemoUse.{MemoUse}
 use Rattle.pkopt.specs.declared.trace.Trace.{Trace}

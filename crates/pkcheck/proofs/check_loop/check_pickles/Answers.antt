@@ -4,13 +4,12 @@ use Rattle.std.proofs.Math.Seq.{drop-length}
 use Rattle.std.proofs.lemmas.Result.{err_from_is_err_and}
 use Rattle.pkread.specs.ReaderCalls.{is_ended, state}
 use Rattle.pkread.specs.Rows.{sight}
-use Rattle.pkcheck.specs.Knowledge.{nothing_known}
+use Rattle.pkmachine.specs.Knowledge.{nothing_known}
 use Rattle.pkcheck.specs.Private.NextPickle.{listed_in}
 use Rattle.pkcheck.specs.RowOfPickles.{begins}
-use Rattle.pkcheck.proofs.StepParts.Longest.{longest}
 use Rattle.pkcheck.proofs.Wholes.AnotherPickle.{again_false, again_true, refused_from, some_ahead}
 use Rattle.pkcheck.proofs.Wholes.Checked.{checked_first}
-use Rattle.pkcheck.proofs.Wholes.FramesSoFar.{FrameLaws}
+use Rattle.pkcheck.proofs.Wholes.JudgingLaws.{JudgingLaws, bounded}
 use Rattle.pkcheck.proofs.Wholes.Given.{seen_so}
 use Rattle.pkcheck.proofs.Wholes.RowOfPickles.{begins_first, none_before, row_begins}
 use Rattle.pkcheck.proofs.Wholes.BehindStop.{accepts_alone, accepts_row, going_again, refused_again}
@@ -22,10 +21,13 @@ use Rattle.pkcheck.proofs.check_loop.check_pickles.Goals as goal
 
 pub instructions-init : goal.instructions-init
 instructions-init g c =
-    let laws : FrameLaws = record {
-      more = c.frames.ensures.more;
-      all = c.frames.ensures.all;
-      refused = c.frames.ensures.refused;
+    let laws : JudgingLaws = record {
+      frames = record {
+        more = c.frames.ensures.more;
+        all = c.frames.ensures.all;
+        refused = c.frames.ensures.refused;
+      };
+      steps = c.steps.ensures;
     } in
     let memo = c.args.terms.now.loading.memo in
     record {
@@ -48,7 +50,7 @@ instructions-init g c =
         };
         one = c.requires.one;
         law = g.met.A.Audience.hears_more;
-        long = longest c.bounded_names.ensures c.args.policy.now;
+        bounded = bounded c.bounded_names.ensures c.args.policy.now;
         here = sight g.R.Source.left g.R.Source.failures c.args.source.now;
         origin = record { at = 0; beginning = begins memo []; known = nothing_known };
         before = [];

@@ -3,7 +3,7 @@ use Rattle.std.proofs.Common.{◌≡◌, ◌-◌}
 use Rattle.pkread.specs.Core.{Open}
 use Rattle.pkread.specs.ReaderCalls.{state}
 use Rattle.pkread.specs.Rows.{all_bytes, sight}
-use Rattle.pkcheck.specs.Policies.{permit_of}
+use Rattle.pkmachine.specs.Policies.{permit_of}
 use Rattle.pkcheck.proofs.Wholes.Going.{Going}
 use Rattle.pkcheck.proofs.check_loop.check_pickles.Given as goal
 

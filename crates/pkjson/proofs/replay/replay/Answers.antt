@@ -1,7 +1,7 @@
 -- Each turn replays one plain instruction of an accepted pickle, up to its STOP.
 use Rattle.std.proofs.Common.{◌≡◌, arith, sym, ap, subst, ◌∙◌, ◌+◌, ◌-◌, length, drop, length-drop}
 use Rattle.pkops.specs.Inst.{instruction_of}
-use Rattle.pkcheck.specs.Effects.{effect_of}
+use Rattle.pkmachine.specs.Effects.{effect_of}
 use Rattle.pkjson.specs.Private.PlainActions.{ActsAs}
 use Rattle.pkjson.specs.Private.Arena.{no_object}
 use Rattle.pkjson.specs.Private.Halts.{IsHalted}

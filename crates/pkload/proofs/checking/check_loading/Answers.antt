@@ -1,5 +1,5 @@
 -- What the meter billed bounds every run, so a yes keeps within the tolls and an excess is real.
-use Rattle.pkcheck.specs.Policies.{permit_of}
+use Rattle.pkmachine.specs.Policies.{permit_of}
 use Rattle.pkload.proofs.Settled.{settled_loading, settled_over, stopped_right}
 use Rattle.pkload.proofs.checking.check_loading.Goals as goal
 

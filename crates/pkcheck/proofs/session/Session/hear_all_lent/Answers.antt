@@ -3,7 +3,7 @@ use Rattle.std.proofs.Common.{append-nil, arith, length, refl, ap, subst, sym, �
 use Rattle.std.proofs.Common.{◌≡◌, ◌≤◌, ℕ, [], ◌∷◌}
 use Rattle.std.proofs.lemmas.List.{length-append, length-drop}
 use Rattle.pkops.specs.Inst.{instruction_of}
-use Rattle.pkcheck.specs.Policies.{permit_of}
+use Rattle.pkmachine.specs.Policies.{permit_of}
 use Rattle.pkcheck.specs.Private.Lent.{heard_before}
 use Rattle.pkcheck.specs.Reports.{report, told_of}
 use Rattle.pkcheck.proofs.Wholes.InTurn.{Along, IsInside, along_more, along_none, all_passed}

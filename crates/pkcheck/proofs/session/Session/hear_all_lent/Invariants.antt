@@ -1,6 +1,6 @@
 -- What lies before the rest was told and accepted in turn, and each turn shortens the rest.
 use Rattle.std.proofs.Common.{◌≡◌, List, length}
-use Rattle.pkcheck.specs.Policies.{permit_of}
+use Rattle.pkmachine.specs.Policies.{permit_of}
 use Rattle.pkcheck.specs.Private.Lent.{HearsMore}
 use Rattle.pkcheck.specs.Reports.{Report}
 use Rattle.pkcheck.proofs.Wholes.InTurn.{Along}

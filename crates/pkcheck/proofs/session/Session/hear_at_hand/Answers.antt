@@ -2,7 +2,7 @@
 use Rattle.std.proofs.Common.{◌+◌, ap, append-nil, arith, inl, inr, refl, subst, sym, ◌∙◌}
 use Rattle.pkread.specs.AtHand.{beyond}
 use Rattle.pkread.specs.ReaderCalls.{state}
-use Rattle.pkcheck.specs.Policies.{permit_of}
+use Rattle.pkmachine.specs.Policies.{permit_of}
 use Rattle.pkcheck.proofs.Wholes.InTurn.{pass_within, stops_within}
 use Rattle.pkcheck.proofs.session.Session.hear_at_hand.Goals as goal
 

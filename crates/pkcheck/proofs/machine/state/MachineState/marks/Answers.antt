@@ -1,8 +1,0 @@
--- What entries stand for has just the marks that the entries have.
-use Rattle.std.proofs.Common.{◌∙◌}
-use Rattle.pkcheck.proofs.ResolvedEntries.{marks_seen}
-use Rattle.pkcheck.proofs.machine.state.MachineState.marks.Goals as goal
-
-pub returns : goal.returns
-returns c = rw (← c.self.view_is)
-    (c.marks.ensures ∙ marks_seen c.self.inside.table.texts c.self.inside.stack)

@@ -1,0 +1,25 @@
+-- The code of a class is its number plus one, class by class.
+use denote.Enum.Declared.{tag_of}
+use Rattle.std.proofs.Common.{◌≡◌, ◌+◌, refl}
+use Rattle.pkmachine.specs.Private.Packed.{unpacked}
+use Rattle.pkmachine.specs.contracts.effect.Class.{the_type}
+use Rattle.pkmachine.specs.declared.effect.Class.{Class}
+use Rattle.pkmachine.specs.declared.effect.Class.TheVariants as class
+use Rattle.pkmachine.specs.declared.value.Value.TheVariants as value
+use Rattle.pkmachine.proofs.packed.PackedValue.made.Goals as goal
+
+counted : (c : Class) → unpacked (tag_of the_type c + 1) ≡ value.Made c
+counted class.None = refl
+counted class.Bool = refl
+counted class.Int = refl
+counted class.Float = refl
+counted class.Bytes = refl
+counted class.ByteArray = refl
+counted class.List = refl
+counted class.Tuple = refl
+counted class.Dict = refl
+counted class.Set = refl
+counted class.FrozenSet = refl
+
+pub returns : goal.returns
+returns c = counted c.args.class

@@ -1,0 +1,44 @@
+-- A move acts on entries as on what they stand for, and keeps their text numbers in the table.
+use Rattle.std.proofs.Common.{length}
+use Rattle.pkops.specs.Inst.{instruction_of}
+use Rattle.pkops.specs.Operands.{memo_number}
+use Rattle.pkmachine.specs.Private.Slots.{resolved}
+use Rattle.pkmachine.proofs.StepParts.Errs.{on_both, ok_on, err_on}
+use Rattle.pkmachine.proofs.ResolvedEntries.{moved_fault, moved_resolves, moved_seen}
+use Rattle.pkmachine.proofs.state.MachineState.apply.Goals as goal
+
+pub invariant_of-self : goal.invariant_of-self
+invariant_of-self c =
+    on_both _ _ _ c.apply.result
+    (λ e. moved_resolves c.self.inside.table.texts c.args.what
+    (memo_number (instruction_of c.args.inst.now))
+    (record { entries = c.self.inside.stack; memo = c.self.inside.memo }) c.self.invariant
+    (record { entries = c.apply.new.stack; memo = c.apply.new.memo }) e)
+    (λ r h. rw (h.0, h.1) c.self.invariant) c.apply.ensures.ok c.apply.ensures.err
+
+pub returns-clause-ok : goal.returns-clause-ok
+returns-clause-ok c =
+    rw (← c.self.view_is)
+    (ok_on _ _ c.apply.result (λ e. moved_seen c.self.inside.table.texts c.args.what
+    (memo_number (instruction_of c.args.inst.now)) (record
+    { entries = c.self.inside.stack; memo = c.self.inside.memo }) c.self.invariant
+    (record { entries = c.apply.new.stack; memo = c.apply.new.memo }) e) c.apply.ensures.ok)
+
+pub returns-clause-err : goal.returns-clause-err
+returns-clause-err c =
+    rw (← c.self.view_is)
+    (err_on _ _ c.apply.result
+    (λ r h. (
+      λ i.
+          record {
+            knowledge = resolved c.self.inside.table.texts
+                (record { entries = h.0 i; memo = h.1 i });
+            texts = length c.self.inside.table.texts;
+            imports = c.self.inside.table.asked;
+          },
+      moved_fault c.self.inside.table.texts c.args.what
+          (memo_number (instruction_of c.args.inst.now)) c.args.limits.now
+          (record { entries = c.self.inside.stack; memo = c.self.inside.memo }) r c.self.invariant
+          h.2,
+    ))
+    c.apply.ensures.err)

@@ -1,0 +1,83 @@
+-- A Python 2 string pushes any object, its bytes or its text, as the setting says.
+use Rattle.std.proofs.Common.{◌∙◌, None, Some, arith, inl, refl, sym, true, false}
+use Rattle.std.proofs.lemmas.Grind.{common_steps}
+use Rattle.std.proofs.lemmas.Result.{err_from_is_err_and}
+use Rattle.pkops.specs.Inst.{instruction_of}
+use Rattle.pkops.specs.declared.Reason.TheVariants as reason
+use Rattle.pkmachine.specs.declared.effect.Class.TheVariants as class
+use Rattle.pkmachine.specs.Effects.{Raises}
+use Rattle.pkmachine.specs.declared.effect.Gives.TheVariants.{Answers, Makes, MakesText}
+use Rattle.pkmachine.specs.Knowledge.{NotAscii}
+use Rattle.pkmachine.specs.Runs.{Plain, Text, text}
+use Rattle.pkmachine.proofs.StepParts.Errs.{err_on}
+use Rattle.pkmachine.proofs.StepParts.GoesOn.{errs_by}
+use Rattle.pkmachine.proofs.StepParts.PushedObjects.{not_pushed, old_ascii, old_bytes_pushed}
+use Rattle.pkmachine.proofs.StepParts.PushedObjects.{old_unknown}
+use Rattle.pkmachine.proofs.stepping.read_old_string.Goals as goal
+
+pub returns-in-Unknown : goal.returns-in-Unknown
+returns-in-Unknown c = record {
+  ok = λ p. grind (arith, common_steps);
+  room = grind (arith, common_steps);
+  texts = grind (arith, common_steps);
+  kept = c.answer.ensures.kept;
+  err = λ p. err_on _ _ c.answer.result
+      (λ r h. not_pushed c.args.config.now.old_strings p c.args.config.now.limits
+      (instruction_of c.args.inst.now) c.args.state.now.knowledge Answers None
+      (old_unknown c.args.config.now.old_strings (instruction_of c.args.inst.now)
+      c.requires.old.0 c.in-Unknown.is) refl r h) c.answer.ensures.err;
+}
+
+pub returns-in-Bytes : goal.returns-in-Bytes
+returns-in-Bytes c = record {
+  ok = λ p. grind (arith, common_steps);
+  room = grind (arith, common_steps);
+  texts = grind (arith, common_steps);
+  kept = c.make.ensures.kept;
+  err = λ p. err_on _ _ c.make.result
+      (λ r h. not_pushed c.args.config.now.old_strings p c.args.config.now.limits
+      (instruction_of c.args.inst.now) c.args.state.now.knowledge (Makes class.Bytes)
+      (Some (Plain class.Bytes)) (old_bytes_pushed c.args.config.now.old_strings
+      (instruction_of c.args.inst.now) c.requires.old.0 c.in-Bytes.is) refl r h)
+      c.make.ensures.err;
+}
+
+pub returns-then-is_ascii : goal.returns-then-is_ascii
+returns-then-is_ascii c = record {
+  ok = λ p. grind (arith, common_steps);
+  room = grind (arith, common_steps);
+  texts = grind (arith, common_steps);
+  kept = c.make_text.ensures.kept;
+  err = λ p. err_on _ _ c.make_text.result
+      (λ r h. not_pushed c.args.config.now.old_strings p c.args.config.now.limits
+      (instruction_of c.args.inst.now) c.args.state.now.knowledge MakesText
+      (Some (Text (text (instruction_of c.args.inst.now))))
+      (old_ascii c.args.config.now.old_strings (instruction_of c.args.inst.now) c.requires.old.0
+      c.in-Ascii.is true (sym c.if-is_ascii.true ∙ c.in_ok-is_ascii-in-Ascii.ensures)) refl r h)
+      c.make_text.ensures.err;
+}
+
+pub returns-else-is_ascii : goal.returns-else-is_ascii
+returns-else-is_ascii c = record {
+  ok = λ p. tt;
+  room = tt;
+  texts = tt;
+  kept = refl;
+  err = λ p. errs_by c.args.config.now.old_strings p c.args.config.now.limits
+      (instruction_of c.args.inst.now) c.args.state.now.knowledge Raises
+      (record { reason = reason.NotAscii; pair = None }) (old_ascii c.args.config.now.old_strings
+      (instruction_of c.args.inst.now) c.requires.old.0 c.in-Ascii.is false
+      (sym c.if-is_ascii.false ∙ c.in_ok-is_ascii-in-Ascii.ensures))
+      (inl (NotAscii, refl, refl, refl));
+}
+
+pub returns-in_err-is_ascii-in-Ascii : goal.returns-in_err-is_ascii-in-Ascii
+returns-in_err-is_ascii-in-Ascii c =
+    let q = err_from_is_err_and c.from_residual.result c.from_residual.ensures.1 in
+    rw (q.1, q.2) (record {
+      ok = λ p. tt;
+      room = tt;
+      texts = tt;
+      kept = refl;
+      err = λ p. grind (arith, common_steps);
+    })

@@ -1,0 +1,46 @@
+-- What an operation that may import a pair does to the stack and the import table. It doesn't
+-- depend on the memo.
+use Rattle.std.specs.Prelude.{ℕ, ◌≡◌, ◌≤◌, Bool, IfErr, IfOk, List, OnErr, OnOk, Option, Result}
+use Rattle.std.specs.Prelude.{length}
+use Rattle.std.specs.Borrow.{Bor}
+use Rattle.pkmachine.specs.declared.operate.StepError.{StepError}
+use Rattle.pkmachine.specs.declared.value.Value.{Value}
+use Rattle.pkmachine.specs.Effects.{Effect}
+use Rattle.pkmachine.specs.Knowledge.{Known, Knowledge, Policy, learn}
+use Rattle.pkmachine.specs.Private.Steps.{IsStepFault}
+use Rattle.pkmachine.specs.Private.StepErrors.{Proceeds, pair_of_error}
+use Rattle.pkimport.specs.Table.{Noted}
+use Rattle.pkmachine.specs.Private.Asking.{Spells}
+use Rattle.pkmachine.specs.Private.Slots.{Sees, seen}
+use Rattle.pkstack.specs.Shape.{Entry}
+use Rattle.pkops.specs.Limits.{Bounds}
+use Rattle.pkops.specs.Spelling.{Instruction}
+
+-- the entries of the stack, and the import table
+pub record StackAndTable : Type 0 where
+  pub entries : List (Entry Value)
+  pub table : Noted
+
+-- the entries refer only to texts in the table
+abbrev pub AreSeen : StackAndTable → Type 0
+AreSeen here = Sees here.table.texts here.entries (seen here.table.texts here.entries)
+
+-- what is known, with this memo
+abbrev pub known_with : List (ℕ × Known) → StackAndTable → Knowledge
+known_with memo here = record { entries = seen here.table.texts here.entries; memo = memo }
+
+-- what the operation answers, and what it does to the stack and the table, for every instruction
+-- that spells these names
+pub record HasImported (p : Policy) (limits : Bounds) (e : Effect)
+    (names : Option (Bor (List ℕ) × Bor (List ℕ))) (old new : StackAndTable)
+    (answer : Result Bool StepError) : Type 0 where
+  pub ok : (i : Instruction) → Spells names i → (memo : List (ℕ × Known))
+      → IfOk answer (Proceeds (learn p e i (known_with memo old)) (known_with memo new)
+      old.table.asked new.table.asked)
+  pub sees : OnOk answer (AreSeen new)
+  pub texts : new.table.texts ≡ old.table.texts
+  pub room : OnOk answer (length new.entries ≤ limits.stack)
+  pub kept : OnErr answer ((new.entries ≡ old.entries) × (new.table ≡ old.table))
+  pub err : (i : Instruction) → Spells names i → (memo : List (ℕ × Known))
+      → IfErr answer (λ d. IsStepFault p limits e i (known_with memo old) d.reason
+      (pair_of_error d))

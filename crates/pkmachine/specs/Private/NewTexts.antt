@@ -1,0 +1,22 @@
+-- What pushing a text does to the stack and the import table.
+use Rattle.std.specs.Prelude.{ℕ, ◌≡◌, ◌≤◌, ◌∷◌, IfErr, List, OnOk, Result, Some, length, suc}
+use Rattle.pkops.specs.declared.Reason.{Reason}
+use Rattle.pkstack.specs.Faults.{WantsRoom}
+use Rattle.pkmachine.specs.Private.NamedOperations.{AreSeen, StackAndTable}
+use Rattle.pkmachine.specs.Private.Slots.{seen}
+use Rattle.pkimport.specs.Table.{HasMoreTexts}
+use Rattle.pkmachine.specs.Runs.{Text}
+use Rattle.pkstack.specs.Shape.{Item}
+
+-- the text is appended to the table, and its number is on top of the stack
+pub record HasPushedText {A : Type 0} (limit : ℕ) (text : List ℕ) (old new : StackAndTable)
+    (answer : Result A Reason) : Type 0 where
+  pub ok : OnOk answer (seen new.table.texts new.entries
+      ≡ Item (Some (Text text)) ∷ seen old.table.texts old.entries)
+  pub sees : OnOk answer (AreSeen new)
+  pub grows : OnOk answer (HasMoreTexts old.table.texts new.table.texts)
+  pub count : OnOk answer (length new.table.texts ≡ suc (length old.table.texts))
+  pub asked : OnOk answer (new.table.asked ≡ old.table.asked)
+  pub room : OnOk answer (length new.entries ≤ limit)
+  pub err : IfErr answer (λ r. (new.entries ≡ old.entries) × (new.table ≡ old.table)
+      × WantsRoom limit (length old.entries) r)

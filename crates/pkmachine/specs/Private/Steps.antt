@@ -1,0 +1,58 @@
+-- What a step of the machine does to what it holds, and when it is refused.
+use Rattle.std.specs.Prelude.{◌≡◌, ◌⊎◌, IfErr, None, OnErr, OnOk, Option, Result, true}
+use Rattle.pkmachine.specs.declared.stepping.Moved.{Moved}
+use Rattle.pkmachine.specs.declared.stepping.Moved.TheVariants.{On}
+use Rattle.pkmachine.specs.declared.config.MachineConfig.{MachineConfig}
+use Rattle.pkmachine.specs.Effects.{Effect, effect_as, is_old_string, number_stored}
+use Rattle.pkmachine.specs.Knowledge.{Knowledge, Policy, Progress, Refusal, learn, within}
+use Rattle.pkimport.specs.Import.{Asked}
+use Rattle.pkmachine.specs.Private.StepErrors.{FitsLimits, GoesTo, IsRefusedFor, IsWantOfMemory}
+use Rattle.pkmachine.specs.Private.StepErrors.{MayWantMemory}
+use Rattle.pkmachine.specs.Private.Slots.{StateView}
+use Rattle.pkmachine.specs.Private.Spelled.{IsSpelled}
+use Rattle.pkstack.specs.Shape.{and_then}
+use Rattle.pkmachine.specs.View.{texts_after}
+use Rattle.pkops.specs.Limits.{Bounds}
+use Rattle.pkops.specs.Spelling.{Instruction}
+use Rattle.pkops.specs.declared.Reason.{Reason}
+
+-- the step of an instruction with this effect, with the limits checked
+abbrev pub learned : Policy → Bounds → Effect → Instruction → Knowledge → Result Progress Refusal
+learned p limits e i known = and_then (learn p e i known) (within limits (number_stored e i))
+
+-- the step leads from `old` to `new`, and reports this
+abbrev pub LeadsTo : Policy → Bounds → Effect → Instruction → StateView → StateView → Moved → Type 0
+LeadsTo p limits e i old new moved =
+    GoesTo e (learned p limits e i old.knowledge) new.knowledge old.imports new.imports moved
+
+-- the step is refused for this reason and with this pair, or because an allocation was refused
+abbrev pub IsStepFault : Policy → Bounds → Effect → Instruction → Knowledge → Reason
+    → Option Asked → Type 0
+IsStepFault p limits e i known r pair =
+    IsRefusedFor (learned p limits e i known) r pair
+    ⊎ (MayWantMemory e × IsWantOfMemory r pair)
+
+-- under this configuration
+module _ (config : MachineConfig) (p : Policy) (i : Instruction) where
+  -- like LeadsTo
+  abbrev pub Advances : StateView → StateView → Moved → Type 0
+  Advances old new moved =
+      LeadsTo p config.limits (effect_as config.old_strings i) i old new moved
+
+  -- like IsStepFault
+  abbrev pub IsAdvanceFault : Knowledge → Reason → Option Asked → Type 0
+  IsAdvanceFault known r pair =
+      IsStepFault p config.limits (effect_as config.old_strings i) i known r pair
+
+-- an old string, with an argument that spells one
+abbrev pub IsOldString : Instruction → Type 0
+IsOldString i = (is_old_string i.op ≡ true) × IsSpelled i.arg
+
+-- what the step of an old string answers, and what it does, whatever the policy
+pub record HasReadOldString {A : Type 0} (config : MachineConfig) (i : Instruction)
+    (old new : StateView) (answer : Result A Reason) : Type 0 where
+  pub ok : (p : Policy) → OnOk answer (Advances config p i old new On)
+  pub room : OnOk answer (FitsLimits config.limits new.knowledge)
+  pub texts : OnOk answer (new.texts ≡ texts_after (effect_as config.old_strings i) old.texts)
+  pub kept : OnErr answer (new ≡ old)
+  pub err : (p : Policy) → IfErr answer (λ r. IsAdvanceFault config p i old.knowledge r None)

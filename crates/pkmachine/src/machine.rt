@@ -1,0 +1,325 @@
+//! The symbolic machine, which knows what holds in every run and executes nothing.
+
+ghost use Rattle.std.specs.Prelude.{◌≡◌, option_map, is_some, IfOk, IfErr, IsTrue};
+ghost use Rattle.std.specs.Prelude.{[], None, false, true, OnErr, OnOk};
+ghost use Rattle.pkmachine.specs.declared.old_strings.OldStrings.TheVariants as OldStrings;
+ghost use Rattle.pkops.specs.Inst.{instruction_of};
+ghost use Rattle.pkops.specs.Admitted.{is_admitted};
+ghost use Rattle.pkops.specs.Spelling.{Instruction};
+ghost use Rattle.pkstack.specs.Shape.{marks_of};
+ghost use Rattle.pkmachine.specs.Runs.{State, start};
+ghost use Rattle.pkmachine.specs.Covers.{Covers};
+ghost use Rattle.pkmachine.specs.Knowledge.{nothing_known};
+ghost use Rattle.pkmachine.specs.Policies.{permit_of, policy_of};
+ghost use Rattle.pkimport.specs.Import.{asked_shown, pair_shown};
+ghost use Rattle.pkops.specs.Payloads.{is_passed};
+ghost use Rattle.pkmachine.specs.Step.{AnswersAsBefore, AppendsPermitted, FailsStep, GoesOn};
+ghost use Rattle.pkmachine.specs.Step.{IfFirst};
+ghost use Rattle.pkmachine.specs.Step.{IsNoFalseAlarm, IsStep, MayLackMemory, MeansInEachRun};
+ghost use Rattle.pkmachine.specs.Step.{PassesNoFault, RefusesForGood, UnknownIsNeeded};
+ghost use Rattle.pkmachine.specs.Texts.{texts_then};
+ghost use Rattle.pkmachine.specs.View.{fresh, has_off_list, moved_apart, restarted, stopped_by};
+
+use crate::config::MachineConfig;
+use crate::effects::class_passed;
+use crate::memo::Memo;
+use crate::old_strings::OldStrings;
+use crate::policy::{Permit, Policy};
+use crate::state::MachineState;
+use crate::stepping::{Moved, advance};
+use pkimport::{Asked, ImportList, ImportTable, Imports};
+use pklist::laws::bounded_names;
+use pkops::{Inst, Limits, Op, Reason};
+use std::alloc::{AllocError, Global};
+use std::marker::Model;
+use std::mem;
+
+/// A machine that follows the instructions of a pickle and knows what is true in every run of it,
+/// whatever its operations answer. It executes nothing. It knows nothing about objects that
+/// operations answer, the class of every other object, and the characters of a text.
+#[derive(Drop)]
+pub struct Machine {
+    config: MachineConfig,
+    state: MachineState,
+    refused: Option<Reason>,
+    off: Option<Asked>,
+    stopped: bool,
+}
+
+impl Model for Machine {
+    ghost use Rattle.pkmachine.specs.View.{View};
+
+    ghost Value = { View };
+
+    ghost use Rattle.std.specs.Prelude.{◌≡◌, None, is_some, option_map};
+    ghost use Rattle.pkimport.specs.Import.{asked_shown, pair_shown};
+    ghost use Rattle.pkmachine.specs.Private.StepErrors.{FitsLimits};
+    ghost use Rattle.pkmachine.specs.View.{has_off_list};
+
+    ghost view = { λ m. record {
+      knowledge = m.state.knowledge;
+      limits = m.config.limits;
+      old_strings = m.config.old_strings;
+      imports = m.state.imports;
+      off = option_map asked_shown m.off;
+      refused = m.refused;
+      stopped = m.stopped;
+      texts = m.state.texts;
+    } };
+
+    // A machine that has refused nothing is within its limits and holds no pair. One that has
+    // refused holds a pair exactly if the import was off the list.
+    ghost invariant = { λ m. (m.refused ≡ None → FitsLimits m.config.limits m.state.knowledge)
+        × (m.refused ≡ None → m.off ≡ None)
+        × (is_some (pair_shown (option_map asked_shown m.off)) ≡ has_off_list m.refused) };
+}
+
+impl Machine {
+    /// A machine at the first instruction, with an empty stack and memo. Python 2 strings may
+    /// decode to anything. Allocates nothing.
+    pub fn new(alloc: Global, limits: &Limits) -> Machine
+        ensures fresh { result ≡ fresh OldStrings.Unknown limits.now }
+        ensures covers { Covers result.knowledge start }
+    {
+        Machine::new_as(alloc, limits, OldStrings::Unknown)
+    }
+
+    /// Like `new`, for an unpickler that decodes Python 2 strings as `old_strings` says.
+    pub fn new_as(alloc: Global, limits: &Limits, old_strings: OldStrings) -> Machine
+        ensures fresh { result ≡ fresh old_strings limits.now }
+        ensures covers { Covers result.knowledge start }
+    {
+        Machine {
+            config: MachineConfig {
+                alloc,
+                limits: *limits,
+                old_strings,
+            },
+            state: MachineState::new(alloc),
+            refused: None,
+            off: None,
+            stopped: false,
+        }
+    }
+
+    /// Steps over an admitted instruction. Checks what it needs, lists its import, and updates what
+    /// is known. No step may follow STOP.
+    ///
+    /// # Errors
+    ///
+    /// The first of these faults that the instruction has: `MissingMark`, `MissingItem`,
+    /// `MissingMemo`, `OddItems`, `WrongClass`, `NotText`, `UnknownImport`, `ImportOffList`,
+    /// `LeftOver`, `NotAscii`, and `TooLarge` if the stack or the memo would exceed its limit.
+    /// `OutOfMemory` if an allocation was refused. A refused step changes neither the imports nor
+    /// the marks. Every later step returns the same reason.
+    #[inline(always)]
+    pub fn step(&mut self, inst: &Inst, policy: &Policy) -> Result<Moved, Reason>
+        requires admitted { is_admitted (instruction_of inst.now) ≡ true }
+        requires running { self.old.stopped ≡ false }
+        ensures again { AnswersAsBefore self.old self.new result }
+        ensures goes_on { IfOk result (GoesOn (policy_of policy.now) (instruction_of inst.now)
+            self.old self.new) }
+        // What an accepted step means in every covered run.
+        ensures covered { OnOk result (MeansInEachRun (policy_of policy.now)
+            (instruction_of inst.now) self.old self.new) }
+        ensures permitted { OnOk result (AppendsPermitted (policy_of policy.now)
+            self.old.imports self.new.imports) }
+        ensures no_fault { OnOk result (PassesNoFault (policy_of policy.now)
+            (instruction_of inst.now) self.old self.new) }
+        ensures unknown { OnOk result (UnknownIsNeeded (policy_of policy.now)
+            (instruction_of inst.now) self.old self.new) }
+        ensures texts { OnOk result (self.new.texts
+            ≡ texts_then self.old.old_strings (instruction_of inst.now).op self.old.texts) }
+        ensures fails { IfFirst self.old result (FailsStep (policy_of policy.now)
+            (instruction_of inst.now) self.old self.new) }
+        // No refusal is a false alarm.
+        ensures alarm { IfFirst self.old result (IsNoFalseAlarm (policy_of policy.now)
+            (instruction_of inst.now) self.old self.new) }
+        ensures memory { IfFirst self.old result (MayLackMemory (policy_of policy.now)
+            (instruction_of inst.now) self.old self.new) }
+        ensures kept { IfErr result (RefusesForGood self.old self.new) }
+    {
+        if let Some(reason) = self.refused {
+            return Err(reason);
+        }
+        self.step_on(inst, &Permit::By(*policy))
+    }
+
+    /// Steps as [`Machine::step`] does, but does not ask whether an earlier step was refused.
+    #[inline(always)]
+    pub fn step_on(&mut self, inst: &Inst, policy: &Permit) -> Result<Moved, Reason>
+        requires admitted { is_admitted (instruction_of inst.now) ≡ true }
+        requires running { self.old.stopped ≡ false }
+        requires well { self.old.refused ≡ None }
+        ensures step { IsStep (permit_of policy.now) (instruction_of inst.now) self.old self.new
+            result }
+        ensures texts { OnOk result (self.new.texts
+            ≡ texts_then self.old.old_strings (instruction_of inst.now).op self.old.texts) }
+    {
+        bounded_names();
+        match advance(&mut self.state, &self.config, inst, policy, &mut self.off) {
+            Ok(moved) => {
+                stop_after(moved, &mut self.stopped);
+                Ok(moved)
+            }
+            Err(reason) => {
+                self.refused = Some(reason);
+                Err(reason)
+            }
+        }
+    }
+
+    /// Steps over an instruction whose payload was skipped. Returns what [`Machine::step`] returns
+    /// for any instruction with this opcode. No step may follow STOP.
+    ///
+    /// # Errors
+    ///
+    /// `TooLarge` if the stack would exceed its limit; `OutOfMemory` if an allocation was refused.
+    pub fn step_passed(&mut self, op: Op, policy: &Policy) -> Result<Moved, Reason>
+        requires passed { IsTrue (is_passed op) }
+        requires running { self.old.stopped ≡ false }
+        ensures step { (instruction : Instruction) → instruction.op ≡ op
+            → IsStep (policy_of policy.now) instruction self.old self.new result }
+        ensures goes_on { IfOk result (λ moved. (moved ≡ Moved.On) × (self.new.stopped ≡ false)) }
+        ensures imports { self.new.imports ≡ self.old.imports }
+    {
+        self.step_passed_by(op, &Permit::By(*policy))
+    }
+
+    /// Steps as [`Machine::step_passed`] does, whatever permits the imports.
+    pub fn step_passed_by(&mut self, op: Op, policy: &Permit) -> Result<Moved, Reason>
+        requires passed { IsTrue (is_passed op) }
+        requires running { self.old.stopped ≡ false }
+        ensures step { (instruction : Instruction) → instruction.op ≡ op
+            → IsStep (permit_of policy.now) instruction self.old self.new result }
+        ensures goes_on { IfOk result (λ moved. (moved ≡ Moved.On) × (self.new.stopped ≡ false)) }
+        ensures imports { self.new.imports ≡ self.old.imports }
+    {
+        bounded_names();
+        if let Some(earlier) = self.refused {
+            return Err(earlier);
+        }
+        match self.state.make(&self.config.limits, class_passed(op)) {
+            Ok(()) => Ok(Moved::On),
+            Err(reason) => {
+                self.refused = Some(reason);
+                self.off = None;
+                Err(reason)
+            }
+        }
+    }
+
+    /// The limits of the check.
+    #[inline(always)]
+    pub fn limits(&self) -> &Limits
+        ensures { result.now ≡ self.now.limits }
+    {
+        &self.config.limits
+    }
+
+    /// The number of open marks, which is the same in every run.
+    pub fn marks(&self) -> usize
+        ensures known { result ≡ marks_of self.now.knowledge.entries }
+        ensures covered { (state : State) → Covers self.now.knowledge state
+            → result ≡ marks_of state.shape.entries }
+    {
+        self.state.marks()
+    }
+
+    /// The number of texts in the table. An accepted step raises it by one for UNICODE,
+    /// SHORT_BINUNICODE, BINUNICODE, BINUNICODE8, and a Python 2 string decoded as ASCII. Other
+    /// steps leave it unchanged.
+    pub fn texts(&self) -> usize
+        ensures { result ≡ self.now.texts }
+    {
+        self.state.texts()
+    }
+
+    /// The imports so far, in order.
+    pub fn imports(&self) -> ImportList<'_>
+        ensures { result ≡ self.now.imports }
+    {
+        self.state.imports()
+    }
+
+    /// The module and the name of the import that was off the list; `None` unless the reason was
+    /// `ImportOffList`.
+    pub fn off_list(&self) -> Option<(&str, &str)>
+        ensures pair { option_map (λ p. (p.0.now, p.1.now)) result ≡ pair_shown self.now.off }
+        ensures present { is_some result ≡ has_off_list self.now.refused }
+    {
+        match &self.off {
+            Some(
+                Asked::Pair {
+                    module: module_name,
+                    name,
+                },
+            ) => Some((module_name.as_str(), name.as_str())),
+            _ => None,
+        }
+    }
+
+    /// Continues at the first instruction of another pickle. With a fresh memo it moves the imports
+    /// to `apart`, after those already there, and forgets everything else. With a kept memo it only
+    /// clears the stack, in constant time, because the memo may refer to any text.
+    pub fn restart(&mut self, memo: Memo, apart: &mut ImportTable) -> Result<(), AllocError>
+        requires { self.old.refused ≡ None }
+        ensures next { OnOk result (self.new ≡ restarted memo self.old) }
+        ensures apart { OnOk result (apart.new.asked
+            ≡ moved_apart memo apart.old.asked self.old.imports) }
+        ensures kept { OnErr result (self.new ≡ self.old) }
+    {
+        match memo {
+            Memo::Fresh => {
+                self.state.list_in(self.config.alloc, apart)?;
+                self.state.clear();
+            }
+            Memo::Kept => self.state.clear_stack(),
+        }
+        self.stopped = false;
+        Ok(())
+    }
+
+    /// Moves the imports out, and forgets the stack, the memo and the texts.
+    pub fn take_imports(&mut self) -> Imports
+        ensures imports { result ≡ self.old.imports }
+        ensures off { self.new.off ≡ self.old.off }
+        ensures after { self.new ≡ record self.old {
+          knowledge = nothing_known;
+          imports = [];
+          texts = 0;
+        } }
+    {
+        self.state.take_imports(self.config.alloc)
+    }
+
+    /// Moves out the pair that was off the list. The machine then begins again.
+    pub fn take_off_list(&mut self) -> Option<Asked>
+        ensures off { option_map asked_shown result ≡ self.old.off }
+        ensures again { self.new ≡ fresh self.old.old_strings self.old.limits }
+    {
+        let config = self.config;
+        let fresh = Machine::new_as(config.alloc, &config.limits, config.old_strings);
+        let Machine { off, .. } = mem::replace(self, fresh);
+        off
+    }
+
+    /// Whether STOP was accepted.
+    pub fn stopped(&self) -> bool
+        ensures { result ≡ self.now.stopped }
+    {
+        self.stopped
+    }
+}
+
+/// Notes that the machine has stopped, if the step was a STOP. All other steps write nothing.
+#[inline(always)]
+fn stop_after(moved: Moved, stopped: &mut bool)
+    requires { stopped.old ≡ false }
+    ensures { stopped.new ≡ stopped_by moved }
+{
+    match moved {
+        Moved::Stopped => *stopped = true,
+        _ => {}
+    }
+}

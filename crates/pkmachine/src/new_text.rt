@@ -1,0 +1,199 @@
+//! Pushes the text that an instruction spells.
+ghost use Rattle.std.specs.Prelude.{◌≡◌, true};
+ghost use Rattle.std.specs.Str.{IsUtf8};
+ghost use Rattle.pkops.specs.Contents.{IsGood, rule_of};
+ghost use Rattle.pkops.specs.Inst.{instruction_of};
+ghost use Rattle.pkops.specs.Spelling.{Counted, Line, instruction};
+ghost use Rattle.pkops.specs.declared.Rule.TheVariants as rule;
+ghost use Rattle.pkmachine.specs.Private.NamedOperations.{AreSeen};
+ghost use Rattle.pkmachine.specs.Private.NewTexts.{HasPushedText};
+ghost use Rattle.pkmachine.specs.Private.Spelled.{IsSpelled};
+ghost use Rattle.pkmachine.specs.Runs.{text};
+
+use crate::config::MachineConfig;
+use crate::packed::PackedValue;
+use crate::spelled_text::text_spelled;
+use crate::stack::Stack;
+use pkimport::ImportTable;
+use pkops::laws::{plain_line_is_text, text_is_named};
+use pkops::{Arg, Inst, Limits, Op, Reason, is_ascii, spells_itself};
+
+/// Adds a text to the table, and pushes its number.
+#[inline(never)]
+fn name_text(
+    stack: &mut Stack,
+    table: &mut ImportTable,
+    limits: &Limits,
+    text: &[u8],
+) -> Result<(), Reason>
+    requires utf8 { IsUtf8 text.now }
+    requires sees { AreSeen (record { entries = stack.old; table = table.old }) }
+    ensures { HasPushedText limits.now.stack text.now
+        (record { entries = stack.old; table = table.old })
+        (record { entries = stack.new; table = table.new }) result }
+{
+    let place = stack.len();
+    let Some(value) = PackedValue::text(table.texts()) else {
+        return Err(Reason::OutOfMemory);
+    };
+    stack.push(limits, value)?;
+    let Ok(()) = table.add_text(text) else {
+        stack.truncate(place);
+        return Err(Reason::OutOfMemory);
+    };
+    Ok(())
+}
+
+/// Like `name_text`, for an opcode and its payload. A parameter of type `Inst` would force the
+/// instruction into memory in every step.
+#[inline(never)]
+fn name_payload(
+    stack: &mut Stack,
+    table: &mut ImportTable,
+    config: &MachineConfig,
+    op: Op,
+    payload: &[u8],
+) -> Result<(), Reason>
+    requires good { IsGood (instruction op (Counted payload.now)) }
+    requires sees { AreSeen (record { entries = stack.old; table = table.old }) }
+    ensures { HasPushedText config.now.limits.stack (text (instruction op (Counted payload.now)))
+        (record { entries = stack.old; table = table.old })
+        (record { entries = stack.new; table = table.new }) result }
+{
+    if is_old_text(op, payload) {
+        return name_text(stack, table, &config.limits, payload);
+    }
+    name_payload_slowly(stack, table, config, op, payload)
+}
+
+/// Whether the payload is a Python 2 string and the text itself.
+#[inline]
+fn is_old_text(op: Op, payload: &[u8]) -> bool
+    ensures utf8 { result ≡ true → IsUtf8 payload.now }
+    ensures text { result ≡ true → text (instruction op (Counted payload.now)) ≡ payload.now }
+{
+    match op {
+        Op::BinString => is_ascii(payload),
+        Op::ShortBinString => is_ascii(payload),
+        _ => false,
+    }
+}
+
+/// `name_payload` for any payload.
+#[inline(never)]
+fn name_payload_slowly(
+    stack: &mut Stack,
+    table: &mut ImportTable,
+    config: &MachineConfig,
+    op: Op,
+    payload: &[u8],
+) -> Result<(), Reason>
+    requires good { IsGood (instruction op (Counted payload.now)) }
+    requires sees { AreSeen (record { entries = stack.old; table = table.old }) }
+    ensures { HasPushedText config.now.limits.stack (text (instruction op (Counted payload.now)))
+        (record { entries = stack.old; table = table.old })
+        (record { entries = stack.new; table = table.new }) result }
+{
+    let inst = Inst::known(op, Arg::Counted(payload));
+    let text = text_spelled(config.alloc, &inst)?;
+    name_text(stack, table, &config.limits, text.as_bytes())
+}
+
+/// Like `name_text`, for an opcode and its line. See `name_payload`.
+#[inline(never)]
+fn name_line(
+    stack: &mut Stack,
+    table: &mut ImportTable,
+    config: &MachineConfig,
+    op: Op,
+    line: &[u8],
+) -> Result<(), Reason>
+    requires good { IsGood (instruction op (Line line.now)) }
+    requires sees { AreSeen (record { entries = stack.old; table = table.old }) }
+    ensures { HasPushedText config.now.limits.stack (text (instruction op (Line line.now)))
+        (record { entries = stack.old; table = table.old })
+        (record { entries = stack.new; table = table.new }) result }
+{
+    if is_text(op, line) {
+        return name_text(stack, table, &config.limits, line);
+    }
+    name_line_slowly(stack, table, config, op, line)
+}
+
+/// Whether the line is the text itself and needs no decoding.
+#[inline]
+fn is_text(op: Op, line: &[u8]) -> bool
+    ensures utf8 { result ≡ true → IsUtf8 line.now }
+    ensures text { result ≡ true → text (instruction op (Line line.now)) ≡ line.now }
+{
+    plain_line_is_text();
+    text_is_named();
+    match op {
+        Op::Unicode => spells_itself(line),
+        _ => false,
+    }
+}
+
+/// `name_line` for any line.
+#[inline(never)]
+fn name_line_slowly(
+    stack: &mut Stack,
+    table: &mut ImportTable,
+    config: &MachineConfig,
+    op: Op,
+    line: &[u8],
+) -> Result<(), Reason>
+    requires good { IsGood (instruction op (Line line.now)) }
+    requires sees { AreSeen (record { entries = stack.old; table = table.old }) }
+    ensures { HasPushedText config.now.limits.stack (text (instruction op (Line line.now)))
+        (record { entries = stack.old; table = table.old })
+        (record { entries = stack.new; table = table.new }) result }
+{
+    let inst = Inst::known(op, Arg::Line(line));
+    let text = text_spelled(config.alloc, &inst)?;
+    name_text(stack, table, &config.limits, text.as_bytes())
+}
+
+/// Adds the text of an instruction to the table, and pushes its number.
+#[inline(always)]
+pub fn make_text(
+    stack: &mut Stack,
+    table: &mut ImportTable,
+    config: &MachineConfig,
+    inst: &Inst<'_>,
+) -> Result<(), Reason>
+    requires spells { IsSpelled (instruction_of inst.now).arg }
+    requires sees { AreSeen (record { entries = stack.old; table = table.old }) }
+    ensures { HasPushedText config.now.limits.stack (text (instruction_of inst.now))
+        (record { entries = stack.old; table = table.old })
+        (record { entries = stack.new; table = table.new }) result }
+{
+    match inst.arg() {
+        Arg::Counted(payload) if holds_utf8(inst.op()) => {
+            name_text(stack, table, &config.limits, payload)?;
+            Ok(())
+        }
+        Arg::Counted(payload) => {
+            name_payload(stack, table, config, inst.op(), payload)?;
+            Ok(())
+        }
+        Arg::Line(line) => {
+            name_line(stack, table, config, inst.op(), line)?;
+            Ok(())
+        }
+        _ => unreachable!(),
+    }
+}
+
+/// Whether the payload of the opcode is UTF-8 and needs no decoding.
+#[inline]
+fn holds_utf8(op: Op) -> bool
+    ensures { result ≡ true → rule_of op ≡ rule.Utf8 }
+{
+    match op {
+        Op::ShortBinUnicode => true,
+        Op::BinUnicode => true,
+        Op::BinUnicode8 => true,
+        _ => false,
+    }
+}

@@ -1,0 +1,79 @@
+//! Checks the class of an operation's receiver.
+ghost use Rattle.std.specs.Prelude.{◌≡◌, ℕ, List, [], ◌∷◌, map};
+ghost use Rattle.pkmachine.specs.Private.Slots.{known};
+ghost use Rattle.pkmachine.specs.Runs.{Plain};
+ghost use Rattle.pkmachine.specs.Knowledge.{suits, wrong_first, wrong_receiver};
+
+use crate::effect::{Class, Gives, Wanted};
+use crate::stack::Operands;
+use crate::value::Value;
+
+#[inline(always)]
+fn is_list(class: Class) -> bool
+    ensures { result ≡ suits Wanted.WantsList (Plain class) }
+{
+    match class {
+        Class::List => true,
+        _ => false,
+    }
+}
+
+#[inline(always)]
+fn is_dict(class: Class) -> bool
+    ensures { result ≡ suits Wanted.WantsDict (Plain class) }
+{
+    match class {
+        Class::Dict => true,
+        _ => false,
+    }
+}
+
+/// Whether a receiver of this class is allowed. The variants are compared one by one, because a
+/// `match` on all of them compiles to a jump table, which is slower.
+#[inline(always)]
+pub fn class_suits(wanted: Wanted, class: Class) -> bool
+    ensures { result ≡ suits wanted (Plain class) }
+{
+    if let Wanted::WantsAny = wanted {
+        return true;
+    }
+    if let Wanted::WantsList = wanted {
+        return is_list(class);
+    }
+    if let Wanted::WantsDict = wanted {
+        return is_dict(class);
+    }
+    match class {
+        Class::Set => true,
+        _ => false,
+    }
+}
+
+/// Whether a value is known to have the wrong class.
+#[inline(always)]
+pub fn is_wrong(wanted: Wanted, value: Value) -> bool
+    ensures { (ts : List (List ℕ)) → result ≡ wrong_first wanted (known ts value ∷ []) }
+{
+    if let Wanted::WantsAny = wanted {
+        return false;
+    }
+    match value {
+        Value::Unknown => false,
+        Value::Made(class) => !class_suits(wanted, class),
+        Value::Text(_) => true,
+    }
+}
+
+/// Whether the receiver of an operation is known to have the wrong class.
+#[inline(always)]
+pub fn receiver_fault(gives: Gives, operands: &Operands<'_>) -> bool
+    ensures { (ts : List (List ℕ)) → result ≡ wrong_receiver gives (map (known ts) operands.now) }
+{
+    let Gives::Leaves(wanted) = gives else {
+        return false;
+    };
+    match operands.first() {
+        Some(value) => is_wrong(wanted, value.value()),
+        None => false,
+    }
+}

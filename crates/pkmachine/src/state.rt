@@ -1,0 +1,261 @@
+//! What is known before an instruction: the stack, the memo, the texts that both refer to by
+//! number, and the imports so far.
+ghost use Rattle.std.specs.Prelude.{◌≡◌, ◌≤◌, ◌++◌, [], length, IfOk, IfErr};
+ghost use Rattle.std.specs.Prelude.{None, OnErr, OnOk, Some, false, suc};
+ghost use Rattle.pkmachine.specs.Effects.{effect_of};
+ghost use Rattle.pkmachine.specs.Private.Actions.{IsOperation, IsUnnamed};
+ghost use Rattle.pkmachine.specs.Private.Steps.{IsStepFault};
+ghost use Rattle.pkmachine.specs.Private.StepErrors.{IsStopFault, Proceeds};
+ghost use Rattle.pkstack.specs.Faults.{IsFaultOf, WantsRoom};
+ghost use Rattle.pkmachine.specs.Private.StepErrors.{pair_of_error, with_item, with_made};
+ghost use Rattle.pkmachine.specs.Private.Spelled.{IsSpelled};
+ghost use Rattle.pkmachine.specs.Runs.{Text, text};
+ghost use Rattle.pkmachine.specs.Policies.{permit_of};
+ghost use Rattle.pkmachine.specs.Knowledge.{learn, stop_learned, nothing_known};
+ghost use Rattle.pkmachine.specs.Knowledge.{Policy as Pairs};
+ghost use Rattle.pkops.specs.Spelling.{Instruction};
+ghost use Rattle.pkstack.specs.Shape.{marks_of, moved, number_moved, top};
+ghost use Rattle.pkops.specs.Inst.{instruction_of};
+ghost use Rattle.pkops.specs.Operands.{memo_number};
+
+use crate::config::MachineConfig;
+use crate::effect::Class;
+use crate::new_text::make_text;
+use crate::operate::{Spelled, StepError, lines_of, operate_named, operate_unnamed};
+use crate::packed::PackedValue;
+use crate::policy::Permit;
+use crate::stack::{MemoTable, Stack};
+use pkimport::{ImportList, ImportTable, Imports};
+use pkops::{Inst, Limits, Op, Reason};
+use pkstack::{Move, apply};
+use std::alloc::{AllocError, Global};
+use std::marker::Model;
+use std::mem;
+
+/// What is known about the stack and the memo, and the imports so far.
+#[derive(Drop)]
+pub struct MachineState {
+    stack: Stack,
+    memo: MemoTable,
+    table: ImportTable,
+}
+
+impl Model for MachineState {
+    ghost use Rattle.std.specs.Prelude.{length};
+    ghost use Rattle.pkmachine.specs.Private.Slots.{StateView, Resolves, resolved};
+
+    ghost Value = { StateView };
+
+    ghost view = { λ h. record {
+      knowledge = resolved h.table.texts (record { entries = h.stack; memo = h.memo });
+      texts = length h.table.texts;
+      imports = h.table.asked;
+    } };
+
+    ghost invariant = { λ h.
+        Resolves h.table.texts (record { entries = h.stack; memo = h.memo }) };
+}
+
+impl MachineState {
+    /// An empty stack and memo, with no imports. Allocates nothing.
+    pub fn new(alloc: Global) -> MachineState
+        ensures { result ≡ record { knowledge = nothing_known; texts = 0; imports = [] } }
+    {
+        MachineState {
+            stack: Stack::new(alloc),
+            memo: MemoTable::new(alloc, PackedValue::unknown()),
+            table: ImportTable::new(alloc),
+        }
+    }
+
+    /// Removes everything, and keeps the memory.
+    pub fn clear(&mut self)
+        ensures { self.new ≡ record { knowledge = nothing_known; texts = 0; imports = [] } }
+    {
+        self.stack.clear();
+        self.memo.clear();
+        self.table.clear();
+    }
+
+    /// Clears the stack, and keeps the rest.
+    pub fn clear_stack(&mut self)
+        ensures { self.new ≡ record {
+          knowledge = record { entries = []; memo = self.old.knowledge.memo };
+          texts = self.old.texts;
+          imports = self.old.imports;
+        } }
+    {
+        self.stack.clear();
+    }
+
+    /// The number of open marks.
+    pub fn marks(&self) -> usize
+        ensures { result ≡ marks_of self.now.knowledge.entries }
+    {
+        self.stack.marks()
+    }
+
+    /// The number of texts in the table.
+    pub fn texts(&self) -> usize
+        ensures { result ≡ self.now.texts }
+    {
+        self.table.texts()
+    }
+
+    /// The imports, borrowed.
+    pub fn imports(&self) -> ImportList<'_>
+        ensures { result ≡ self.now.imports }
+    {
+        self.table.imports()
+    }
+
+    /// Appends the imports to a table.
+    pub fn list_in(&self, alloc: Global, imports: &mut ImportTable) -> Result<(), AllocError>
+        ensures { OnOk result (imports.new.asked ≡ imports.old.asked ++ self.now.imports) }
+    {
+        imports.append(alloc, &self.table)
+    }
+
+    /// Moves the imports out, and forgets the rest.
+    pub fn take_imports(&mut self, alloc: Global) -> Imports
+        ensures imports { result ≡ self.old.imports }
+        ensures after { self.new ≡ record { knowledge = nothing_known; texts = 0; imports = [] } }
+    {
+        self.stack.clear();
+        self.memo.clear();
+        Imports::from_table(mem::replace(&mut self.table, ImportTable::new(alloc)))
+    }
+
+    /// Pushes a new object of this class.
+    #[inline(always)]
+    pub fn make(&mut self, limits: &Limits, class: Class) -> Result<(), Reason>
+        ensures ok { OnOk result (self.new.knowledge ≡ with_made class self.old.knowledge) }
+        ensures room { OnOk result (length self.new.knowledge.entries ≤ limits.now.stack) }
+        ensures texts { self.new.texts ≡ self.old.texts }
+        ensures imports { self.new.imports ≡ self.old.imports }
+        ensures kept { OnErr result (self.new ≡ self.old) }
+        ensures err { IfErr result (WantsRoom limits.now.stack
+            (length self.old.knowledge.entries)) }
+    {
+        self.stack.push(limits, PackedValue::made(class))
+    }
+
+    /// Pushes an object about which nothing is known.
+    #[inline]
+    pub fn answer(&mut self, limits: &Limits) -> Result<(), Reason>
+        ensures ok { OnOk result (self.new.knowledge ≡ with_item None self.old.knowledge) }
+        ensures room { OnOk result (length self.new.knowledge.entries ≤ limits.now.stack) }
+        ensures texts { self.new.texts ≡ self.old.texts }
+        ensures imports { self.new.imports ≡ self.old.imports }
+        ensures kept { OnErr result (self.new ≡ self.old) }
+        ensures err { IfErr result (WantsRoom limits.now.stack
+            (length self.old.knowledge.entries)) }
+    {
+        self.stack.push(limits, PackedValue::unknown())
+    }
+
+    /// Pushes the text that an instruction spells.
+    #[inline(always)]
+    pub fn make_text(&mut self, config: &MachineConfig, inst: &Inst<'_>) -> Result<(), Reason>
+        requires spells { IsSpelled (instruction_of inst.now).arg }
+        ensures ok { OnOk result (self.new.knowledge
+            ≡ with_item (Some (Text (text (instruction_of inst.now)))) self.old.knowledge) }
+        ensures room { OnOk result (length self.new.knowledge.entries ≤ config.now.limits.stack) }
+        ensures texts { OnOk result (self.new.texts ≡ suc self.old.texts) }
+        ensures imports { OnOk result (self.new.imports ≡ self.old.imports) }
+        ensures kept { OnErr result (self.new ≡ self.old) }
+        ensures err { IfErr result (WantsRoom config.now.limits.stack
+            (length self.old.knowledge.entries)) }
+    {
+        make_text(&mut self.stack, &mut self.table, config, inst)
+    }
+
+    /// Applies a move to the stack and the memo.
+    #[inline(always)]
+    pub fn apply(&mut self, limits: &Limits, what: Move, inst: &Inst<'_>) -> Result<(), Reason>
+        requires stack { length self.old.knowledge.entries ≤ limits.now.stack }
+        requires memo { length self.old.knowledge.memo ≤ limits.now.memo }
+        ensures ok { OnOk result (moved what (memo_number (instruction_of inst.now))
+            self.old.knowledge ≡ Ok self.new.knowledge) }
+        ensures room { OnOk result ((length self.new.knowledge.entries ≤ limits.now.stack)
+            × (length self.new.knowledge.memo ≤ limits.now.memo)) }
+        ensures number { OnOk result (number_moved what (memo_number (instruction_of inst.now))
+            ≤ limits.now.numbers) }
+        ensures texts { self.new.texts ≡ self.old.texts }
+        ensures imports { self.new.imports ≡ self.old.imports }
+        ensures err { IfErr result (λ r. (self.new ≡ self.old)
+            × IsFaultOf what limits.now (memo_number (instruction_of inst.now))
+            (moved what (memo_number (instruction_of inst.now)) self.old.knowledge) r) }
+    {
+        apply(&mut self.stack, &mut self.memo, limits, what, inst)
+    }
+
+    /// Applies the operation of an opcode that imports nothing.
+    #[inline(always)]
+    pub fn operate(&mut self, limits: &Limits, op: Op) -> Result<(), Reason>
+        requires within { length self.old.knowledge.entries ≤ limits.now.stack }
+        requires unnamed { IsUnnamed (effect_of op) }
+        ensures ok { (p : Pairs) (i : Instruction) → OnOk result (Proceeds
+            (learn p (effect_of op) i self.old.knowledge) self.new.knowledge
+            self.old.imports self.new.imports false) }
+        ensures room { OnOk result ((length self.new.knowledge.entries ≤ limits.now.stack)
+            × (length self.new.knowledge.memo ≡ length self.old.knowledge.memo)) }
+        ensures texts { self.new.texts ≡ self.old.texts }
+        ensures kept { OnErr result (self.new ≡ self.old) }
+        ensures err { (p : Pairs) (i : Instruction) → IfErr result (λ r. IsStepFault p limits.now
+            (effect_of op) i self.old.knowledge r None) }
+    {
+        operate_unnamed(&mut self.stack, limits, op)?;
+        Ok(())
+    }
+
+    /// Applies the operation of an instruction that imports a pair. Returns whether an import was
+    /// listed.
+    #[inline(always)]
+    pub fn operate_named(
+        &mut self,
+        config: &MachineConfig,
+        inst: &Inst,
+        policy: &Permit,
+    ) -> Result<bool, StepError>
+        requires within { length self.old.knowledge.entries ≤ config.now.limits.stack }
+        requires operation { IsOperation (effect_of (instruction_of inst.now).op) }
+        ensures ok { IfOk result (Proceeds (learn (permit_of policy.now)
+            (effect_of (instruction_of inst.now).op) (instruction_of inst.now) self.old.knowledge)
+            self.new.knowledge self.old.imports self.new.imports) }
+        ensures room { OnOk result ((length self.new.knowledge.entries ≤ config.now.limits.stack)
+            × (length self.new.knowledge.memo ≡ length self.old.knowledge.memo)) }
+        ensures texts { self.new.texts ≡ self.old.texts }
+        ensures kept { OnErr result (self.new ≡ self.old) }
+        ensures err { IfErr result (λ d. IsStepFault (permit_of policy.now) config.now.limits
+            (effect_of (instruction_of inst.now).op) (instruction_of inst.now) self.old.knowledge
+            d.reason (pair_of_error d)) }
+    {
+        let spelled = Spelled {
+            op: inst.op(),
+            lines: lines_of(inst),
+        };
+        operate_named(&mut self.stack, &mut self.table, config, &spelled, policy)
+    }
+
+    /// Pops the result. Refuses with `LeftOver` if anything else is on the stack.
+    pub fn finish(&mut self) -> Result<(), Reason>
+        ensures ok { OnOk result (stop_learned self.old.knowledge.memo
+            (top self.old.knowledge.entries)
+            ≡ Ok (record { after = self.new.knowledge; import = None })) }
+        ensures texts { self.new.texts ≡ self.old.texts }
+        ensures imports { self.new.imports ≡ self.old.imports }
+        ensures room { (length self.new.knowledge.entries ≤ length self.old.knowledge.entries)
+            × (self.new.knowledge.memo ≡ self.old.knowledge.memo) }
+        ensures kept { OnErr result (self.new ≡ self.old) }
+        ensures err { IfErr result (λ r. IsStopFault (stop_learned self.old.knowledge.memo
+            (top self.old.knowledge.entries)) r) }
+    {
+        self.stack.top()?;
+        if self.stack.len() > 1 {
+            return Err(Reason::LeftOver);
+        }
+        self.stack.truncate(0);
+        Ok(())
+    }
+}

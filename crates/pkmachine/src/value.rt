@@ -1,0 +1,50 @@
+//! What is known about an object.
+ghost use Rattle.std.specs.Prelude.{◌≡◌, ℕ, List};
+ghost use Rattle.pkmachine.specs.Knowledge.{known_given};
+ghost use Rattle.pkmachine.specs.Private.StepErrors.{IgnoresArgument};
+ghost use Rattle.pkmachine.specs.Private.Slots.{StandsIf};
+ghost use Rattle.pkmachine.specs.Runs.{int_or_bool};
+ghost use Rattle.pkops.specs.Inst.{instruction_of};
+ghost use Rattle.pkops.specs.Spelling.{Instruction};
+
+use crate::effect::{Class, Gives};
+use crate::packed::PackedValue;
+use pkops::Inst;
+
+/// What is known about an object.
+#[derive(Clone, Copy)]
+pub enum Value {
+    /// Nothing, because an operation answered it.
+    Unknown,
+    /// Its class, because the machine made it.
+    Made(Class),
+    /// It is the text with this number in the table.
+    Text(u32),
+}
+
+/// The class of the object that INT makes.
+#[inline(always)]
+pub fn int_or_bool(inst: &Inst) -> Class
+    ensures { result ≡ int_or_bool (instruction_of inst.now) }
+{
+    if inst.names_bool() {
+        Class::Bool
+    } else {
+        Class::Int
+    }
+}
+
+/// What is known about the result of an operation; `None` if it leaves the receiver.
+#[inline(always)]
+pub fn value_of(gives: Gives) -> Option<PackedValue>
+    requires { IgnoresArgument gives }
+    ensures { (ts : List (List ℕ)) (i : Instruction) → StandsIf ts result (known_given gives i) }
+{
+    match gives {
+        Gives::Leaves(_) => None,
+        Gives::Makes(class) => Some(PackedValue::made(class)),
+        Gives::MayMake(class) => Some(PackedValue::made(class)),
+        Gives::Answers => Some(PackedValue::unknown()),
+        _ => unreachable!(),
+    }
+}
