@@ -4,4 +4,5 @@ pub mod Judgement
 pub mod WholeReports
 pub mod Lent
 pub mod NextPickle
+pub mod FirstPickle
 pub mod Turns

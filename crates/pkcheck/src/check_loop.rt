@@ -4,8 +4,10 @@
 //! `passed` to `counted` for it, so a pickle that `check` accepts may be `TooLarge` for a listing.
 
 ghost use Rattle.std.specs.Prelude.{◌≡◌, IfErr, IfOk, MatchResult, true};
+ghost use Rattle.pkread.specs.ReaderCalls.{KeepsSource, begun, source_of, state};
 ghost use Rattle.pkread.specs.Rows.{sight};
 ghost use Rattle.pkmachine.specs.Policies.{permit_of};
+ghost use Rattle.pkcheck.specs.Private.FirstPickle.{HasJudgedNone, HasNoPickle, loading_of};
 ghost use Rattle.pkcheck.specs.ThreeEnds.{AnswersTold, CountsTold, StopsTold};
 
 use crate::audience::Audience;
@@ -87,30 +89,64 @@ pub fn check_pickles<R: Source, A: Audience>(
         (CountsTold (R.failures source.old) (R.failures source.new))
         (λ _. R.failures source.new ≡ R.failures source.old) }
 {
+    let mut reader = Reader::new(alloc, source, &terms.limits);
+    let mut session = Session::new(alloc, &terms.limits, terms.loading.old_strings);
+    let mut row = PickleRow::new(alloc, terms.loading.memo, terms.extent);
+    hear_pickles(&mut session, &mut reader, &mut row, policy, audience)
+}
+
+/// The loop of `check_pickles`. It owns nothing that must be dropped: each exit of a loop that does
+/// has stack slots of its own for that, which the compiler clears at the start of every check.
+#[inline(always)]
+fn hear_pickles<R: Source, A: Audience>(
+    session: &mut Session,
+    reader: &mut Reader<'_, R>,
+    row: &mut PickleRow,
+    policy: &Permit<'_>,
+    audience: &mut A,
+) -> Result<Result<YesAll, RefusedPickle>, A::Error>
+    requires one { A.holding ≡ true
+        → session.old.machine.limits.passed ≡ session.old.machine.limits.counted }
+    requires session { HasJudgedNone session.old }
+    requires row { HasNoPickle row.old }
+    requires reader { state R.left R.failures reader.old
+        ≡ begun (sight R.left R.failures (source_of reader.old)) session.old.machine.limits }
+    ensures source { KeepsSource reader.old reader.new }
+    ensures answer { IfOk result (AnswersTold A.holding (loading_of row.old session.old)
+        (permit_of policy.now) session.old.machine.limits
+        (sight R.left R.failures (source_of reader.old))
+        (sight R.left R.failures (source_of reader.new)) A.hears audience.old audience.new
+        row.old.extent) }
+    ensures stopped { IfErr result (StopsTold A.holding (loading_of row.old session.old)
+        (permit_of policy.now) session.old.machine.limits
+        (sight R.left R.failures (source_of reader.old))
+        (sight R.left R.failures (source_of reader.new)) A.hears A.fails audience.old
+        audience.new row.old.extent) }
+    ensures count { MatchResult result
+        (CountsTold (R.failures (source_of reader.old)) (R.failures (source_of reader.new)))
+        (λ _. R.failures (source_of reader.new) ≡ R.failures (source_of reader.old)) }
+{
     nexts();
     heads();
     frames();
     rows();
     steps();
     bounded_names();
-    let mut reader = Reader::new(alloc, source, &terms.limits);
-    let mut session = Session::new(alloc, &terms.limits, terms.loading.old_strings);
-    let mut row = PickleRow::new(alloc, terms.loading.memo);
     'instructions: loop {
-        if let Err(refusal) = session.hear_at_hand(&mut reader, policy, audience)? {
-            return Ok(Err(row.refused(&mut session, refusal)));
+        if let Err(refusal) = session.hear_at_hand(reader, policy, audience)? {
+            return Ok(Err(row.refused(session, refusal)));
         }
-        if let Err(turned) = session.hear_next(&mut reader, policy, audience)? {
-            return Ok(Err(row.refused(&mut session, turned)));
+        if let Err(turned) = session.hear_next(reader, policy, audience)? {
+            return Ok(Err(row.refused(session, turned)));
         }
         if reader.ended() {
             let taken = reader.taken();
-            match terms.extent {
-                Extent::OnePickle => return Ok(Ok(row.alone(taken, &mut session))),
-                Extent::ToTheEnd => match row.next(&mut reader, &mut session) {
-                    Err(refusal) => return Ok(Err(row.refused(&mut session, refusal))),
+            match row.extent {
+                Extent::OnePickle => return Ok(Ok(row.alone(taken, session))),
+                Extent::ToTheEnd => match row.next(reader, session) {
+                    Err(refusal) => return Ok(Err(row.refused(session, refusal))),
                     Ok(true) => {}
-                    Ok(false) => return Ok(Ok(row.accepted(taken, &mut session))),
+                    Ok(false) => return Ok(Ok(row.accepted(taken, session))),
                 },
             }
         }

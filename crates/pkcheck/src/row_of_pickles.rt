@@ -20,7 +20,7 @@ use pkops::{Limits, Reason, Refusal};
 use pkread::{Reader, Source};
 use std::alloc::Global;
 use std::error::Error;
-use std::fmt;
+use std::{fmt, mem};
 
 /// An accepted row of pickles.
 #[derive(Debug, Drop, PartialEq, Eq)]
@@ -121,7 +121,10 @@ pub fn check_all_loaded<R: Source>(
 /// The pickles of a row so far.
 #[derive(Drop)]
 pub(crate) struct PickleRow {
+    alloc: Global,
     memo: Memo,
+    /// Where the check ends.
+    pub extent: Extent,
     pickles: u64,
     /// The imports of pickles that the machine forgot.
     apart: ImportTable,
@@ -131,16 +134,20 @@ pub(crate) struct PickleRow {
 
 impl PickleRow {
     /// A row without a pickle.
-    pub fn new(alloc: Global, memo: Memo) -> PickleRow
+    pub fn new(alloc: Global, memo: Memo, extent: Extent) -> PickleRow
         ensures { result ≡ record {
+          alloc = alloc;
           memo = memo;
+          extent = extent;
           pickles = 0;
           apart = record { texts = []; asked = [] };
           earlier = 0;
         } }
     {
         PickleRow {
+            alloc,
             memo,
+            extent,
             pickles: 0,
             apart: ImportTable::new(alloc),
             earlier: 0,
@@ -176,38 +183,33 @@ impl PickleRow {
         reader.again()
     }
 
-    /// The accepted row, in which this many bytes were taken.
-    pub fn accepted(self, taken: u64, session: &mut Session) -> YesAll
+    /// The accepted row, in which this many bytes were taken. This ends the row and the session. By
+    /// value, as in `refuse` of `Session`, they would need stack slots.
+    pub fn accepted(&mut self, taken: u64, session: &mut Session) -> YesAll
         ensures taken { result.taken ≡ taken }
-        ensures pickles { result.pickles ≡ self.pickles }
+        ensures pickles { result.pickles ≡ self.old.pickles }
         ensures imports { result.imports
-            ≡ listed_in self.memo self.apart.asked session.old.machine.imports }
+            ≡ listed_in self.old.memo self.old.apart.asked session.old.machine.imports }
     {
-        let PickleRow {
-            memo,
-            pickles,
-            apart,
-            ..
-        } = self;
-        let imports = match memo {
-            Memo::Fresh => Imports::from_table(apart),
+        let imports = match self.memo {
+            Memo::Fresh => {
+                Imports::from_table(mem::replace(&mut self.apart, ImportTable::new(self.alloc)))
+            }
             Memo::Kept => session.take_imports(),
         };
         YesAll {
             taken,
-            pickles,
+            pickles: self.pickles,
             imports,
         }
     }
 
     /// The acceptance of a pickle that is alone and was not counted, of so many bytes.
-    pub fn alone(self, taken: u64, session: &mut Session) -> YesAll
+    pub fn alone(&self, taken: u64, session: &mut Session) -> YesAll
         ensures taken { result.taken ≡ taken }
         ensures pickles { result.pickles ≡ 1 }
         ensures imports { result.imports ≡ session.old.machine.imports }
     {
-        let PickleRow { apart, .. } = self;
-        drop(apart);
         YesAll {
             taken,
             pickles: 1,
@@ -216,10 +218,10 @@ impl PickleRow {
     }
 
     /// The refusal of the pickle behind those so far.
-    pub fn refused(self, session: &mut Session, refusal: Refusal) -> RefusedPickle
-        ensures pickle { result.pickle ≡ self.pickles }
+    pub fn refused(&self, session: &mut Session, refusal: Refusal) -> RefusedPickle
+        ensures pickle { result.pickle ≡ self.now.pickles }
         ensures no { IsNoAt refusal.at refusal.reason session.old.machine.off result.no }
-        ensures imports { result.imports ≡ drop self.earlier session.old.machine.imports }
+        ensures imports { result.imports ≡ drop self.now.earlier session.old.machine.imports }
     {
         let NoWithImports { no, imports } = session.refuse_with_imports(
             refusal.at,

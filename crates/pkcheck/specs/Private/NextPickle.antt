@@ -28,6 +28,7 @@ listed_in Kept apart own = own
 pub record IsCounted (old : PickleRow) (imports : List Asked) (new : PickleRow)
     (answer : Result Bool Refusal) : Type 0 where
   pub memo : new.memo ≡ old.memo
+  pub extent : new.extent ≡ old.extent
   pub number : new.pickles ≡ old.pickles + 1
   pub apart : OnOk answer (new.apart.asked ≡ moved_apart old.memo old.apart.asked imports)
 
