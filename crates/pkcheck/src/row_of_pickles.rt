@@ -195,7 +195,7 @@ impl PickleRow {
             Memo::Fresh => {
                 Imports::from_table(mem::replace(&mut self.apart, ImportTable::new(self.alloc)))
             }
-            Memo::Kept => session.take_imports(),
+            Memo::Kept => session.machine.take_imports(),
         };
         YesAll {
             taken,
@@ -213,7 +213,7 @@ impl PickleRow {
         YesAll {
             taken,
             pickles: 1,
-            imports: session.take_imports(),
+            imports: session.machine.take_imports(),
         }
     }
 

@@ -36,7 +36,7 @@ use std::marker::Model;
 /// machine stays unchanged.
 pub(crate) struct Session {
     frames: Frames,
-    machine: Machine,
+    pub machine: Machine,
 }
 
 /// Written by hand: a loop that owns a session then drops it in one step at each of its exits.
@@ -373,13 +373,6 @@ impl Session {
         ensures { result ≡ length self.now.machine.imports }
     {
         self.machine.imports().len()
-    }
-
-    /// The imports. This ends the session. See `refuse`.
-    pub fn take_imports(&mut self) -> Imports
-        ensures { result ≡ self.old.machine.imports }
-    {
-        self.machine.take_imports()
     }
 }
 

@@ -6,7 +6,7 @@ ghost use Rattle.pkops.specs.Inst.{instruction_of};
 ghost use Rattle.pkops.specs.Spelling.{Counted, Line, instruction};
 ghost use Rattle.pkops.specs.declared.Rule.TheVariants as rule;
 ghost use Rattle.pkmachine.specs.Private.NamedOperations.{AreSeen};
-ghost use Rattle.pkmachine.specs.Private.NewTexts.{HasPushedText};
+ghost use Rattle.pkmachine.specs.Private.NewTexts.{HasPushedText, with_reason};
 ghost use Rattle.pkmachine.specs.Private.Spelled.{IsSpelled};
 ghost use Rattle.pkmachine.specs.Runs.{text};
 
@@ -18,6 +18,31 @@ use pkimport::ImportTable;
 use pkops::laws::{plain_line_is_text, text_is_named};
 use pkops::{Arg, Inst, Limits, Op, Reason, is_ascii, spells_itself};
 
+/// Why a text isn't pushed. A `Reason` would need a stack slot, which the compiler clears for each
+/// text.
+#[derive(Clone, Copy, Debug, Drop)]
+enum NotPushed {
+    /// The stack is as high as it may be.
+    Full,
+    /// An allocation was refused.
+    OutOfMemory,
+}
+
+impl From<NotPushed> for Reason {
+    ghost use Rattle.std.specs.Prelude.{◌≡◌};
+    ghost use Rattle.pkmachine.specs.Private.NewTexts.{reason_for};
+
+    ghost from_gives = { λ why reason. reason ≡ reason_for why };
+
+    #[inline]
+    fn from(why: NotPushed) -> Reason {
+        match why {
+            NotPushed::Full => Reason::TooLarge,
+            NotPushed::OutOfMemory => Reason::OutOfMemory,
+        }
+    }
+}
+
 /// Adds a text to the table, and pushes its number.
 #[inline(never)]
 fn name_text(
@@ -25,21 +50,25 @@ fn name_text(
     table: &mut ImportTable,
     limits: &Limits,
     text: &[u8],
-) -> Result<(), Reason>
+) -> Result<(), NotPushed>
     requires utf8 { IsUtf8 text.now }
     requires sees { AreSeen (record { entries = stack.old; table = table.old }) }
     ensures { HasPushedText limits.now.stack text.now
         (record { entries = stack.old; table = table.old })
-        (record { entries = stack.new; table = table.new }) result }
+        (record { entries = stack.new; table = table.new }) (with_reason result) }
 {
     let place = stack.len();
     let Some(value) = PackedValue::text(table.texts()) else {
-        return Err(Reason::OutOfMemory);
+        return Err(NotPushed::OutOfMemory);
     };
-    stack.push(limits, value)?;
+    match stack.push(limits, value) {
+        Ok(()) => {}
+        Err(Reason::TooLarge) => return Err(NotPushed::Full),
+        Err(_) => return Err(NotPushed::OutOfMemory),
+    }
     let Ok(()) = table.add_text(text) else {
         stack.truncate(place);
-        return Err(Reason::OutOfMemory);
+        return Err(NotPushed::OutOfMemory);
     };
     Ok(())
 }
@@ -53,12 +82,12 @@ fn name_payload(
     config: &MachineConfig,
     op: Op,
     payload: &[u8],
-) -> Result<(), Reason>
+) -> Result<(), NotPushed>
     requires good { IsGood (instruction op (Counted payload.now)) }
     requires sees { AreSeen (record { entries = stack.old; table = table.old }) }
     ensures { HasPushedText config.now.limits.stack (text (instruction op (Counted payload.now)))
         (record { entries = stack.old; table = table.old })
-        (record { entries = stack.new; table = table.new }) result }
+        (record { entries = stack.new; table = table.new }) (with_reason result) }
 {
     if is_old_text(op, payload) {
         return name_text(stack, table, &config.limits, payload);
@@ -87,15 +116,17 @@ fn name_payload_slowly(
     config: &MachineConfig,
     op: Op,
     payload: &[u8],
-) -> Result<(), Reason>
+) -> Result<(), NotPushed>
     requires good { IsGood (instruction op (Counted payload.now)) }
     requires sees { AreSeen (record { entries = stack.old; table = table.old }) }
     ensures { HasPushedText config.now.limits.stack (text (instruction op (Counted payload.now)))
         (record { entries = stack.old; table = table.old })
-        (record { entries = stack.new; table = table.new }) result }
+        (record { entries = stack.new; table = table.new }) (with_reason result) }
 {
     let inst = Inst::known(op, Arg::Counted(payload));
-    let text = text_spelled(config.alloc, &inst)?;
+    let Ok(text) = text_spelled(config.alloc, &inst) else {
+        return Err(NotPushed::OutOfMemory);
+    };
     name_text(stack, table, &config.limits, text.as_bytes())
 }
 
@@ -107,12 +138,12 @@ fn name_line(
     config: &MachineConfig,
     op: Op,
     line: &[u8],
-) -> Result<(), Reason>
+) -> Result<(), NotPushed>
     requires good { IsGood (instruction op (Line line.now)) }
     requires sees { AreSeen (record { entries = stack.old; table = table.old }) }
     ensures { HasPushedText config.now.limits.stack (text (instruction op (Line line.now)))
         (record { entries = stack.old; table = table.old })
-        (record { entries = stack.new; table = table.new }) result }
+        (record { entries = stack.new; table = table.new }) (with_reason result) }
 {
     if is_text(op, line) {
         return name_text(stack, table, &config.limits, line);
@@ -142,15 +173,17 @@ fn name_line_slowly(
     config: &MachineConfig,
     op: Op,
     line: &[u8],
-) -> Result<(), Reason>
+) -> Result<(), NotPushed>
     requires good { IsGood (instruction op (Line line.now)) }
     requires sees { AreSeen (record { entries = stack.old; table = table.old }) }
     ensures { HasPushedText config.now.limits.stack (text (instruction op (Line line.now)))
         (record { entries = stack.old; table = table.old })
-        (record { entries = stack.new; table = table.new }) result }
+        (record { entries = stack.new; table = table.new }) (with_reason result) }
 {
     let inst = Inst::known(op, Arg::Line(line));
-    let text = text_spelled(config.alloc, &inst)?;
+    let Ok(text) = text_spelled(config.alloc, &inst) else {
+        return Err(NotPushed::OutOfMemory);
+    };
     name_text(stack, table, &config.limits, text.as_bytes())
 }
 

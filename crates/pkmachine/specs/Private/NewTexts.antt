@@ -1,12 +1,27 @@
 -- What pushing a text does to the stack and the import table.
-use Rattle.std.specs.Prelude.{ℕ, ◌≡◌, ◌≤◌, ◌∷◌, IfErr, List, OnOk, Result, Some, length, suc}
+use Rattle.std.specs.Prelude.{ℕ, ◌≡◌, ◌≤◌, ◌∷◌, Err, IfErr, List, Ok, OnOk, Result, Some, length}
+use Rattle.std.specs.Prelude.{suc}
 use Rattle.pkops.specs.declared.Reason.{Reason}
+use Rattle.pkops.specs.declared.Reason.TheVariants as reason
+use Rattle.pkops.specs.declared.Reason.TheVariants.{TooLarge}
+use Rattle.pkmachine.specs.declared.new_text.NotPushed.{NotPushed}
+use Rattle.pkmachine.specs.declared.new_text.NotPushed.TheVariants.{Full, OutOfMemory}
 use Rattle.pkstack.specs.Faults.{WantsRoom}
 use Rattle.pkmachine.specs.Private.NamedOperations.{AreSeen, StackAndTable}
 use Rattle.pkmachine.specs.Private.Slots.{seen}
 use Rattle.pkimport.specs.Table.{HasMoreTexts}
 use Rattle.pkmachine.specs.Runs.{Text}
 use Rattle.pkstack.specs.Shape.{Item}
+
+-- the reason for a text that isn't pushed
+abbrev pub reason_for : NotPushed → Reason
+reason_for Full = TooLarge
+reason_for OutOfMemory = reason.OutOfMemory
+
+-- the answer with its reason
+abbrev pub with_reason : {A : Type 0} → Result A NotPushed → Result A Reason
+with_reason (Ok x) = Ok x
+with_reason (Err why) = Err (reason_for why)
 
 -- the text is appended to the table, and its number is on top of the stack
 pub record HasPushedText {A : Type 0} (limit : ℕ) (text : List ℕ) (old new : StackAndTable)

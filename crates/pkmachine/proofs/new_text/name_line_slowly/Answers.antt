@@ -4,4 +4,4 @@ use Rattle.pkmachine.proofs.new_text.name_line_slowly.Goals as goal
 
 pub name_text-requires-clause-utf8 : goal.name_text-requires-clause-utf8
 name_text-requires-clause-utf8 c =
-    rw c.as_bytes.ensures.value (IsUtf8-string_bytes c.in_ok-text.text)
+    rw c.as_bytes.ensures.value (IsUtf8-string_bytes c.in-Ok.text)

@@ -8,8 +8,8 @@ returns c =
     let texts = c.args.table.now.texts in
     let text = c.args.text.now in
     rw (
+      c.in-Ok-add_text.ensures.ok,
       c.in-Ok.ensures.ok,
-      c.in_ok-push.ensures.ok,
       c.in-Some.ensures,
       c.texts.ensures,
     ) (record {
@@ -18,6 +18,6 @@ returns c =
       grows = record { more = text ∷ []; is = refl };
       count = omega (arith, length-append texts (text ∷ []));
       asked = refl;
-      room = rw c.in_ok-push.ensures.ok at c.in_ok-push.ensures.room;
+      room = rw c.in-Ok.ensures.ok at c.in-Ok.ensures.room;
       err = tt;
     })
