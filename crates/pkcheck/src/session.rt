@@ -39,8 +39,9 @@ pub(crate) struct Session {
     pub machine: Machine,
 }
 
-/// Written by hand: a loop that owns a session then drops it in one step at each of its exits.
+/// Written by hand and inlined: the caller then doesn't move the session to a place of its own.
 impl Drop for Session {
+    #[inline(always)]
     fn drop(self) {
         let Session {
             frames: _frames,
