@@ -1,4 +1,3 @@
 -- What the replay keeps: the stack, the memo, the arena.
-pub mod MemoCells
 pub mod OperandsTaken
 pub mod EventsMirrored

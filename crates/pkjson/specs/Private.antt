@@ -6,7 +6,6 @@ pub mod Mirrors
 pub mod Fronts
 pub mod ReplayProgress
 pub mod Kinds
-pub mod Cells
 pub mod Seen
 pub mod Held
 pub mod Halts

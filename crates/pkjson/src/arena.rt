@@ -17,8 +17,7 @@ ghost use Rattle.pkjson.specs.Private.Held.{parts};
 use crate::action::{Action, Filled, Made, Takes};
 use crate::halt::Halt;
 use crate::kinds::{Kind, kind_of};
-use crate::memo::Memo;
-use crate::moves::apply;
+use crate::moves::{Memo, apply};
 use crate::objects::{Object, fill, make};
 use crate::slots::{Slot, place_of, receiver_of, top};
 use crate::texts::keys_are_texts;
@@ -49,7 +48,7 @@ impl<'a> Arena<'a> {
     {
         Arena {
             stack: Vec::new(alloc),
-            memo: Memo::new(alloc),
+            memo: Memo::new(alloc, 0),
             objects: Vec::new(alloc),
         }
     }

@@ -19,7 +19,6 @@ mod integer;
 mod judge;
 mod kinds;
 pub mod laws;
-mod memo;
 mod moves;
 mod node;
 mod objects;

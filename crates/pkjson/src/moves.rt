@@ -8,8 +8,11 @@ ghost use Rattle.pkjson.specs.Private.Seen.{seen_entry, seen_entries, shape_seen
 
 use crate::action::Move;
 use crate::halt::Halt;
-use crate::memo::Memo;
 use crate::slots::{Slot, mark_place, top};
+use pkbase::NumberedMap;
+
+/// Object numbers by memo number.
+pub type Memo = NumberedMap<u32>;
 
 /// Pushes an entry.
 #[tactic(auto, using(crate::proofs::Entries::shown_append))]
@@ -87,7 +90,7 @@ fn store(stack: &[Slot], memo: &mut Memo, number: u64) -> Result<(), Halt>
 }
 
 /// Pushes the memo entry of a number.
-fn fetch(stack: &mut Vec<Slot>, memo: &Memo, number: u64) -> Result<(), Halt>
+fn fetch(stack: &mut Vec<Slot>, memo: &Memo, number: u32) -> Result<(), Halt>
     ensures ok { OnOk result
         (moved (move_of Move.Fetches) number (shape_seen stack.old.items memo.now)
         ≡ Ok (shape_seen stack.new.items memo.now)) }
@@ -118,7 +121,7 @@ pub fn apply(stack: &mut Vec<Slot>, memo: &mut Memo, what: Move, number: u32) ->
             let next = memo.len();
             store(stack, memo, next)
         }
-        Move::Fetches => fetch(stack, memo, number as u64),
+        Move::Fetches => fetch(stack, memo, number),
         Move::Passes => Ok(()),
     }
 }
