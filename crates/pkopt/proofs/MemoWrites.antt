@@ -1,7 +1,5 @@
 -- The memo, and the new numbers of its writes that stay.
 pub mod Recalled
-pub mod Rows
-pub mod Noted
 pub mod Followed
 pub mod NewNumbers
 pub mod WritesKept

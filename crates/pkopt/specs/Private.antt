@@ -1,6 +1,5 @@
 -- Definitions that only private functions cite. They need not be trusted: the contract of
 -- `optimize` follows from them.
-pub mod Traces
 pub mod Entries
 pub mod Sourced
 pub mod Fronts

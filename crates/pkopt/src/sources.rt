@@ -40,20 +40,16 @@ impl Sources {
     }
 
     /// Adds the source of the next read.
-    #[inline(never)]
-    pub(crate) fn push(&mut self, source: Entry) -> Result<(), AllocError>
+    #[inline(always)]
+    pub(crate) fn push(&mut self, source: Option<u32>) -> Result<(), AllocError>
         ensures { OnOk result (self.new.items ≡ self.old.items ++ source ∷ []) }
     {
-        self.late.push(source)?;
-        Ok(())
-    }
-
-    /// Adds the source of the next read, which is this write.
-    #[inline(always)]
-    pub(crate) fn push_write(&mut self, write: u32) -> Result<(), AllocError>
-        ensures { OnOk result (self.new.items ≡ self.old.items ++ Some write ∷ []) }
-    {
-        push_to(&mut self.early, &mut self.late, write)
+        if let Some(write) = source
+            && write < 256
+        {
+            return push_to(&mut self.early, &mut self.late, write as u8);
+        }
+        push_late(&mut self.late, source)
     }
 
     /// The write that a read reads, if there is one.
@@ -81,23 +77,23 @@ impl Sources {
 
 /// Adds a write to those that fit into a byte, or to the others.
 #[inline(always)]
-fn push_to(early: &mut Vec<u8>, late: &mut Vec<Entry>, write: u32) -> Result<(), AllocError>
+fn push_to(early: &mut Vec<u8>, late: &mut Vec<Entry>, write: u8) -> Result<(), AllocError>
     ensures { OnOk result (in_bytes early.new.items ++ late.new.items
         ≡ (in_bytes early.old.items ++ late.old.items) ++ Some write ∷ []) }
 {
-    if write >= 256 || !late.is_empty() {
-        return push_late(late, write);
+    if !late.is_empty() {
+        return push_late(late, Some(u32::from(write)));
     }
-    early.push(write as u8)?;
+    early.push(write)?;
     Ok(())
 }
 
-/// Adds a write to those that don't fit into a byte, or that come later.
+/// Adds a source that doesn't fit into a byte, or that comes later.
 #[inline(never)]
-fn push_late(late: &mut Vec<Entry>, write: u32) -> Result<(), AllocError>
-    ensures { OnOk result (late.new.items ≡ late.old.items ++ Some write ∷ []) }
+fn push_late(late: &mut Vec<Entry>, source: Option<u32>) -> Result<(), AllocError>
+    ensures { OnOk result (late.new.items ≡ late.old.items ++ source ∷ []) }
 {
-    let source = Entry::new(Some(write))?;
+    let source = Entry::new(source)?;
     late.push(source)?;
     Ok(())
 }

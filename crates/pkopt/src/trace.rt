@@ -4,15 +4,16 @@ ghost use Rattle.std.specs.Prelude.{◌≡◌, ◌||◌, ◌+◌, ◌++◌, ◌�
 ghost use Rattle.pkops.specs.declared.Op.TheVariants as op;
 ghost use Rattle.pkops.specs.Inst.{instruction_of};
 ghost use Rattle.pkops.specs.Operands.{memo_number};
-ghost use Rattle.pkopt.specs.Private.Memories.{Notes, last_held, numbers_held};
-ghost use Rattle.pkopt.specs.Private.Passes.{IsNewTrace, Marks, NotesStep, Skips};
+ghost use Rattle.pkstack.specs.Shape.{recalled};
+ghost use Rattle.pkopt.specs.Private.Passes.{IsNewTrace, Marks, Notes, NotesNext, NotesStep, Skips};
 ghost use Rattle.pkopt.specs.Private.Places.{place, place_of, stays_as_is};
 ghost use Rattle.pkopt.specs.Slim.{is_frame};
 
-use crate::memo::{Memo, MemoUse, memo_use};
+use crate::memo::{MemoUse, memo_use};
 use crate::packed::{Packed, is_short};
 use crate::place::{Part, is_plain, size_of, size_with};
 use crate::sources::Sources;
+use pkbase::NumberedMap;
 use pkcheck::Listener;
 use pkops::{Inst, Op};
 use std::alloc::{AllocError, Global};
@@ -25,10 +26,10 @@ const MOST: u16 = 26_623;
 
 /// The memo number that an instruction names; 0 if it names none.
 #[inline(always)]
-fn number_of(inst: &Inst<'_>) -> usize
+fn number_of(inst: &Inst<'_>) -> u32
     ensures { result ≡ memo_number (instruction_of inst.now) }
 {
-    inst.memo_number().unwrap_or(0) as usize
+    inst.memo_number().unwrap_or(0)
 }
 
 /// The length of the next part without an instruction that may change, if so many bytes stay.
@@ -62,8 +63,8 @@ fn with_frame(framed: bool, op: Op) -> bool
 /// What the first pass has learned about the memo and the frames of a pickle.
 #[derive(Drop)]
 pub(crate) struct Trace {
-    /// The last write of each number.
-    pub memo: Memo,
+    /// The last write of each number. Writes are named 0, 1, 2 and so on, in order.
+    pub memo: NumberedMap<u32>,
     /// The number of writes. It can't overflow: 2^32 writes would take 8 GB of parts alone.
     pub writes: u32,
     /// For each read, the write that it reads.
@@ -82,7 +83,7 @@ impl Trace {
         ensures { IsNewTrace result }
     {
         Trace {
-            memo: Memo::new(alloc),
+            memo: NumberedMap::new(alloc, 0),
             writes: 0,
             sources: Sources::new(alloc),
             parts: Vec::new(alloc),
@@ -91,11 +92,11 @@ impl Trace {
         }
     }
 
-    /// Records a write under this number.
-    #[inline(always)]
-    fn write(&mut self, number: usize) -> Result<(), AllocError>
-        ensures writes { OnOk result (self.new.writes ≡ self.old.writes + 1) }
-        ensures memo { OnOk result (Notes number self.old.writes self.old.memo self.new.memo) }
+    /// Records a write under this number. Out of line, so that the compiler still inlines the check
+    /// into its caller.
+    #[inline(never)]
+    fn write(&mut self, number: u32) -> Result<(), AllocError>
+        ensures noted { OnOk result (Notes number self.old self.new) }
         ensures sources { self.new.sources.items ≡ self.old.sources.items }
         ensures parts { self.new.parts.items ≡ self.old.parts.items }
         ensures end { self.new.end ≡ self.old.end }
@@ -104,7 +105,7 @@ impl Trace {
         let Some(writes) = self.writes.checked_add(1) else {
             return Err(AllocError);
         };
-        self.memo.note(number, self.writes)?;
+        self.memo.store(u64::from(number), self.writes)?;
         self.writes = writes;
         Ok(())
     }
@@ -112,9 +113,7 @@ impl Trace {
     /// Records a write under the number of memo entries.
     #[inline(always)]
     fn write_next(&mut self) -> Result<(), AllocError>
-        ensures writes { OnOk result (self.new.writes ≡ self.old.writes + 1) }
-        ensures memo { OnOk result (Notes (numbers_held self.old.memo) self.old.writes
-            self.old.memo self.new.memo) }
+        ensures noted { OnOk result (NotesNext self.old self.new) }
         ensures sources { self.new.sources.items ≡ self.old.sources.items }
         ensures parts { self.new.parts.items ≡ self.old.parts.items }
         ensures end { self.new.end ≡ self.old.end }
@@ -123,46 +122,29 @@ impl Trace {
         let Some(writes) = self.writes.checked_add(1) else {
             return Err(AllocError);
         };
-        self.memo.note_next(self.writes)?;
+        self.memo.store_next(self.writes)?;
         self.writes = writes;
         Ok(())
     }
 
-    /// Records a read of this number, which may have no write in order.
-    #[inline(never)]
-    fn read_slowly(&mut self, number: usize) -> Result<(), AllocError>
-        ensures writes { self.new.writes ≡ self.old.writes }
-        ensures memo { self.new.memo ≡ self.old.memo }
-        ensures sources { OnOk result (self.new.sources.items
-            ≡ self.old.sources.items ++ last_held self.old.memo number ∷ []) }
-        ensures parts { self.new.parts.items ≡ self.old.parts.items }
-        ensures end { self.new.end ≡ self.old.end }
-        ensures framed { self.new.framed ≡ self.old.framed }
-    {
-        let source = self.memo.last_write(number)?;
-        self.sources.push(source)
-    }
-
     /// Records a read of this number.
     #[inline(always)]
-    fn read(&mut self, number: usize) -> Result<(), AllocError>
+    fn read(&mut self, number: u32) -> Result<(), AllocError>
         ensures writes { self.new.writes ≡ self.old.writes }
         ensures memo { self.new.memo ≡ self.old.memo }
         ensures sources { OnOk result (self.new.sources.items
-            ≡ self.old.sources.items ++ last_held self.old.memo number ∷ []) }
+            ≡ self.old.sources.items ++ recalled number self.old.memo ∷ []) }
         ensures parts { self.new.parts.items ≡ self.old.parts.items }
         ensures end { self.new.end ≡ self.old.end }
         ensures framed { self.new.framed ≡ self.old.framed }
     {
-        let Some(write) = self.memo.write_in_order(number) else {
-            return self.read_slowly(number);
-        };
-        self.sources.push_write(write)
+        let source = self.memo.get(number);
+        self.sources.push(source)
     }
 
     /// Records what an instruction with this opcode and memo number does to the memo.
     #[inline(always)]
-    fn follow(&mut self, op: Op, number: usize) -> Result<(), AllocError>
+    fn follow(&mut self, op: Op, number: u32) -> Result<(), AllocError>
         ensures step { OnOk result (NotesStep op number self.old self.new) }
         ensures parts { self.new.parts.items ≡ self.old.parts.items }
         ensures end { self.new.end ≡ self.old.end }
@@ -261,7 +243,7 @@ impl Trace {
     /// Records an instruction that may change, at this offset, by its opcode, length and memo
     /// number.
     #[inline(never)]
-    fn take_slowly(&mut self, at: u64, op: Op, size: u16, number: usize) -> Result<(), AllocError>
+    fn take_slowly(&mut self, at: u64, op: Op, size: u16, number: u32) -> Result<(), AllocError>
         requires { stays_as_is op ≡ false }
         ensures places { OnOk result (Marks (place at size op) self.old self.new) }
         ensures step { OnOk result (NotesStep op number self.old self.new) }

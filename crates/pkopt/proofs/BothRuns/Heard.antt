@@ -16,7 +16,7 @@ use Rattle.pkopt.specs.Private.Places.{end_behind, has_frames, stays_as_is, plac
 use Rattle.pkopt.specs.Private.Places.{places_behind}
 use Rattle.pkopt.specs.Private.Places.{places_from, places_told, told}
 use Rattle.pkopt.specs.Writers.{read_by, sources, after_all}
-use Rattle.pkopt.proofs.MemoWrites.Rows.{holds_none}
+use Rattle.pkopt.proofs.MemoWrites.Followed.{holds_none}
 use Rattle.pkopt.proofs.SlimForm.Unchanged.{spellings-append}
 
 -- another one is heard
@@ -72,7 +72,7 @@ heard_tracks x y p hs first each h =
     ) in
     let s = h []
     (record {
-      holds = holds_none x.memo first.row first.rest;
+      holds = holds_none x.memo first.memo;
       count = first.writes;
     }) nothing in
     let all = heard_told [] p hs each in

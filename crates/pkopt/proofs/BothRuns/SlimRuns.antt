@@ -22,7 +22,7 @@ use Rattle.pkopt.specs.Writers.{Writes, last_write, different, wrote, after, rea
 use Rattle.pkopt.specs.Writers.{is_this, is_read, new_number, after_all, more_if_none}
 use Rattle.pkopt.specs.Slim.{renumbered, is_frame, read_left, left_of, slim_from, slim}
 use Rattle.pkopt.specs.RunsAlike.{RunsAlike}
-use Rattle.pkopt.specs.Private.Traces.{Rising}
+use Rattle.pkopt.specs.Private.Memories.{Rising}
 use Rattle.pkopt.proofs.BothRuns.AlikeSteps.{with_memo, IsBlind, perform_same, step_on}
 use Rattle.pkopt.proofs.MemoWrites.NewNumbers.{after_all_le, new_step, new_least}
 use Rattle.pkopt.proofs.MemoWrites.Recalled.{recalled_same, recalled_other, rising_insert}

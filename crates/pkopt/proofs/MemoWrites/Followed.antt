@@ -1,17 +1,58 @@
 -- Following the memo writes along instructions.
-use Rattle.std.proofs.Common.{◌≡◌, ℕ, ◌+◌, List, [], ◌∷◌, ◌++◌, Option, Result, Ok, Err}
-use Rattle.std.proofs.Common.{refl, sym, ap, subst, ◌∙◌, arith, append-nil}
+use Rattle.std.proofs.Common.{◌≡◌, ℕ, ◌+◌, cond, List, [], ◌∷◌, ◌++◌, length, Option, Some, Result}
+use Rattle.std.proofs.Common.{Ok, Err, inl, inr, refl, sym, ap, subst, ◌∙◌, arith}
+use Rattle.std.proofs.lemmas.Bool.Decides.{eqb_tells}
 use Rattle.std.specs.Prelude.{OnOk}
 use Rattle.pkops.specs.declared.Op.{Op}
 use Rattle.pkops.specs.declared.Op.TheVariants as op
+use Rattle.pkstack.specs.Shape.{recalled, stored}
 use Rattle.pkstack.specs.declared.Move.TheVariants as move
 use Rattle.pkmachine.specs.Effects.{Moves, effect_of}
 use Rattle.pkopt.specs.declared.memo.MemoUse.TheVariants.{Stores, StoresNext, Fetches}
-use Rattle.pkopt.specs.declared.memo.Memo.{Memo}
 use Rattle.pkopt.specs.declared.trace.Trace.{Trace}
-use Rattle.pkopt.specs.Private.Memories.{HoldsWrites, Notes, last_held, numbers_held}
+use Rattle.pkopt.specs.Private.Memories.{HoldsWrites}
 use Rattle.pkopt.specs.Private.Passes.{FollowsWrites, NotesStep, memo_use}
-use Rattle.pkopt.specs.Writers.{Writes, last_write, wrote, read_by}
+use Rattle.pkopt.specs.Writers.{Writes, last_write, different, more_if_none, read_by}
+use Rattle.pkopt.proofs.MemoWrites.Recalled.{recalled_same, recalled_other, rising_insert}
+use Rattle.pkopt.proofs.MemoWrites.Recalled.{length_insert}
+
+-- before the first write
+pub holds_none : (memo : List (ℕ × ℕ)) → memo ≡ [] → HoldsWrites [] memo
+holds_none memo none = subst (HoldsWrites []) (sym none)
+    (record { found = λ n. refl; count = refl; rising = tt })
+
+-- after one more, of number n
+holds_more : (ws : Writes) (memo : List (ℕ × ℕ)) (n w : ℕ) → w ≡ length ws → HoldsWrites ws memo
+    → HoldsWrites (n ∷ ws) (stored n w memo)
+holds_more ws memo n w is h = record {
+  found = λ k. elim (eqb_tells k n) [
+    | inl q ↦ ap (λ b. cond b (Some (length ws)) (last_write k ws)) q.0
+        ∙ sym (ap (λ j. recalled j (stored n w memo)) q.1 ∙ recalled_same n w memo
+        ∙ ap (λ x. Some x) is)
+    | inr q ↦ ap (λ b. cond b (Some (length ws)) (last_write k ws)) q.0 ∙ h.found k
+        ∙ sym (recalled_other k n w memo q.1)
+  ];
+  count = ap (λ o. more_if_none o (different ws)) (h.found n)
+      ∙ ap (λ m. more_if_none (recalled n memo) m) h.count ∙ sym (length_insert n w memo h.rising);
+  rising = rising_insert n w memo h.rising;
+}
+
+-- a write under this number, or under the number of entries, is recorded
+module _ (ws : Writes) (old new : Trace) (count : new.writes ≡ old.writes + 1) where
+  pub noted : (n : ℕ) → new.memo ≡ stored n old.writes old.memo → FollowsWrites ws old
+      → FollowsWrites (n ∷ ws) new
+  noted n kept h =
+      let before = h.count in
+      record {
+        holds = subst (HoldsWrites (n ∷ ws)) (sym kept)
+            (holds_more ws old.memo n old.writes h.count h.holds);
+        count = omega (arith, count, before);
+      }
+
+  pub noted_next : new.memo ≡ stored (length old.memo) old.writes old.memo → FollowsWrites ws old
+      → FollowsWrites (different ws ∷ ws) new
+  noted_next kept h = subst (λ n. FollowsWrites (n ∷ ws) new) (sym h.holds.count)
+      (noted (length old.memo) kept h)
 
 pub effect_stores : (o : Op) → memo_use o ≡ Stores → effect_of o ≡ Moves move.Stores
 effect_stores op.Put e = refl
@@ -29,66 +70,15 @@ effect_fetches op.BinGet e = refl
 effect_fetches op.LongBinGet e = refl
 effect_fetches o e = cc
 
--- what a step does to the memo, where it went well
+-- a step does the same to the memo from a trace that is alike
 module _ {A E : Type 0} (o : Op) (old new : Trace) (n : ℕ) where
-  pub store_step : (r : Result A E) → effect_of o ≡ Moves move.Stores
-      → OnOk r (new.writes ≡ old.writes + 1) → OnOk r (Notes n old.writes old.memo new.memo)
-      → new.sources.items ≡ old.sources.items → OnOk r (NotesStep o n old new)
-  store_step (Ok a) e count noted same = λ ws h.
-      let behind : n ∷ ws ≡ wrote (effect_of o) n ws = sym (ap (λ e. wrote e n ws) e) in
-      let none : [] ≡ read_by (effect_of o) n ws = sym (ap (λ e. read_by e n ws) e) in
-      let before = h.count in (
-        subst (λ (x : Writes). FollowsWrites x new) behind
-            (record { holds = noted ws h.count h.holds; count = omega (arith, count, before) }),
-        same
-            ∙ sym (append-nil old.sources.items) ∙ ap
-            (λ (l : List (Option ℕ)). old.sources.items ++ l) none,
-      )
-  store_step (Err a) e count noted same = tt
-
-  pub next_step : (m : ℕ) (r : Result A E) → effect_of o ≡ Moves move.StoresNext
-      → m ≡ numbers_held old.memo
-      → OnOk r (new.writes ≡ old.writes + 1) → OnOk r (Notes m old.writes old.memo new.memo)
-      → new.sources.items ≡ old.sources.items → OnOk r (NotesStep o n old new)
-  next_step m (Ok a) e is count noted same = λ ws h.
-      let behind : m ∷ ws ≡ wrote (effect_of o) n ws =
-      ap (λ n. n ∷ ws) (is ∙ sym h.holds.last.count) ∙ sym (ap (λ e. wrote e n ws) e) in
-      let none : [] ≡ read_by (effect_of o) n ws = sym (ap (λ e. read_by e n ws) e) in
-      let before = h.count in (
-        subst (λ (x : Writes). FollowsWrites x new) behind
-            (record { holds = noted ws h.count h.holds; count = omega (arith, count, before) }),
-        same
-            ∙ sym (append-nil old.sources.items) ∙ ap
-            (λ (l : List (Option ℕ)). old.sources.items ++ l) none,
-      )
-  next_step m (Err a) e is count noted same = tt
-
-  pub fetch_step : (r : Result A E) → effect_of o ≡ Moves move.Fetches
-      → new.writes ≡ old.writes → new.memo ≡ old.memo
-      → OnOk r (new.sources.items ≡ old.sources.items ++ last_held old.memo n ∷ [])
-      → OnOk r (NotesStep o n old new)
-  fetch_step (Ok a) e count kept grown = λ ws h.
-      let behind : ws ≡ wrote (effect_of o) n ws = sym (ap (λ e. wrote e n ws) e) in
-      let one : last_write n ws ∷ [] ≡ read_by (effect_of o) n ws =
-      sym (ap (λ e. read_by e n ws) e) in (
-        subst (λ (x : Writes). FollowsWrites x new) behind
-            (record {
-              holds = subst (λ (m : Memo). HoldsWrites ws m) (sym kept) h.holds;
-              count = count ∙ h.count;
-            }),
-        grown ∙ ap (λ (o : Option ℕ). old.sources.items ++ o ∷ []) (sym (h.holds.last.found n))
-            ∙ ap (λ (l : List (Option ℕ)). old.sources.items ++ l) one,
-      )
-  fetch_step (Err a) e count kept grown = tt
-
-  -- it does the same from a trace that is alike
   pub step_from : (mid : Trace) (r : Result A E) → mid.writes ≡ old.writes → mid.memo ≡ old.memo
       → mid.sources.items ≡ old.sources.items → OnOk r (NotesStep o n mid new)
       → OnOk r (NotesStep o n old new)
   step_from mid (Ok a) count same kept step = λ ws h.
       let s = step ws
       (record {
-        holds = subst (λ (m : Memo). HoldsWrites ws m) (sym same) h.holds;
+        holds = subst (HoldsWrites ws) (sym same) h.holds;
         count = count ∙ h.count;
       }) in
       (s.0, s.1 ∙ ap (λ (l : List (Option ℕ)). l ++ read_by (effect_of o) n ws) kept)

@@ -8,7 +8,7 @@ use Rattle.std.specs.declared.cmp.Ordering.TheVariants.{Less, Equal, Greater}
 use Rattle.std.proofs.lemmas.Cmp.{ranked}
 use Rattle.std.specs.BTreeMap.{insert_entry}
 use Rattle.pkstack.specs.Shape.{recalled}
-use Rattle.pkopt.specs.Private.Traces.{Above, Rising}
+use Rattle.pkopt.specs.Private.Memories.{Above, Rising}
 use Rattle.pkopt.specs.Writers.{more_if_none}
 
 abbrev Ranked : ℕ → ℕ → Ordering → Type 0

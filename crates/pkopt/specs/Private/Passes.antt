@@ -9,11 +9,12 @@ use Rattle.pkcheck.specs.Heard.{Heard}
 use Rattle.pkopt.specs.declared.memo.MemoUse.{MemoUse}
 use Rattle.pkopt.specs.declared.trace.Trace.{Trace}
 use Rattle.pkopt.specs.declared.memo.MemoUse.TheVariants.{Stores, StoresNext, Fetches, Neither}
-use Rattle.pkopt.specs.Private.Memories.{HoldsWrites, row_of}
+use Rattle.pkopt.specs.Private.Memories.{HoldsWrites}
 use Rattle.pkopt.specs.declared.place.Place.{Place}
 use Rattle.pkopt.specs.Private.Places.{end_behind, has_frames, places_behind, places_from}
 use Rattle.pkopt.specs.Private.Places.{places_told, told}
-use Rattle.pkopt.specs.Writers.{Writes, read_by, wrote, sources, is_read, new_number, after_all}
+use Rattle.pkopt.specs.Writers.{Writes, different, read_by, wrote, sources, is_read, new_number}
+use Rattle.pkopt.specs.Writers.{after_all}
 
 -- how an opcode uses the memo
 abbrev pub memo_use : Op → MemoUse
@@ -28,8 +29,7 @@ memo_use o = Neither
 
 -- before the first instruction
 pub record IsNewTrace (t : Trace) : Type 0 where
-  pub row : row_of t.memo ≡ []
-  pub rest : t.memo.rest.entries ≡ []
+  pub memo : t.memo ≡ []
   pub writes : t.writes ≡ 0
   pub sources : t.sources.items ≡ []
   pub parts : t.parts.items ≡ []
@@ -40,6 +40,14 @@ pub record IsNewTrace (t : Trace) : Type 0 where
 pub record FollowsWrites (ws : Writes) (t : Trace) : Type 0 where
   pub holds : HoldsWrites ws t.memo
   pub count : t.writes ≡ length ws
+
+-- a write under this number was recorded
+abbrev pub Notes : ℕ → Trace → Trace → Type 0
+Notes n old new = (ws : Writes) → FollowsWrites ws old → FollowsWrites (n ∷ ws) new
+
+-- a write under the number of memo entries was recorded
+abbrev pub NotesNext : Trace → Trace → Type 0
+NotesNext old new = (ws : Writes) → FollowsWrites ws old → FollowsWrites (different ws ∷ ws) new
 
 -- what an instruction of this opcode, which names this number, does to the memo was recorded
 abbrev pub NotesStep : Op → ℕ → Trace → Trace → Type 0
