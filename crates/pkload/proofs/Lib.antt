@@ -25,8 +25,6 @@ pub mod SameRows
 pub mod OneEnd
 -- the machine
 pub mod Slots
-pub mod Marks
-pub mod Taking
 pub mod Lights
 -- worked rows
 mod Rows

@@ -1,69 +1,186 @@
--- How the view of the stack changes with its codes.
-use Rattle.std.proofs.Common.{◌≡◌, ◌+◌, ℕ, suc, List, [], ◌∷◌, ◌++◌, length, take}
-use Rattle.std.proofs.Common.{Bool, true, false, cond, nat_eq, get_or, refl, sym, ap, ◌∙◌, arith}
-use Rattle.std.proofs.Common.{Option, Some, None, ◌↔◌, ◌<◌, drop, set}
-use Rattle.std.specs.Option.{IsSome, MatchOption, option_to_list}
+-- How the entries of the stack change with its codes, and what the slice above its mark is.
+use Rattle.std.proofs.Common.{◌≡◌, ◌+◌, ◌-◌, ◌≤◌, ℕ, zero, suc, List, [], ◌∷◌, ◌++◌, length, take}
+use Rattle.std.proofs.Common.{Result, Ok, Err, get_or, refl, sym, ap, ◌∙◌, arith, drop, map, set}
+use Rattle.std.proofs.Common.{append-nil, length-append, reverse}
 use Rattle.std.proofs.Math.Seq.{take-length, take-suc}
-use Rattle.std.proofs.lemmas.Bool.{eqb-true}
-use Rattle.std.proofs.lemmas.List.{get_or-set_same, length-set, take-set}
-use Rattle.pkstack.specs.Shape.{Entry, Item, Mark}
+use Rattle.std.proofs.lemmas.List.{get_or-set_same, length-drop, length-reverse, length-set}
+use Rattle.std.proofs.lemmas.List.{length-take-le, reverse-append, take-set, take-take}
+use Rattle.std.proofs.lemmas.List.{take-append-drop}
+use Rattle.pkstack.specs.Shape.{Breach, Entry, Item, Mark, Taken, items, slice}
 use Rattle.pkload.specs.Heft.{Heft}
+use Rattle.pkload.specs.Private.Billing.{HasItems}
 use Rattle.pkload.specs.Private.Packed.{unpacked}
-use Rattle.pkload.specs.Private.Shown.{entry_of, shown}
+use Rattle.pkload.specs.Private.Shown.{HasObjects, entries_of, shown}
 
-pub shown_append : (xs ys : List ℕ) (below : List (Entry Heft))
-    → shown (xs ++ ys) below ≡ shown ys (shown xs below)
-shown_append [] ys below = refl
-shown_append (x ∷ xs) ys below = shown_append xs ys (entry_of x ∷ below)
+-- ---- the top
 
-pub length_shown : (xs : List ℕ) (below : List (Entry Heft))
-    → length (shown xs below) ≡ length xs + length below
-length_shown [] below = omega arith
-length_shown (x ∷ xs) below = omega (arith, length_shown xs (entry_of x ∷ below))
+pub pushed_object : (fence : ℕ) (codes : List ℕ) (code : ℕ) → fence ≤ length codes
+    → entries_of fence (codes ++ code ∷ []) ≡ Item (unpacked code) ∷ entries_of fence codes
+pushed_object fence codes code within =
+    let more : length (codes ++ code ∷ []) - fence ≡ suc (length codes - fence) =
+    omega (arith, within, length-append codes (code ∷ [])) in
+    ap (shown (length (codes ++ code ∷ []) - fence)) (reverse-append codes (code ∷ []))
+    ∙ ap (λ n. shown n (code ∷ reverse codes)) more
 
--- the last code is on top
-pub shown_last : (xs : List ℕ) (n : ℕ) (d : ℕ) → length xs ≡ suc n
-    → shown xs [] ≡ entry_of (get_or xs n d) ∷ shown (take n xs) []
-shown_last xs n d e =
-    ap (λ l. shown l [])
-    (sym (take-length xs) ∙ ap (λ k. take k xs) e ∙ take-suc xs n d (omega (arith, e)))
-    ∙ shown_append (take n xs) (get_or xs n d ∷ []) []
+pub pushed_mark : (fence : ℕ) (codes : List ℕ)
+    → entries_of (length codes + 1) (codes ++ fence ∷ []) ≡ Mark ∷ entries_of fence codes
+pushed_mark fence codes =
+    let none : length (codes ++ fence ∷ []) - (length codes + 1) ≡ 0 =
+    omega (arith, length-append codes (fence ∷ [])) in
+    ap (shown (length (codes ++ fence ∷ []) - (length codes + 1)))
+    (reverse-append codes (fence ∷ []))
+    ∙ ap (λ n. shown n (fence ∷ reverse codes)) none
+    ∙ ap (λ n. Mark ∷ shown (n - fence) (reverse codes)) (length-reverse codes)
 
--- the last code was on top
-pub popped : (r : Option ℕ) (xs ys : List ℕ) → xs ≡ ys ++ option_to_list r
-    → (IsSome r ↔ (0 < length xs))
-    → MatchOption r (shown xs [] ≡ []) (λ code. shown xs [] ≡ entry_of code ∷ shown ys [])
-popped None [] ys e some = refl
-popped None (x ∷ xs) ys e some = let found : false ≡ true = some.1 (omega arith) in cc
-popped (Some code) xs ys e some = ap (λ l. shown l []) e ∙ shown_append ys (code ∷ []) []
+-- above the topmost mark, the last code is that of the object on top
+pub object_on_top : (fence n : ℕ) (codes : List ℕ) (d : ℕ) → length codes ≡ suc n → fence ≤ n
+    → entries_of fence codes ≡ Item (unpacked (get_or codes n d)) ∷ entries_of fence (take n codes)
+object_on_top fence n codes d size within =
+    ap (entries_of fence)
+    (sym (take-length codes) ∙ ap (λ k. take k codes) size
+    ∙ take-suc codes n d (omega (arith, size)))
+    ∙ pushed_object fence (take n codes) (get_or codes n d)
+    (omega (arith, within, length-take-le n codes (omega (arith, size))))
 
-pub object_of : (code : ℕ) → (code ≡ 2 → ⊥) → entry_of code ≡ Item (unpacked code)
-object_of code h = by_flag (nat_eq code 2) refl
-  where
-    by_flag : (b : Bool) → nat_eq code 2 ≡ b → entry_of code ≡ Item (unpacked code)
-    by_flag true e = absurd (h (eqb-true code 2 e))
-    by_flag false e = ap (λ f. cond f Mark (Item (unpacked code))) e
+pub replaced : (fence n : ℕ) (codes : List ℕ) (code : ℕ) (heft : Heft) → length codes ≡ suc n
+    → fence ≤ n → unpacked code ≡ heft → (entry : Entry Heft) (below : List (Entry Heft))
+    → entries_of fence codes ≡ entry ∷ below
+    → entries_of fence (set codes n code) ≡ Item heft ∷ below
+replaced fence n codes code heft size within is entry below shows =
+    object_on_top fence n (set codes n code) 0 (length-set codes n code ∙ size) within
+    ∙ ap (λ c. Item (unpacked c) ∷ entries_of fence (take n (set codes n code)))
+    (get_or-set_same codes n code 0 (omega (arith, size)))
+    ∙ ap (λ h. Item h ∷ entries_of fence (take n (set codes n code))) is
+    ∙ ap (λ l. Item heft ∷ entries_of fence l) (take-set codes n code)
+    ∙ ap (λ l. Item heft ∷ l)
+    (ap (drop 1) (sym (object_on_top fence n codes 0 size within) ∙ shows))
 
--- the last code is replaced by that of an object
-pub replaced : (xs : List ℕ) (n code : ℕ) (heft : Heft) → length xs ≡ suc n
-    → (code ≡ 2 → ⊥) → unpacked code ≡ heft → (entry : Entry Heft) (below : List (Entry Heft))
-    → shown xs [] ≡ entry ∷ below → shown (set xs n code) [] ≡ Item heft ∷ below
-replaced xs n code heft e h k entry below s =
-    shown_last (set xs n code) n 0 (length-set xs n code ∙ e)
-    ∙ ap (λ c. entry_of c ∷ shown (take n (set xs n code)) [])
-    (get_or-set_same xs n code 0 (omega (arith, e)))
-    ∙ ap (λ x. x ∷ shown (take n (set xs n code)) []) (object_of code h ∙ ap Item k)
-    ∙ ap (λ l. Item heft ∷ shown l []) (take-set xs n code)
-    ∙ ap (λ l. Item heft ∷ l) (ap (drop 1) (sym (shown_last xs n 0 e) ∙ s))
+-- ---- several objects
 
--- the last code is that of an object
-pub object_on_top : (xs : List ℕ) (n code d : ℕ) (heft : Heft) → length xs ≡ suc n
-    → code ≡ get_or xs n d → (code ≡ 2 → ⊥) → heft ≡ unpacked code
-    → (below : List (Entry Heft)) × (shown xs [] ≡ Item heft ∷ below)
-object_on_top xs n code d heft e g h k = (
-  shown (take n xs) [],
-  shown_last xs n d e
-      ∙ ap (λ c. entry_of c ∷ shown (take n xs) []) (sym g)
-      ∙ ap (λ x. x ∷ shown (take n xs) []) (object_of code h)
-      ∙ ap (λ x. Item x ∷ shown (take n xs) []) (sym k),
-)
+items_above : (count fence : ℕ) (codes : List ℕ) (above : List Heft)
+    → count + fence ≤ length codes
+    → (hefts : List Heft) × (items count (entries_of fence codes) above
+    ≡ Ok (record {
+      operands = hefts;
+      below = entries_of fence (take (length codes - count) codes);
+    }))
+items_above zero fence codes above enough =
+    let all : codes ≡ take (length codes - 0) codes =
+    sym (ap (λ k. take k codes) (omega arith) ∙ take-length codes) in
+    (above, ap (λ l. Ok (record { operands = above; below = entries_of fence l })) all)
+items_above (suc count) fence codes above enough =
+    let n = length codes - 1 in
+    let size : length codes ≡ suc n = omega (arith, enough) in
+    let item = unpacked (get_or codes n 0) in
+    let short : length (take n codes) ≡ n = length-take-le n codes (omega arith) in
+    let rest = items_above count fence (take n codes) (item ∷ above)
+    (omega (arith, enough, short)) in
+    let less : take (length (take n codes) - count) (take n codes)
+    ≡ take (length codes - suc count) codes =
+    ap (λ k. take (k - count) (take n codes)) short
+    ∙ take-take (n - count) n codes (omega arith)
+    ∙ ap (λ k. take k codes) (omega (arith, enough)) in (
+      rest.0,
+      ap (λ es. items (suc count) es above)
+          (object_on_top fence n codes 0 size (omega (arith, enough)))
+          ∙ rest.1
+          ∙ ap (λ l. Ok (record { operands = rest.0; below = entries_of fence l })) less,
+    )
+
+pub objects_dropped : (count fence : ℕ) (codes : List ℕ) → count + fence ≤ length codes
+    → HasItems count (entries_of fence codes)
+    (entries_of fence (take (length codes - count) codes))
+objects_dropped count fence codes enough =
+    let found = items_above count fence codes [] enough in
+    record { hefts = found.0; is = found.1 }
+
+-- ---- the slice
+
+-- these objects, from the top down, in front of others
+abbrev onto : List ℕ → List Heft → List Heft
+onto [] above = above
+onto (code ∷ codes) above = onto codes (unpacked code ∷ above)
+
+onto_last : (codes : List ℕ) (code : ℕ) (above : List Heft)
+    → onto (codes ++ code ∷ []) above ≡ unpacked code ∷ onto codes above
+onto_last [] code above = refl
+onto_last (next ∷ codes) code above = onto_last codes code (unpacked next ∷ above)
+
+onto_reverse : (codes : List ℕ) (above : List Heft)
+    → onto (reverse codes) above ≡ map unpacked codes ++ above
+onto_reverse [] above = refl
+onto_reverse (code ∷ codes) above =
+    ap (λ l. onto l above) (reverse-append (code ∷ []) codes)
+    ∙ onto_last (reverse codes) code above
+    ∙ ap (λ l. unpacked code ∷ l) (onto_reverse codes above)
+
+passed : (codes rest : List ℕ) (above : List Heft)
+    → slice (shown (length codes) (codes ++ rest)) above ≡ slice (shown 0 rest) (onto codes above)
+passed [] rest above = refl
+passed (code ∷ codes) rest above = passed codes rest (unpacked code ∷ above)
+
+module _ (fence : ℕ) (codes : List ℕ) (within : fence ≤ length codes) where
+  abbrev here : List ℕ
+  here = drop fence codes
+
+  reversed : reverse codes ≡ reverse here ++ reverse (take fence codes)
+  reversed =
+      ap reverse (sym (take-append-drop fence codes)) ∙ reverse-append (take fence codes) here
+
+  count : length codes - fence ≡ length (reverse here)
+  count = sym (length-reverse here ∙ length-drop fence codes)
+
+  all_passed : slice (entries_of fence codes) []
+      ≡ slice (shown 0 (reverse (take fence codes))) (map unpacked here)
+  all_passed =
+      ap (λ l. slice (shown (length codes - fence) l) []) reversed
+      ∙ ap (λ n. slice (shown n (reverse here ++ reverse (take fence codes))) []) count
+      ∙ passed (reverse here) (reverse (take fence codes)) []
+      ∙ ap (slice (shown 0 (reverse (take fence codes))))
+      (onto_reverse here [] ∙ append-nil (map unpacked here))
+
+-- above a mark, the slice has the objects with the last codes
+pub sliced : (place : ℕ) (codes : List ℕ) (d : ℕ) → suc place ≤ length codes
+    → slice (entries_of (suc place) codes) [] ≡ Ok (record {
+      operands = map unpacked (drop (suc place) codes);
+      below = entries_of (get_or codes place d) (take place codes);
+    })
+sliced place codes d within =
+    let outer = get_or codes place d in
+    let hefts = map unpacked (drop (suc place) codes) in
+    let mark : reverse (take (suc place) codes) ≡ outer ∷ reverse (take place codes) =
+    ap reverse (take-suc codes place d within)
+    ∙ reverse-append (take place codes) (outer ∷ []) in
+    all_passed (suc place) codes within
+    ∙ ap (λ l. slice (shown 0 l) hefts) mark
+    ∙ ap (λ n. slice (Mark ∷ shown (n - outer) (reverse (take place codes))) hefts)
+    (length-reverse (take place codes))
+
+abbrev taken_in : Result (Taken Heft) Breach → Taken Heft
+taken_in (Ok taken) = taken
+taken_in (Err breach) = record { operands = []; below = [] }
+
+pub objects_shown : (fence : ℕ) (codes : List ℕ) → fence ≤ length codes
+    → HasObjects (entries_of fence codes) (drop fence codes)
+objects_shown zero codes within taken is = cc (sym (all_passed zero codes within) ∙ is)
+objects_shown (suc place) codes within taken is =
+    ap (λ r. (taken_in r).operands) (sym is ∙ sliced place codes 0 within)
+
+slice_grows : (entries : List (Entry Heft)) (above : List Heft) (taken : Taken Heft)
+    → slice entries above ≡ Ok taken → length above ≤ length taken.operands
+slice_grows [] above taken is = cc
+slice_grows (Mark ∷ entries) above taken is =
+    let same : length above ≡ length taken.operands =
+    ap (λ r. length (taken_in r).operands) is in
+    omega (arith, same)
+slice_grows (Item item ∷ entries) above taken is =
+    omega (arith, slice_grows entries (item ∷ above) taken is)
+
+-- a slice without objects is a mark on top
+pub mark_on_top : (entries below : List (Entry Heft)) (hefts : List Heft)
+    → slice entries [] ≡ Ok (record { operands = hefts; below = below }) → length hefts ≡ 0
+    → entries ≡ Mark ∷ below
+mark_on_top [] below hefts is none = cc
+mark_on_top (Mark ∷ entries) below hefts is none = ap (λ r. Mark ∷ (taken_in r).below) is
+mark_on_top (Item item ∷ entries) below hefts is none =
+    absurd (omega (arith, none, slice_grows entries (item ∷ []) _ is))

@@ -1,114 +1,136 @@
-//! Takes operands from the stack.
+//! Takes slices from the stack, and sums up their objects.
 
-ghost use Rattle.std.specs.Prelude.{◌≡◌, ◌≤◌, [], List, IfOk, OnOk, None, suc};
-ghost use Rattle.pkstack.specs.Shape.{breaks, items, slice};
-ghost use Rattle.pkload.specs.Heft.{Heft};
-ghost use Rattle.pkload.specs.Private.Billing.{HasOperands, HasReceiver, HasTaken};
-ghost use Rattle.pkload.specs.Private.Billing.{HasPairs};
-ghost use Rattle.pkload.specs.Private.Gathered.{AreOf, IsTallied};
-ghost use Rattle.pkload.specs.declared.keying.Keying.{Keying as Keys};
-ghost use Rattle.pkload.specs.declared.tally.Tally.{Tally as Counted};
+ghost use Rattle.std.specs.List.{list_all};
+ghost use Rattle.std.specs.Prelude.{◌≡◌, IfOk, OnOk, map, suc, true};
+ghost use Rattle.pkstack.specs.Shape.{is_even};
+ghost use Rattle.pkload.specs.Keys.{every_other};
+ghost use Rattle.pkload.specs.Private.Billing.{HasKeys, HasPairs};
+ghost use Rattle.pkload.specs.Private.Gathered.{IsTied, is_light};
+ghost use Rattle.pkload.specs.Private.Packed.{unpacked};
+ghost use Rattle.pkload.specs.Tally.{with_keys};
 
 use crate::halt::Halt;
-use crate::operands::Operands;
+use crate::making::tied;
 use crate::packed::{LIGHT, LIGHT_SALTED, Packed};
-use crate::stack::{MARK, Stack};
+use crate::stack::Stack;
 use crate::tally::Tally;
-use pkstack::{SliceRule, Takes};
 
-/// Takes one more object, which may be a key.
-#[inline(always)]
-fn take_one(stack: &mut Stack, taken: &mut Operands) -> Result<(), Halt>
-    requires { taken.old.weights ≤ 1_048_575 }
-    ensures of { OnOk result ((keying : Keys) (tally : Counted) (above : List Heft)
-        → AreOf above taken.old → IsTallied keying tally above taken.old
-        → HasTaken keying tally (items 1 stack.old above) stack.new taken.new) }
-    ensures small { OnOk result (taken.new.weights ≤ 1_048_575) }
+/// Counts objects as keys. Most keys are small ints, of which only the others are numbered.
+fn count_items(codes: &[u32], tally: &mut Tally) -> Result<(), Halt>
+    ensures { OnOk result (tally.new ≡ with_keys tally.old (map unpacked codes.now)) }
 {
-    let Some(heft) = stack.pop_object() else {
+    let mut seen: u64 = 0;
+    let mut others: u64 = 0;
+    let mut salted: u64 = 0;
+    let mut place = codes.len();
+    'keys: while place > 0 {
+        place -= 1;
+        seen += 1;
+        let code = codes[place];
+        if code != LIGHT {
+            others += 1;
+            if code == LIGHT_SALTED {
+                salted += 1;
+            } else {
+                tally.add(Packed::from_code(code))?;
+            }
+        }
+    }
+    tally.add_lights(seen - others, salted)
+}
+
+/// Counts the first, the third and so on of an even number of objects as keys.
+fn count_pairs(codes: &[u32], tally: &mut Tally) -> Result<(), Halt>
+    ensures even { OnOk result (is_even (map unpacked codes.now) ≡ true) }
+    ensures counted { OnOk result (tally.new
+        ≡ with_keys tally.old (every_other (map unpacked codes.now))) }
+{
+    let mut seen: u64 = 0;
+    let mut others: u64 = 0;
+    let mut salted: u64 = 0;
+    let mut place = codes.len();
+    'pairs: while place > 1 {
+        place -= 2;
+        seen += 1;
+        let key = codes[place];
+        if key != LIGHT {
+            others += 1;
+            if key == LIGHT_SALTED {
+                salted += 1;
+            } else {
+                tally.add(Packed::from_code(key))?;
+            }
+        }
+    }
+    if place > 0 {
         return Err(Halt::Lost);
-    };
-    taken.add(heft)
-}
-
-/// Takes two more objects.
-#[inline(always)]
-fn take_two(stack: &mut Stack, taken: &mut Operands) -> Result<(), Halt>
-    requires { taken.old.weights ≤ 1_048_575 }
-    ensures of { OnOk result ((keying : Keys) (tally : Counted) (above : List Heft)
-        → AreOf above taken.old → IsTallied keying tally above taken.old
-        → HasTaken keying tally (items 2 stack.old above) stack.new taken.new) }
-    ensures small { OnOk result (taken.new.weights ≤ 1_048_575) }
-{
-    take_one(stack, taken)?;
-    take_one(stack, taken)
-}
-
-/// Takes the topmost objects, at most three.
-#[inline(always)]
-fn take_objects(stack: &mut Stack, count: u8, taken: &mut Operands) -> Result<(), Halt>
-    requires { taken.old.weights ≤ 1_048_575 }
-    ensures of { OnOk result ((keying : Keys) (tally : Counted)
-        → AreOf [] taken.old → IsTallied keying tally [] taken.old
-        → HasTaken keying tally (items count stack.old []) stack.new taken.new) }
-    ensures small { OnOk result (taken.new.weights ≤ 1_048_575) }
-{
-    match count {
-        0 => Ok(()),
-        1 => take_one(stack, taken),
-        2 => take_two(stack, taken),
-        3 => {
-            take_one(stack, taken)?;
-            take_two(stack, taken)
-        }
-        _ => Err(Halt::Lost),
     }
+    tally.add_lights(seen - others, salted)
 }
 
-/// Takes the objects above the topmost mark, and the mark.
+/// Takes the objects above the topmost mark, and the mark, and counts them as keys. Returns their
+/// number.
 #[inline(always)]
-pub fn take_slice(stack: &mut Stack, taken: &mut Operands) -> Result<(), Halt>
-    requires { taken.old.weights ≤ 1_048_575 }
-    ensures of { OnOk result ((keying : Keys) (tally : Counted)
-        → AreOf [] taken.old → IsTallied keying tally [] taken.old
-        → HasTaken keying tally (slice stack.old []) stack.new taken.new) }
-    ensures small { OnOk result (taken.new.weights ≤ 1_048_575) }
+pub fn take_items(stack: &mut Stack, tally: &mut Tally) -> Result<u64, Halt>
+    ensures { IfOk result (HasKeys stack.old stack.new tally.old tally.new) }
 {
-    'objects: while let Some(code) = stack.pop() {
-        if code == MARK {
-            return Ok(());
-        }
-        taken.add(Packed::from_code(code))?;
-    }
-    Err(Halt::Lost)
+    count_items(stack.objects(), tally)?;
+    stack.drop_slice()
 }
 
 /// Takes the keys and values above the topmost mark, and the mark, and counts the keys. Returns
-/// the number of keys and values. Most keys are small ints or short texts, which are only numbered.
+/// the number of keys and values.
 #[inline(always)]
 pub fn take_pairs(stack: &mut Stack, tally: &mut Tally) -> Result<u64, Halt>
     ensures { IfOk result (HasPairs stack.old stack.new tally.old tally.new) }
 {
-    let before = stack.len();
-    let mut plain: u64 = 0;
-    let mut salted: u64 = 0;
-    'pairs: while let Some(code) = stack.pop() {
-        if code == MARK {
-            tally.add_lights(plain, salted)?;
-            return Ok((before - stack.len() - 1) as u64);
-        }
-        let Some(key) = stack.pop_object() else {
-            return Err(Halt::Lost);
-        };
-        if key.code() == LIGHT {
-            plain += 1;
-        } else if key.code() == LIGHT_SALTED {
-            salted += 1;
-        } else {
-            tally.add(key)?;
-        }
+    count_pairs(stack.objects(), tally)?;
+    stack.drop_slice()
+}
+
+/// Whether each weighs one and isn't deep.
+#[inline(always)]
+fn are_light(codes: &[u32]) -> bool
+    ensures { result ≡ list_all is_light codes.now }
+{
+    codes
+        .iter()
+        .all(|code| *code == LIGHT || *code == LIGHT_SALTED)
+}
+
+/// What a tuple of these objects costs. Most tuples are of small ints and short texts.
+#[inline(always)]
+#[tactic(auto, using(crate::proofs::Lights::light_weights, crate::proofs::Lights::light_depths))]
+pub fn tied_all(codes: &[u32]) -> Result<Packed, Halt>
+    ensures { IfOk result (IsTied (map unpacked codes.now)) }
+{
+    if are_light(codes) {
+        return Ok(tied(codes.len().min(1_048_575) as u32, 0));
     }
-    Err(Halt::Lost)
+    tied_slowly(codes)
+}
+
+/// So few objects that the sum of their weights fits 64 bits, and more than there is memory for.
+const MOST_ITEMS: u64 = 17_592_186_044_415;
+
+/// What a tuple of any objects costs.
+#[inline(never)]
+fn tied_slowly(codes: &[u32]) -> Result<Packed, Halt>
+    ensures { IfOk result (IsTied (map unpacked codes.now)) }
+{
+    if codes.len() as u64 > MOST_ITEMS {
+        return Err(Halt::Lost);
+    }
+    let mut held: u64 = 0;
+    let mut deepest: u32 = 0;
+    let mut place = codes.len();
+    'items: while place > 0 {
+        place -= 1;
+        let heft = Packed::from_code(codes[place]);
+        held += u64::from(heft.weight());
+        deepest = deepest.max(heft.depth());
+    }
+    Ok(tied(held.min(1_048_575) as u32, deepest))
 }
 
 /// So many objects, and one more.
@@ -120,59 +142,4 @@ pub fn with_receiver(count: u64) -> Result<u64, Halt>
         return Err(Halt::Lost);
     }
     Ok(count + 1)
-}
-
-/// Takes the receiver of a slice.
-#[inline(always)]
-fn take_receiver(stack: &mut Stack, taken: &mut Operands) -> Result<(), Halt>
-    requires { taken.old.weights ≤ 1_048_575 }
-    ensures of { OnOk result ((above : List Heft) → AreOf above taken.old
-        → HasReceiver (items 1 stack.old above) stack.new taken.new) }
-    ensures tally { OnOk result (taken.new.tally ≡ taken.old.tally) }
-    ensures small { OnOk result (taken.new.weights ≤ 1_048_575) }
-{
-    let Some(heft) = stack.pop_object() else {
-        return Err(Halt::Lost);
-    };
-    taken.receive(heft)
-}
-
-/// Whether a slice obeys its rule.
-#[inline(always)]
-fn obeys(rule: SliceRule, taken: &Operands) -> Result<(), Halt>
-    ensures { OnOk result ((hefts : List Heft) → AreOf hefts taken.now
-        → breaks rule hefts ≡ None) }
-{
-    let is_broken = match rule {
-        SliceRule::AnySlice => false,
-        SliceRule::EvenSlice => !taken.is_even,
-        SliceRule::FullSlice => taken.is_empty,
-    };
-    if is_broken {
-        return Err(Halt::Lost);
-    }
-    Ok(())
-}
-
-/// Takes the operands of an operation, behind none.
-#[inline(always)]
-pub fn take(stack: &mut Stack, takes: Takes, taken: &mut Operands) -> Result<(), Halt>
-    requires { taken.old.weights ≤ 1_048_575 }
-    ensures of { OnOk result ((keying : Keys) (tally : Counted)
-        → AreOf [] taken.old → IsTallied keying tally [] taken.old
-        → HasOperands keying tally takes stack.old stack.new taken.new) }
-    ensures small { OnOk result (taken.new.weights ≤ 1_048_575) }
-{
-    match takes {
-        Takes::Objects(count) => take_objects(stack, count, taken),
-        Takes::Slice(rule) => {
-            take_slice(stack, taken)?;
-            obeys(rule, taken)
-        }
-        Takes::SliceAndReceiver(rule) => {
-            take_slice(stack, taken)?;
-            obeys(rule, taken)?;
-            take_receiver(stack, taken)
-        }
-    }
 }

@@ -1,26 +1,24 @@
 //! The machine that keeps the bill.
 
-ghost use Rattle.std.specs.Prelude.{◌≡◌, [], IfOk, Ok, OnOk, false, true};
+ghost use Rattle.std.specs.Prelude.{◌≡◌, IfOk, Ok, OnOk, false, true};
 ghost use Rattle.pkops.specs.Inst.{instruction_of};
 ghost use Rattle.pkmachine.specs.Effects.{effect_of};
 ghost use Rattle.pkcheck.specs.Reports.{Skipped};
 ghost use Rattle.pkstack.specs.Shape.{top};
-ghost use Rattle.pkload.specs.Bill.{billed, billed_by, no_bill, stop_billed};
-ghost use Rattle.pkload.specs.Heft.{heft_of};
-ghost use Rattle.pkload.specs.Memory.{operation_memory};
-ghost use Rattle.pkload.specs.Private.Billing.{IfBilled, IsQuiet, by_move, light, pushed};
+ghost use Rattle.pkload.specs.Bill.{billed, no_bill, stop_billed};
+ghost use Rattle.pkload.specs.Private.Billing.{IfBilled, IsQuiet, by_move, moved_by};
+ghost use Rattle.pkload.specs.Private.Billing.{moved_in, pushed};
 ghost use Rattle.pkload.specs.Private.Told.{next_in, told_billed};
 
+mod answering;
 mod operating;
+mod reading;
+mod slicing;
 
-use crate::action::{Action, action_of, rare_action_of};
+use crate::action::{Action, action_of};
 use crate::halt::{Billing, Halt};
-use crate::making::made_plain;
 use crate::memo::Memo;
-use crate::memory::{
-    after_move, after_reading, after_skipped, after_stop, argument_bytes, bytes_before,
-    number_kept, plus,
-};
+use crate::memory::{after_move, after_stop, argument_bytes, number_kept, plus};
 use crate::moves::apply;
 use crate::packed::{LIGHT, Packed};
 use crate::stack::Stack;
@@ -123,29 +121,19 @@ impl Machine {
         self.ended = false;
     }
 
-    /// Pushes a new object that weighs one and takes this much memory. Returns false.
+    /// Pushes a new object, which costs this as a key and takes this much memory. Returns false.
     #[inline(always)]
-    fn make(&mut self, more: u64) -> Result<bool, Halt>
-        ensures { OnOk result (self.new ≡ pushed light more self.old) }
+    fn make(&mut self, heft: Packed, more: u64) -> Result<bool, Halt>
+        ensures { OnOk result (self.new ≡ pushed heft more self.old) }
     {
-        self.stack.push(Packed::new(1, 0, false, false))?;
+        // In this order, nothing but the number of entries is kept over a call for more room.
         self.memory = plus(self.memory, more)?;
-        Ok(false)
-    }
-
-    /// Pushes a new object that is made of the argument. Returns false.
-    fn read(&mut self, inst: &Inst<'_>) -> Result<bool, Halt>
-        ensures { OnOk result (self.new ≡ pushed (heft_of (instruction_of inst.now) [])
-            (operation_memory (instruction_of inst.now) 0) self.old) }
-    {
-        let op = inst.op();
-        let bytes = argument_bytes(inst);
-        self.memory = after_reading(op, bytes, self.memory)?;
-        self.stack.push(made_plain(op, bytes.len() as u64))?;
+        self.stack.push(heft)?;
         Ok(false)
     }
 
     /// Takes the result. Returns true, since it ends the pickle.
+    #[inline(never)]
     fn finish(&mut self) -> Result<bool, Halt>
         ensures ends { IfOk result (λ noted. noted ≡ true) }
         ensures billed { OnOk result (stop_billed self.old (top self.old.shape.entries)
@@ -159,14 +147,12 @@ impl Machine {
         Ok(true)
     }
 
-    /// Executes a move. Returns false.
+    /// Executes a move that may name this number. Returns false.
     #[inline(always)]
-    fn go(&mut self, what: Move, inst: &Inst<'_>) -> Result<bool, Halt>
-        ensures billed { OnOk result (by_move what (instruction_of inst.now) self.old
-            ≡ Ok self.new) }
+    fn go(&mut self, what: Move, number: u32) -> Result<bool, Halt>
+        ensures billed { OnOk result (moved_by what number self.old ≡ Ok self.new) }
         ensures quiet { OnOk result (IsQuiet self.old self.new) }
     {
-        let number = inst.memo_number().unwrap_or(0);
         let kept = number_kept(what, number, &self.memo)?;
         apply(&mut self.stack, &mut self.memo, what, number)?;
         let highest = kept.max(self.highest);
@@ -175,24 +161,53 @@ impl Machine {
         Ok(false)
     }
 
-    /// Bills an instruction with this opcode and so many bytes, whose payload is skipped.
-    pub fn step_skipped(&mut self, op: Op, count: u64) -> Result<(), Halt>
-        ensures billed { OnOk result (told_billed (Skipped op count) self.old ≡ Ok self.new) }
-        ensures tally { OnOk result (self.new.tally ≡ self.old.tally) }
+    /// Executes a move that names a number. Returns false.
+    #[inline(always)]
+    fn go_to(&mut self, what: Move, inst: &Inst<'_>) -> Result<bool, Halt>
+        ensures billed { OnOk result (by_move what (instruction_of inst.now) self.old
+            ≡ Ok self.new) }
+        ensures quiet { OnOk result (IsQuiet self.old self.new) }
     {
-        if self.ended {
-            return Err(Halt::Lost);
+        self.go(what, inst.memo_number().unwrap_or(0))
+    }
+
+    /// Executes the move of an opcode that is rare. Returns false.
+    #[inline(never)]
+    fn go_rarely(&mut self, op: Op) -> Result<bool, Halt>
+        ensures billed { OnOk result (moved_in (effect_of op) self.old ≡ Ok self.new) }
+        ensures quiet { OnOk result (IsQuiet self.old self.new) }
+    {
+        match op {
+            Op::Pop => self.go(Move::Pops, 0),
+            Op::PopMark => self.go(Move::PopsMark, 0),
+            Op::Dup => self.go(Move::Duplicates, 0),
+            Op::Proto | Op::Frame => self.go(Move::Passes, 0),
+            _ => Err(Halt::Lost),
         }
-        let size = count.saturating_sub(bytes_before(op));
-        self.memory = after_skipped(op, size, self.memory)?;
-        self.stack.push(made_plain(op, size))
+    }
+
+    /// Bills an instruction with this opcode and so many bytes, whose payload is skipped. Nothing
+    /// is told of an opcode without a payload of plain bytes.
+    #[inline(always)]
+    pub fn step_skipped(&mut self, op: Op, count: u64) -> Billing
+        requires running { self.old.ended ≡ false }
+        ensures billed { IfBilled result (told_billed (Skipped op count) self.old ≡ Ok self.new) }
+        ensures quiet { IfBilled result (IsQuiet self.old self.new) }
+    {
+        match op {
+            Op::ShortBinBytes => Billing::of(self.hold(count.saturating_sub(2))),
+            Op::BinBytes => Billing::of(self.hold(count.saturating_sub(5))),
+            Op::BinBytes8 => Billing::of(self.hold(count.saturating_sub(9))),
+            Op::ByteArray8 => Billing::of(self.hold_array(count.saturating_sub(9))),
+            _ => Billing::Failed,
+        }
     }
 
     /// Does what the opcode of an instruction says.
     ///
     /// What is rare is out of line, and so are most operations: in a function that would grow large
-    /// the compiler inlines nothing. It takes a copy of the instruction, since passing the address
-    /// of the original would force that into memory in every step.
+    /// the compiler inlines nothing. No address of the instruction is passed on, since that would
+    /// force it into memory in every step.
     #[inline(always)]
     pub fn step(&mut self, inst: &Inst<'_>) -> Billing
         requires running { self.old.ended ≡ false }
@@ -201,40 +216,27 @@ impl Machine {
         ensures quiet { result ≡ Billing.Plain → IsQuiet self.old self.new }
     {
         match action_of(inst.op()) {
-            Action::Makes(more) => Billing::of(self.make(more)),
-            Action::Fetches => Billing::of(self.go(Move::Fetches, inst)),
-            Action::StoresNext => Billing::of(self.go(Move::StoresNext, inst)),
-            Action::Stores => Billing::of(self.go(Move::Stores, inst)),
-            Action::Marks => Billing::of(self.go(Move::PushesMark, inst)),
+            Action::Makes(more) => { Billing::of(self.make(Packed::new(1, 0, false, false), more)) }
+            Action::MakesTuple => Billing::of(self.make(Packed::new(1, 1, false, false), 16)),
+            Action::Fetches => Billing::of(self.go_to(Move::Fetches, inst)),
+            Action::StoresNext => Billing::of(self.go(Move::StoresNext, 0)),
+            Action::Stores => Billing::of(self.go_to(Move::Stores, inst)),
+            Action::Marks => Billing::of(self.go(Move::PushesMark, 0)),
             Action::Texts => Billing::of(self.read_text(argument_bytes(inst))),
             Action::TiesOne => Billing::of(self.tie_one()),
             Action::TiesTwo => Billing::of(self.tie_two()),
             Action::TiesThree => Billing::of(self.tie_three()),
             Action::Appends => Billing::of(self.append()),
             Action::AppendsSlice => Billing::of(self.append_slice()),
+            Action::AddsSlice => Billing::of(self.add_slice()),
+            Action::TiesSlice => Billing::of(self.tie_slice()),
+            Action::FreezesSlice => Billing::of(self.freeze_slice()),
             Action::Sets => Billing::of(self.set()),
             Action::SetsSlice => Billing::of(self.set_slice()),
-            _ => {
-                let copy = Inst::known(inst.op(), inst.arg());
-                Billing::of(self.act_rarely(&copy))
-            }
-        }
-    }
-
-    /// Does what a rare opcode says. Returns whether it may have counted keys or ended the pickle.
-    #[inline(never)]
-    fn act_rarely(&mut self, inst: &Inst<'_>) -> Result<bool, Halt>
-        ensures billed { OnOk result (billed_by (effect_of (instruction_of inst.now).op)
-            (instruction_of inst.now) self.old ≡ Ok self.new) }
-        ensures quiet { IfOk result (λ noted. noted ≡ false → IsQuiet self.old self.new) }
-    {
-        match rare_action_of(inst.op()) {
-            Action::Gives(takes) => self.operate(inst.op(), takes, false),
-            Action::Leaves(takes) => self.operate(inst.op(), takes, true),
-            Action::Reads => self.read(inst),
-            Action::Moves(what) => self.go(what, inst),
-            Action::Stops => self.finish(),
-            _ => Err(Halt::Lost),
+            Action::Operates => Billing::of(self.operate(inst.op())),
+            Action::Reads => Billing::of(self.read(inst.op(), argument_bytes(inst))),
+            Action::Moves => Billing::of(self.go_rarely(inst.op())),
+            Action::Stops => Billing::of(self.finish()),
         }
     }
 }

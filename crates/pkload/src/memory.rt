@@ -7,19 +7,15 @@ ghost use Rattle.pkstack.specs.Shape.{Entry};
 ghost use Rattle.pkload.specs.Heft.{Heft};
 ghost use Rattle.pkload.specs.Memory.{argument_bytes, begins_character, character_width};
 ghost use Rattle.pkload.specs.Memory.{held_memory, line_memory, move_memory, number_kept};
-ghost use Rattle.pkload.specs.Memory.{operation_memory, plain_memory, set_memory, text_memory};
-ghost use Rattle.pkload.specs.Memory.{written_memory};
-ghost use Rattle.pkload.specs.Private.Billing.{bare_memory, reading_memory};
-ghost use Rattle.pkload.specs.Private.Told.{bytes_before, skipped_memory};
+ghost use Rattle.pkload.specs.Memory.{set_memory, text_memory};
 
 use crate::halt::Halt;
 use crate::memo::{self, Memo};
-use pkops::lengths::{count_width, head_length};
-use pkops::{Arg, Inst, Op, Width, is_ascii, spells_itself};
+use pkops::{Arg, Inst, Op, is_ascii, spells_itself};
 use pkstack::Move;
 
 /// So much more than any memory that sums of some of them fit 64 bits.
-const MOST: u64 = 1_125_899_906_842_624;
+pub const MOST: u64 = 1_125_899_906_842_624;
 
 /// The sum, if it fits.
 #[inline]
@@ -89,7 +85,7 @@ fn wide_memory(bytes: &[u8]) -> u64
 }
 
 /// The memory of a line of UNICODE, at most.
-fn line_memory(line: &[u8]) -> u64
+pub fn line_memory(line: &[u8]) -> u64
     requires { length line.now ≤ 1_125_899_906_842_624 }
     ensures value { result ≡ line_memory line.now }
     ensures small { result ≤ 9_007_199_254_740_992 }
@@ -99,39 +95,6 @@ fn line_memory(line: &[u8]) -> u64
         return 64 + size;
     }
     88 + 4 * size
-}
-
-/// The memory of the text that an opcode makes of some bytes, if it makes one.
-fn written_memory(op: Op, bytes: &[u8]) -> u64
-    requires { length bytes.now ≤ 1_125_899_906_842_624 }
-    ensures value { result ≡ written_memory op bytes.now }
-    ensures small { result ≤ 9_007_199_254_740_992 }
-{
-    match op {
-        Op::Unicode => line_memory(bytes),
-        Op::ShortBinUnicode | Op::BinUnicode | Op::BinUnicode8 => text_memory(bytes),
-        _ => 0,
-    }
-}
-
-/// The memory of an object without operands.
-fn plain_memory(op: Op, size: u64) -> u64
-    requires { size ≤ 1_125_899_906_842_624 }
-    ensures value { result ≡ plain_memory op size }
-    ensures small { result ≤ 9_007_199_254_740_992 }
-{
-    match op {
-        Op::BinInt | Op::BinInt2 | Op::Float | Op::BinFloat => 32,
-        Op::Int | Op::Long => 32 + size / 2,
-        Op::Long1 | Op::Long4 => 32 + size * 8 / 7,
-        Op::String | Op::BinString | Op::ShortBinString => 64 + size,
-        Op::BinBytes | Op::ShortBinBytes | Op::BinBytes8 => 64 + size,
-        Op::ByteArray8 => 96 + size,
-        Op::EmptyList | Op::EmptyDict => 80,
-        Op::EmptySet => 240,
-        Op::ReadonlyBuffer => 480,
-        _ => 0,
-    }
 }
 
 /// The memory of a set's table.
@@ -183,26 +146,12 @@ pub fn argument_bytes<'a>(inst: &'a Inst<'_>) -> &'a [u8]
 /// The memory after an operation on so many objects.
 #[inline]
 pub fn after_operation(op: Op, count: u64, memory: u64) -> Result<u64, Halt>
-    ensures { IfOk result (λ sum. sum ≡ memory + bare_memory op count) }
+    ensures { IfOk result (λ sum. sum ≡ memory + (16 + held_memory op count)) }
 {
     if count > MOST {
         return Err(Halt::Lost);
     }
-    plus(memory, 16 + (plain_memory(op, 0) + held_memory(op, count)))
-}
-
-/// The memory after an instruction that makes an object of these bytes.
-pub fn after_reading(op: Op, bytes: &[u8], memory: u64) -> Result<u64, Halt>
-    ensures { IfOk result (λ sum. sum ≡ memory + reading_memory op bytes.now) }
-{
-    let size = bytes.len() as u64;
-    if size > MOST {
-        return Err(Halt::Lost);
-    }
-    let own = plain_memory(op, size);
-    let held = held_memory(op, 0);
-    let written = written_memory(op, bytes);
-    plus(memory, 16 + (own + (held + written)))
+    plus(memory, 16 + held_memory(op, count))
 }
 
 /// The memory after an instruction that makes a text of these bytes.
@@ -242,38 +191,12 @@ pub fn number_kept(what: Move, number: u32, memo: &Memo) -> Result<u32, Halt>
 pub fn after_move(what: Move, grown: u32, memory: u64) -> Result<u64, Halt>
     ensures { IfOk result (λ sum. sum ≡ memory + move_memory what grown) }
 {
-    let more = match what {
-        Move::PushesMark => 32,
-        Move::Stores | Move::StoresNext => 32 + 16 * u64::from(grown),
-        _ => 16,
-    };
-    plus(memory, more)
-}
-
-/// The bytes of an instruction with a payload that may be skipped, before its payload. Nothing is
-/// told of another opcode: it counts as one with a count of eight bytes.
-#[inline]
-pub fn bytes_before(op: Op) -> u64
-    ensures { result ≡ bytes_before op }
-{
-    let width = if op.passed() {
-        count_width(op)
-    } else {
-        Width::Eight
-    };
-    head_length(width) as u64
-}
-
-/// The memory after an instruction that makes an object of a payload of this size.
-#[inline]
-pub fn after_skipped(op: Op, size: u64, memory: u64) -> Result<u64, Halt>
-    ensures { IfOk result (λ sum. sum ≡ memory + skipped_memory op size) }
-{
-    if size > MOST {
-        return Err(Halt::Lost);
+    match what {
+        Move::PushesMark => plus(memory, 32),
+        Move::Stores | Move::StoresNext => {
+            let all = plus(memory, 32)?;
+            plus(all, 16 * u64::from(grown))
+        }
+        _ => plus(memory, 16),
     }
-    plus(
-        memory,
-        16 + (plain_memory(op, size) + (held_memory(op, 0) + 0)),
-    )
 }

@@ -1,9 +1,9 @@
 //! The audience that keeps the bill.
 
 ghost use Rattle.std.specs.Prelude.{◌≡◌, ◌∷◌, [], ℕ, IfErr, MatchOption, None, OnOk, Some};
-ghost use Rattle.std.specs.Prelude.{false, ltb};
+ghost use Rattle.std.specs.Prelude.{false, ltb, true};
 ghost use Rattle.pkops.specs.Inst.{instruction_of};
-ghost use Rattle.pkcheck.specs.Reports.{Whole, report};
+ghost use Rattle.pkcheck.specs.Reports.{Skipped, Whole, report};
 ghost use Rattle.pkload.specs.Bill.{no_bill};
 ghost use Rattle.pkload.specs.Private.Billing.{IfBilled};
 ghost use Rattle.pkload.specs.Private.Meter.{Fits, IsUnlimited, Meters, StopsFor};
@@ -120,6 +120,22 @@ impl Meter {
         Ok(())
     }
 
+    /// Tells of an instruction whose payload is skipped, where the meter pauses.
+    #[inline(never)]
+    fn tell_skipped_at_pause(&mut self, at: u64, op: Op, length: u64) -> Result<(), Excess>
+        ensures ok { (marks : ℕ) → OnOk result (Meters self.old self.new
+            (report at (Skipped op length) marks ∷ [])) }
+        ensures err { IfErr result (StopsFor self.old self.new) }
+    {
+        if let Some(excess) = self.excess {
+            return Err(excess);
+        }
+        let billing = self.metering.bill_skipped(self.memo, op, length);
+        self.at = at;
+        self.excess = excess_of(&self.tolls, &self.metering, billing, &mut self.pausing);
+        Ok(())
+    }
+
     /// The number of the pickle that the instruction is in.
     pub fn pickle(&self) -> u64
         ensures { result ≡ self.now.metering.pickle }
@@ -182,6 +198,18 @@ fn takes_too_much(tolls: &Tolls, metering: &Metering) -> bool
     metering.memory() > tolls.memory
 }
 
+/// Whether no limit is exceeded, and the pickle goes on.
+#[inline(always)]
+fn goes_on(tolls: &Tolls, metering: &Metering) -> bool
+    ensures fits { result ≡ true → Fits tolls.now metering.now }
+    ensures ended { result ≡ true → metering.now.bill.ended ≡ false }
+{
+    !metering.ended()
+        && tolls
+            .excess_of(&metering.tally(), metering.memory())
+            .is_none()
+}
+
 impl Audience for Meter {
     type Error = Excess;
 
@@ -205,23 +233,39 @@ impl Audience for Meter {
             return self.tell_copy(at, inst);
         }
         let billing = self.metering.bill_next(inst);
+        // With a constant in place of `billing`, no register is kept for it.
+        if billing == Billing::Failed {
+            self.at = at;
+            self.excess = Some(Excess::OutOfMemory);
+            self.pausing = true;
+            return Ok(());
+        }
+        if billing == Billing::Plain && !takes_too_much(&self.tolls, &self.metering) {
+            return Ok(());
+        }
+        if billing == Billing::Noted && goes_on(&self.tolls, &self.metering) {
+            return Ok(());
+        }
+        self.at = at;
+        self.excess = excess_of(
+            &self.tolls,
+            &self.metering,
+            Billing::Noted,
+            &mut self.pausing,
+        );
+        Ok(())
+    }
+
+    #[inline(never)]
+    fn tell_skipped(&mut self, at: u64, op: Op, length: u64, _marks: usize) -> Result<(), Excess> {
+        if self.pausing {
+            return self.tell_skipped_at_pause(at, op, length);
+        }
+        let billing = self.metering.bill_next_skipped(op, length);
         if billing != Billing::Plain || takes_too_much(&self.tolls, &self.metering) {
             self.at = at;
             self.excess = excess_of(&self.tolls, &self.metering, billing, &mut self.pausing);
         }
-        Ok(())
-    }
-
-    fn tell_skipped(&mut self, at: u64, op: Op, length: u64, _marks: usize) -> Result<(), Excess> {
-        if let Some(excess) = self.excess {
-            return Err(excess);
-        }
-        let billing = match self.metering.bill_skipped(self.memo, op, length) {
-            Ok(()) => Billing::Noted,
-            Err(_) => Billing::Failed,
-        };
-        self.at = at;
-        self.excess = excess_of(&self.tolls, &self.metering, billing, &mut self.pausing);
         Ok(())
     }
 

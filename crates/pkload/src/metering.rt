@@ -127,13 +127,25 @@ impl Metering {
         self.machine.step(inst)
     }
 
-    /// Bills an instruction whose payload is skipped, which counts no key.
-    pub fn bill_skipped(&mut self, memo: Memo, op: Op, count: u64) -> Result<(), Halt>
-        ensures billed { OnOk result (metered_told memo (Skipped op count) self.old
+    /// Bills an instruction whose payload is skipped.
+    pub fn bill_skipped(&mut self, memo: Memo, op: Op, count: u64) -> Billing
+        ensures billed { IfBilled result (metered_told memo (Skipped op count) self.old
             ≡ Ok self.new) }
-        ensures tally { OnOk result (self.new.bill.tally ≡ (ready memo self.old).bill.tally) }
     {
-        self.begin(memo)?;
+        let Ok(()) = self.begin(memo) else {
+            return Billing::Failed;
+        };
+        self.machine.step_skipped(op, count)
+    }
+
+    /// Bills an instruction whose payload is skipped, of a pickle that hasn't ended.
+    #[inline(always)]
+    pub fn bill_next_skipped(&mut self, op: Op, count: u64) -> Billing
+        requires running { self.old.bill.ended ≡ false }
+        ensures billed { (memo : Between) → IfBilled result
+            (metered_told memo (Skipped op count) self.old ≡ Ok self.new) }
+        ensures quiet { result ≡ Billing.Plain → IsQuiet self.old.bill self.new.bill }
+    {
         self.machine.step_skipped(op, count)
     }
 }

@@ -3,13 +3,9 @@
 ghost use Rattle.std.specs.Prelude.{◌≡◌, OnOk, Ok};
 ghost use Rattle.pkstack.specs.Shape.{moved};
 
-use crate::gathering::take_slice;
 use crate::halt::Halt;
-use crate::keying::Keying;
 use crate::memo::{self, Memo};
-use crate::operands::Operands;
 use crate::stack::Stack;
-use crate::tally::Tally;
 use pkstack::Move;
 
 /// Removes the topmost entry.
@@ -18,10 +14,7 @@ fn pop(stack: &mut Stack, memo: &Memo) -> Result<(), Halt>
         (moved Move.Pops 0 (record { entries = stack.old; memo = memo.now })
         ≡ Ok (record { entries = stack.new; memo = memo.now })) }
 {
-    match stack.pop() {
-        Some(_code) => Ok(()),
-        None => Err(Halt::Lost),
-    }
+    stack.pop()
 }
 
 /// Removes the topmost mark and everything above it.
@@ -30,8 +23,8 @@ fn pop_mark(stack: &mut Stack, memo: &Memo) -> Result<(), Halt>
         (moved Move.PopsMark 0 (record { entries = stack.old; memo = memo.now })
         ≡ Ok (record { entries = stack.new; memo = memo.now })) }
 {
-    let mut above = Operands::none(Keying::Nothing, Tally::new());
-    take_slice(stack, &mut above)
+    let _count = stack.drop_slice()?;
+    Ok(())
 }
 
 /// Pushes the top again.

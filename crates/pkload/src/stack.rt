@@ -1,12 +1,10 @@
 //! The stack: marks, and what objects cost.
 
-ghost use Rattle.std.specs.Prelude.{◌≡◌, [], ◌∷◌, List, length, IfOk, IfSome, MatchOption};
-ghost use Rattle.std.specs.Prelude.{OnOk};
-ghost use Rattle.pkstack.specs.Shape.{Entry, Item, Mark};
+ghost use Rattle.std.specs.Prelude.{◌≡◌, [], ◌∷◌, List, IfOk, IfSome, OnOk};
+ghost use Rattle.pkstack.specs.Shape.{Entry, Item, Mark, items};
 ghost use Rattle.pkload.specs.Heft.{Heft};
-ghost use Rattle.pkload.specs.Private.Billing.{HasSlice};
-ghost use Rattle.pkload.specs.Private.Shown.{HasSliceAt, PassesObjects, entry_of, is_object};
-ghost use Rattle.std.specs.List.{list_all};
+ghost use Rattle.pkload.specs.Private.Billing.{HasItems, HasReplaced, HasSlice};
+ghost use Rattle.pkload.specs.Private.Shown.{HasObjects};
 
 use crate::halt::Halt;
 use crate::packed::Packed;
@@ -16,27 +14,32 @@ use std::marker::Model;
 
 /// The stack, with four bytes for each entry. The last one is on top.
 pub struct Stack {
+    /// The code of each object, and for each mark the fence before it was pushed.
     codes: StackVec<u32>,
+    /// The number of entries up to the topmost mark, with it; 0 if there is none.
+    fence: u32,
 }
-
-/// The code of a mark: that of an imported object whose hash isn't salted, which doesn't exist.
-pub const MARK: u32 = 2;
 
 impl Drop for Stack {
     fn drop(self) {
-        let Stack { codes: _codes } = self;
+        let Stack {
+            codes: _codes,
+            fence: _fence,
+        } = self;
     }
 }
 
 impl Model for Stack {
-    ghost use Rattle.std.specs.Prelude.{List, []};
+    ghost use Rattle.std.specs.Prelude.{List, ◌≤◌, length};
     ghost use Rattle.pkstack.specs.Shape.{Entry};
     ghost use Rattle.pkload.specs.Heft.{Heft};
-    ghost use Rattle.pkload.specs.Private.Shown.{shown};
+    ghost use Rattle.pkload.specs.Private.Shown.{entries_of};
 
     ghost Value = { List (Entry Heft) };
 
-    ghost view = { λ s. shown s.codes [] };
+    ghost view = { λ s. entries_of s.fence s.codes };
+
+    ghost invariant = { λ s. s.fence ≤ length s.codes };
 }
 
 impl Stack {
@@ -45,16 +48,9 @@ impl Stack {
         ensures { result ≡ [] }
     {
         Stack {
-            codes: StackVec::new(alloc, MARK),
+            codes: StackVec::new(alloc, 0),
+            fence: 0,
         }
-    }
-
-    /// The number of entries.
-    #[inline(always)]
-    pub fn len(&self) -> usize
-        ensures { result ≡ length self.now }
-    {
-        self.codes.len()
     }
 
     /// Removes all entries.
@@ -62,47 +58,35 @@ impl Stack {
         ensures { self.new ≡ [] }
     {
         self.codes.clear();
-    }
-
-    /// Pushes a code. Not `inline(always)`, which would count as part of `Machine::step`: that must
-    /// stay small enough to be inlined itself.
-    #[inline]
-    #[tactic(auto, using(crate::proofs::Slots::shown_append))]
-    fn push_code(&mut self, code: u32) -> Result<(), Halt>
-        ensures { OnOk result (self.new ≡ entry_of code ∷ self.old) }
-    {
-        match self.codes.push(code) {
-            Ok(()) => Ok(()),
-            Err(_) => Err(Halt::OutOfMemory),
-        }
+        self.fence = 0;
     }
 
     /// Pushes a mark.
-    #[inline(always)]
+    #[inline]
     pub fn push_mark(&mut self) -> Result<(), Halt>
         ensures { OnOk result (self.new ≡ Mark ∷ self.old) }
     {
-        self.push_code(MARK)
+        let count = self.codes.len();
+        if count >= u32::MAX as usize {
+            return Err(Halt::OutOfMemory);
+        }
+        let Ok(()) = self.codes.push(self.fence) else {
+            return Err(Halt::OutOfMemory);
+        };
+        self.fence = count as u32 + 1;
+        Ok(())
     }
 
-    /// Pushes an object.
-    #[inline(always)]
+    /// Pushes an object. Not `inline(always)`, which would count as part of `Machine::step`: that
+    /// must stay small enough to be inlined itself.
+    #[inline]
     pub fn push(&mut self, heft: Packed) -> Result<(), Halt>
         ensures { OnOk result (self.new ≡ Item heft ∷ self.old) }
     {
-        let code = heft.code();
-        if code == MARK {
-            return Err(Halt::Lost);
-        }
-        self.push_code(code)
-    }
-
-    /// Removes the topmost entry, and returns its code.
-    #[inline(always)]
-    pub fn pop(&mut self) -> Option<u32>
-        ensures { MatchOption result (self.old ≡ []) (λ code. self.old ≡ entry_of code ∷ self.new) }
-    {
-        self.codes.pop()
+        let Ok(()) = self.codes.push(heft.code()) else {
+            return Err(Halt::OutOfMemory);
+        };
+        Ok(())
     }
 
     /// The topmost entry, which must be an object.
@@ -112,42 +96,24 @@ impl Stack {
             × (self.now ≡ Item heft ∷ below)) }
     {
         let count = self.codes.len();
-        if count == 0 {
+        if count <= self.fence as usize {
             return None;
         }
-        let code = self.codes.entries()[count - 1];
-        if code == MARK {
-            return None;
-        }
-        Some(Packed::from_code(code))
+        Some(Packed::from_code(self.codes.entries()[count - 1]))
     }
 
-    /// Puts an object in place of the topmost entry.
+    /// Puts an object in place of the topmost entry, which must be an object.
     #[inline(always)]
     pub fn replace(&mut self, heft: Packed) -> Result<(), Halt>
         ensures { OnOk result ((entry : Entry Heft) (below : List (Entry Heft))
             → self.old ≡ entry ∷ below → self.new ≡ Item heft ∷ below) }
     {
-        let code = heft.code();
         let count = self.codes.len();
-        if code == MARK || count == 0 {
+        if count <= self.fence as usize {
             return Err(Halt::Lost);
         }
-        self.codes.set(count - 1, code);
+        self.codes.set(count - 1, heft.code());
         Ok(())
-    }
-
-    /// Removes the objects above the topmost mark, and the mark. Returns the number of the objects.
-    #[inline(always)]
-    pub fn drop_slice(&mut self) -> Result<u64, Halt>
-        ensures { IfOk result (HasSlice self.old self.new) }
-    {
-        let before = self.codes.len();
-        let Some(place) = mark_place(self.codes.entries()) else {
-            return Err(Halt::Lost);
-        };
-        self.codes.truncate(place);
-        Ok((before - place - 1) as u64)
     }
 
     /// Removes the topmost entry, which must be an object.
@@ -155,54 +121,85 @@ impl Stack {
     pub fn pop_object(&mut self) -> Option<Packed>
         ensures { IfSome result (λ heft. self.old ≡ Item heft ∷ self.new) }
     {
-        let Some(code) = self.pop() else {
-            return None;
-        };
-        if code == MARK {
+        let count = self.codes.len();
+        if count <= self.fence as usize {
             return None;
         }
+        let code = self.codes.entries()[count - 1];
+        self.codes.truncate(count - 1);
         Some(Packed::from_code(code))
     }
-}
 
-/// How many entries are searched for a mark at a time.
-const BLOCK: usize = 16;
-
-/// The place of the topmost mark: the number of entries below it.
-#[inline(always)]
-fn mark_place(codes: &[u32]) -> Option<usize>
-    ensures { IfSome result (λ place. HasSliceAt place codes.now) }
-{
-    let mut place = blocks_place(codes);
-    'objects: while place > 0 {
-        place -= 1;
-        if codes[place] == MARK {
-            return Some(place);
+    /// Removes the topmost entry.
+    pub fn pop(&mut self) -> Result<(), Halt>
+        ensures { OnOk result ((entry : Entry Heft) × (self.old ≡ entry ∷ self.new)) }
+    {
+        if self.codes.len() > self.fence as usize {
+            return self.drop_objects(1);
         }
-    }
-    None
-}
-
-/// A place from which on there is no mark, less than a block above the topmost mark or the bottom.
-#[inline(never)]
-fn blocks_place(codes: &[u32]) -> usize
-    ensures { PassesObjects codes.now result }
-{
-    let mut place = codes.len();
-    'blocks: while place >= BLOCK {
-        if !are_objects(&codes[place - BLOCK..place]) {
-            return place;
+        if self.drop_slice()? > 0 {
+            return Err(Halt::Lost);
         }
-        place -= BLOCK;
+        Ok(())
     }
-    place
-}
 
-/// Whether none of these is a mark. It looks at every code, whatever the first ones are, which lets
-/// the compiler test several at once.
-#[inline(always)]
-fn are_objects(codes: &[u32]) -> bool
-    ensures { result ≡ list_all is_object codes.now }
-{
-    codes.iter().fold(true, |good, code| good & (*code != MARK))
+    /// Removes so many of the topmost entries, which must be objects.
+    #[inline(always)]
+    pub fn drop_objects(&mut self, count: usize) -> Result<(), Halt>
+        ensures { OnOk result (HasItems count self.old self.new) }
+    {
+        let before = self.codes.len();
+        if before - (self.fence as usize) < count {
+            return Err(Halt::Lost);
+        }
+        self.codes.truncate(before - count);
+        Ok(())
+    }
+
+    /// The codes of the objects above the topmost mark.
+    #[inline(always)]
+    pub fn objects(&self) -> &[u32]
+        ensures { HasObjects self.now result.now }
+    {
+        &self.codes.entries()[self.fence as usize..]
+    }
+
+    /// Removes the objects above the topmost mark, and the mark. Returns the number of the objects.
+    #[inline(always)]
+    pub fn drop_slice(&mut self) -> Result<u64, Halt>
+        ensures { IfOk result (HasSlice self.old self.new) }
+    {
+        let fence = self.fence as usize;
+        if fence == 0 {
+            return Err(Halt::Lost);
+        }
+        let outer = self.codes.entries()[fence - 1];
+        if outer as usize >= fence {
+            return Err(Halt::Lost);
+        }
+        let count = self.codes.len() - fence;
+        self.codes.truncate(fence - 1);
+        self.fence = outer;
+        Ok(count as u64)
+    }
+
+    /// Puts an object in place of the objects above the topmost mark, and the mark. Returns their
+    /// number.
+    #[inline(always)]
+    pub fn replace_slice(&mut self, heft: Packed) -> Result<u64, Halt>
+        ensures { IfOk result (HasReplaced self.old self.new heft) }
+    {
+        let fence = self.fence as usize;
+        if fence == 0 {
+            return Err(Halt::Lost);
+        }
+        let outer = self.codes.entries()[fence - 1];
+        if outer as usize >= fence {
+            return Err(Halt::Lost);
+        }
+        let count = self.codes.len() - fence;
+        self.codes.replace(fence - 1, heft.code());
+        self.fence = outer;
+        Ok(count as u64)
+    }
 }

@@ -6,7 +6,7 @@ ghost use Rattle.pkload.specs.Tally.{building, no_tally, with_key};
 
 use crate::halt::Halt;
 use crate::memory;
-use crate::packed::Packed;
+use crate::packed::{LIGHT, Packed};
 
 /// What the keys of dicts and the items of sets cost, and whether BUILD takes an imported object.
 #[derive(Clone, Copy, Debug, PartialEq, Eq)]
@@ -53,6 +53,9 @@ impl Tally {
     pub(crate) fn add(&mut self, key: Packed) -> Result<(), Halt>
         ensures { OnOk result (self.new ≡ with_key self.old key) }
     {
+        if key.code() == LIGHT {
+            return self.add_lights(1, 0);
+        }
         let weight = key.weight();
         let clash = if key.is_salted() { 0 } else { weight };
         self.work = plus(self.work, weight)?;

@@ -11,27 +11,23 @@ use Rattle.pkstack.specs.declared.Move.TheVariants.{PushesMark, Stores, StoresNe
 use Rattle.pkstack.specs.declared.Takes.{Takes}
 use Rattle.pkstack.specs.declared.Takes.TheVariants.{Objects}
 use Rattle.pkmachine.specs.Effects.{Effect, Operates, Moves, Stops, Raises, effect_of}
-use Rattle.pkstack.specs.Shape.{Breach, Entry, Item, Taken, and_then, is_even, moved, operands}
-use Rattle.pkstack.specs.Shape.{put, slice}
+use Rattle.pkstack.specs.Shape.{Breach, Entry, Item, Taken, and_then, is_even, items, moved}
+use Rattle.pkstack.specs.Shape.{operands, put, slice}
 use Rattle.pkload.specs.Bill.{Bill, move_billed}
-use Rattle.pkload.specs.Heft.{Heft, heft_made, most_weight}
+use Rattle.pkload.specs.Heft.{Heft, heft_made, most_weight, weights_of}
 use Rattle.pkload.specs.Memory.{held_memory, number_kept, plain_memory, written_memory}
-use Rattle.pkload.specs.Keys.{every_other, keys_of}
-use Rattle.pkload.specs.Private.Gathered.{AreOf, IsTallied, Obeys, keying_of, keys_taken}
+use Rattle.pkload.specs.Keys.{every_other}
 use Rattle.pkload.specs.Tally.{with_keys, with_operation}
 use Rattle.pkload.specs.declared.action.Action.{Action}
 use Rattle.pkload.specs.declared.action.Action.TheVariants as action
 use Rattle.pkload.specs.declared.halt.Billing.{Billing}
 use Rattle.pkload.specs.declared.halt.Billing.TheVariants.{Plain, Noted, Failed}
-use Rattle.pkload.specs.declared.keying.Keying.{Keying}
-use Rattle.pkload.specs.declared.operands.Operands.{Operands}
 use Rattle.pkload.specs.declared.tally.Tally.{Tally}
 
--- the action of an operation that takes objects
+-- the action of an operation on objects: without any it reads its argument, if anything
 abbrev pub action_on : Bool → Takes → Action
-action_on true takes = action.Leaves takes
 action_on false (Objects zero) = action.Reads
-action_on false takes = action.Gives takes
+action_on leaves takes = action.Operates
 
 -- the action of an effect; a raise ends the run, whatever the machine does
 abbrev pub action_in : Effect → Action
@@ -41,13 +37,13 @@ action_in (Moves PushesMark) = action.Marks
 action_in (Moves Fetches) = action.Fetches
 action_in (Moves StoresNext) = action.StoresNext
 action_in (Moves Stores) = action.Stores
-action_in (Moves move) = action.Moves move
+action_in (Moves move) = action.Moves
 action_in Stops = action.Stops
 action_in Raises = action.Stops
 
 -- the action of an opcode. The most frequent have actions of their own: objects that weigh one,
--- have no argument and cost this much memory, texts, tuples of few items, and what fills lists and
--- dicts
+-- have no argument and cost this much memory, texts, tuples, frozensets, and what fills lists,
+-- dicts and sets
 abbrev pub action_of : Op → Action
 action_of op.None = action.Makes 16
 action_of op.NewTrue = action.Makes 16
@@ -58,6 +54,8 @@ action_of op.BinInt2 = action.Makes 48
 action_of op.BinFloat = action.Makes 48
 action_of op.EmptyList = action.Makes 96
 action_of op.EmptyDict = action.Makes 96
+action_of op.EmptySet = action.Makes 256
+action_of op.EmptyTuple = action.MakesTuple
 action_of op.ShortBinUnicode = action.Texts
 action_of op.BinUnicode = action.Texts
 action_of op.BinUnicode8 = action.Texts
@@ -66,6 +64,9 @@ action_of op.Tuple2 = action.TiesTwo
 action_of op.Tuple3 = action.TiesThree
 action_of op.Append = action.Appends
 action_of op.Appends = action.AppendsSlice
+action_of op.AddItems = action.AddsSlice
+action_of op.Tuple = action.TiesSlice
+action_of op.FrozenSet = action.FreezesSlice
 action_of op.SetItem = action.Sets
 action_of op.SetItems = action.SetsSlice
 action_of o = action_in (effect_of o)
@@ -84,10 +85,10 @@ pushed heft more bill = record {
 abbrev pub light : Heft
 light = record { weight = 1; depth = 0; salted = false; imported = false }
 
--- a text of these bytes
-abbrev pub text_heft : List ℕ → Heft
-text_heft bytes = record {
-  weight = min most_weight (1 + length bytes / 64);
+-- a text of so many bytes, bytes, or a string of Python 2
+abbrev pub string_heft : ℕ → Heft
+string_heft size = record {
+  weight = min most_weight (1 + size / 64);
   depth = 0;
   salted = true;
   imported = false;
@@ -121,11 +122,27 @@ operated_on leaves o bill found =
       ended = bill.ended;
     }))
 
+-- the bill after what an opcode with this effect does, if it takes objects
+abbrev pub operated_in : Effect → Op → Bill → Result Bill Breach
+operated_in (Operates takes names (Leaves wanted)) o bill =
+    operated_on true o bill (operands takes bill.shape.entries)
+operated_in (Operates takes names gives) o bill =
+    operated_on false o bill (operands takes bill.shape.entries)
+operated_in effect o bill = Ok bill
+
+-- the bill after a move with this number
+abbrev pub moved_by : Move → ℕ → Bill → Result Bill Breach
+moved_by move number bill =
+    move_billed move (number_kept move number bill.shape) bill (moved move number bill.shape)
+
 -- the bill after a move
 abbrev pub by_move : Move → Instruction → Bill → Result Bill Breach
-by_move move i bill =
-    move_billed move (number_kept move (memo_number i) bill.shape) bill
-    (moved move (memo_number i) bill.shape)
+by_move move i bill = moved_by move (memo_number i) bill
+
+-- the bill after what an opcode with this effect does, if it moves and names no number
+abbrev pub moved_in : Effect → Bill → Result Bill Breach
+moved_in (Moves move) bill = moved_by move 0 bill
+moved_in effect bill = Ok bill
 
 -- no key was counted, and the pickle hasn't ended since
 pub record IsQuiet (old new : Bill) : Type 0 where
@@ -138,33 +155,35 @@ IfBilled Plain p = p
 IfBilled Noted p = p
 IfBilled Failed p = ⊤
 
--- the keys among the operands that the operation of this opcode takes are those of the opcode
-abbrev pub CountsKeys : Op → Takes → Type 0
-CountsKeys o takes =
-    (hefts : List Heft) → Obeys takes hefts → keys_taken (keying_of o) takes hefts ≡ keys_of o hefts
-
--- objects were found, with these entries below them, and this was gathered of them
-pub record HasTaken (keying : Keying) (tally : Tally) (found : Result (Taken Heft) Breach)
-    (below : List (Entry Heft)) (o : Operands) : Type 0 where
+-- so many objects were found on top, with these entries below them
+pub record HasItems (count : ℕ) (entries below : List (Entry Heft)) : Type 0 where
   pub hefts : List Heft
+  pub is : items count entries [] ≡ Ok (record { operands = hefts; below = below })
+
+-- so many objects were found on top, and an object that costs this was put in their place
+pub record IsAnswered (found : Result (Taken Heft) Breach) (heft : Heft) (more : ℕ)
+    (old new : Bill) : Type 0 where
+  pub hefts : List Heft
+  pub below : List (Entry Heft)
   pub is : found ≡ Ok (record { operands = hefts; below = below })
-  pub of : AreOf hefts o
-  pub tallied : IsTallied keying tally hefts o
-
--- the operands of an operation were found, and this was gathered of them
-pub record HasOperands (keying : Keying) (tally : Tally) (takes : Takes)
-    (entries below : List (Entry Heft)) (o : Operands) : Type 0 where
-  pub hefts : List Heft
-  pub is : operands takes entries ≡ Ok (record { operands = hefts; below = below })
-  pub of : AreOf hefts o
-  pub obeys : Obeys takes hefts
-  pub tally_is : o.tally ≡ with_keys tally (keys_taken keying takes hefts)
+  pub new_is : new ≡ pushed heft more (record old {
+    shape = record { entries = below; memo = old.shape.memo };
+  })
 
 -- the slice was found, with these entries below it and so many objects in it
 pub record HasSlice (entries below : List (Entry Heft)) (count : ℕ) : Type 0 where
   pub hefts : List Heft
   pub is : slice entries [] ≡ Ok (record { operands = hefts; below = below })
   pub count_is : length hefts ≡ count
+
+-- the slice was found, with so many objects in it, and an object that costs this was put in its
+-- place
+pub record HasReplaced (entries new : List (Entry Heft)) (heft : Heft) (count : ℕ) : Type 0 where
+  pub hefts : List Heft
+  pub below : List (Entry Heft)
+  pub is : slice entries [] ≡ Ok (record { operands = hefts; below = below })
+  pub count_is : length hefts ≡ count
+  pub new_is : new ≡ Item heft ∷ below
 
 -- the slice was found, with these entries below it and so many keys and values in it, and the keys
 -- were counted
@@ -176,9 +195,12 @@ pub record HasPairs (entries below : List (Entry Heft)) (tally counted : Tally) 
   pub even : is_even hefts ≡ true
   pub counted_is : counted ≡ with_keys tally (every_other hefts)
 
--- the receiver was found, and this was gathered of all
-pub record HasReceiver (found : Result (Taken Heft) Breach) (below : List (Entry Heft))
-    (o : Operands) : Type 0 where
+-- the slice was found, with these entries below it and so many objects in it, and all were counted
+-- as keys
+pub record HasKeys (entries below : List (Entry Heft)) (tally counted : Tally) (count : ℕ)
+    : Type 0 where
   pub hefts : List Heft
-  pub is : found ≡ Ok (record { operands = hefts; below = below })
-  pub of : AreOf hefts o
+  pub is : slice entries [] ≡ Ok (record { operands = hefts; below = below })
+  pub count_is : length hefts ≡ count
+  pub counted_is : counted ≡ with_keys tally hefts
+  pub work_is : counted.work ≡ tally.work + weights_of hefts

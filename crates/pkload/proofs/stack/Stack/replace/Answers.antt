@@ -1,17 +1,18 @@
 -- An object's code in the last place shows that object above the same entries.
-use Rattle.std.proofs.Common.{◌-◌, ◌∙◌, [], ap, arith}
+use Rattle.std.proofs.Common.{◌-◌, ◌∙◌, ap, arith}
 use Rattle.pkload.proofs.Slots.{replaced}
-use Rattle.pkload.specs.Private.Shown.{shown}
+use Rattle.pkload.specs.Private.Shown.{entries_of}
 use Rattle.pkload.proofs.stack.Stack.replace.Goals as goal
 
 pub returns : goal.returns
 returns c =
     let codes = c.self.inside.codes in
+    let fence = c.self.inside.fence in
     let place = c.len-count.result - 1 in
-    let some = c.if-count-eq0.false in
+    let above = c.if-count-self.false in
     rw (← c.self.view_is)
     (λ entry below s.
-    ap (λ l. shown l []) c.set.ensures
-    ∙ replaced codes place c.code-code.result c.args.heft
-    (omega (arith, some, c.len-count.ensures)) c.if-code-eq-MARK.false c.code-code.ensures entry
+    ap (entries_of fence) c.set.ensures
+    ∙ replaced fence place codes c.code.result c.args.heft
+    (omega (arith, above, c.len-count.ensures.value)) (omega (arith, above)) c.code.ensures entry
     below s)

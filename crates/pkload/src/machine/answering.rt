@@ -1,0 +1,82 @@
+//! Operations whose answer costs the same, whatever they take.
+
+ghost use Rattle.std.specs.Prelude.{◌≡◌, [], IfOk, Ok, OnOk, false, true};
+ghost use Rattle.pkmachine.specs.Effects.{effect_of};
+ghost use Rattle.pkstack.specs.Shape.{items, operands};
+ghost use Rattle.pkload.specs.Private.Billing.{IsAnswered, IsQuiet, operated_in, operated_on};
+
+use super::Machine;
+use crate::halt::Halt;
+use crate::memory::plus;
+use crate::packed::Packed;
+use pkops::Op;
+use pkstack::{SliceRule, Takes};
+
+impl Machine {
+    /// Does what an opcode says that takes objects and has no action of its own. Returns whether it
+    /// may have counted keys.
+    #[inline(never)]
+    pub(super) fn operate(&mut self, op: Op) -> Result<bool, Halt>
+        ensures billed { OnOk result (operated_in (effect_of op) op self.old ≡ Ok self.new) }
+        ensures quiet { IfOk result (λ noted. noted ≡ false → IsQuiet self.old self.new) }
+    {
+        match op {
+            Op::List => self.list_slice(),
+            Op::Dict => self.dict_slice(),
+            Op::Build => self.build(),
+            Op::StackGlobal => self.answer(2, Packed::new(1, 0, true, true), 16),
+            Op::Reduce | Op::NewObj => self.answer(2, Packed::new(1, 0, true, false), 16),
+            Op::NewObjEx => self.answer(3, Packed::new(1, 0, true, false), 16),
+            Op::BinPersid => self.answer(1, Packed::new(1, 0, true, false), 16),
+            Op::ReadonlyBuffer => self.answer(1, Packed::new(1, 0, true, false), 496),
+            Op::Inst => self.answer_slice(false),
+            Op::Obj => self.answer_slice(true),
+            _ => Err(Halt::Lost),
+        }
+    }
+
+    /// Takes so many objects and pushes another one, which takes this much memory. Returns false.
+    #[inline(always)]
+    fn answer(&mut self, count: usize, heft: Packed, more: u64) -> Result<bool, Halt>
+        ensures answered { OnOk result (IsAnswered (items count self.old.shape.entries []) heft
+            more self.old self.new) }
+        ensures quiet { OnOk result (IsQuiet self.old self.new) }
+    {
+        self.stack.drop_objects(count)?;
+        self.make(heft, more)
+    }
+
+    /// INST, or OBJ, which takes one object at least. Returns false.
+    #[inline(never)]
+    fn answer_slice(&mut self, wants_some: bool) -> Result<bool, Halt>
+        ensures inst { OnOk result (operated_on false Op.Inst self.old
+            (operands (Takes.Slice SliceRule.AnySlice) self.old.shape.entries) ≡ Ok self.new) }
+        ensures obj { wants_some ≡ true → OnOk result (operated_on false Op.Obj self.old
+            (operands (Takes.Slice SliceRule.FullSlice) self.old.shape.entries) ≡ Ok self.new) }
+        ensures quiet { OnOk result (IsQuiet self.old self.new) }
+    {
+        let count = self.stack.drop_slice()?;
+        if wants_some && count == 0 {
+            return Err(Halt::Lost);
+        }
+        self.make(Packed::new(1, 0, true, false), 16)
+    }
+
+    /// BUILD, which leaves the object. Returns true, since that may be imported.
+    #[inline(always)]
+    fn build(&mut self) -> Result<bool, Halt>
+        ensures billed { OnOk result (operated_on true Op.Build self.old
+            (operands (Takes.Objects 2) self.old.shape.entries) ≡ Ok self.new) }
+        ensures counted { IfOk result (λ counted. counted ≡ true) }
+    {
+        let Some(_state) = self.stack.pop_object() else {
+            return Err(Halt::Lost);
+        };
+        let Some(object) = self.stack.top() else {
+            return Err(Halt::Lost);
+        };
+        self.memory = plus(self.memory, 16)?;
+        self.tally = self.tally.building(object.is_imported());
+        Ok(true)
+    }
+}

@@ -1,0 +1,72 @@
+//! Objects that are made of the bytes of an argument.
+
+ghost use Rattle.std.specs.Prelude.{◌≡◌, ◌+◌, [], length, OnOk};
+ghost use Rattle.pkload.specs.Heft.{heft_made};
+ghost use Rattle.pkload.specs.Memory.{text_memory};
+ghost use Rattle.pkload.specs.Private.Billing.{light, pushed, reading_memory, string_heft};
+
+use super::Machine;
+use crate::halt::Halt;
+use crate::making::{made_long, made_text};
+use crate::memory::{MOST, after_text, line_memory};
+use crate::packed::Packed;
+use pkops::Op;
+
+impl Machine {
+    /// Pushes a text of these bytes. Returns false, as do all here, since none counts a key.
+    #[inline(never)]
+    pub(super) fn read_text(&mut self, bytes: &[u8]) -> Result<bool, Halt>
+        ensures { OnOk result (self.new ≡ pushed (string_heft (length bytes.now))
+            (16 + text_memory bytes.now) self.old) }
+    {
+        self.memory = after_text(bytes, self.memory)?;
+        self.stack.push(made_text(bytes.len() as u64))?;
+        Ok(false)
+    }
+
+    /// Pushes bytes, or a string of Python 2.
+    #[inline(always)]
+    pub(super) fn hold(&mut self, size: u64) -> Result<bool, Halt>
+        ensures { OnOk result (self.new ≡ pushed (string_heft size) (80 + size) self.old) }
+    {
+        if size > MOST {
+            return Err(Halt::Lost);
+        }
+        self.make(made_text(size), 80 + size)
+    }
+
+    /// Pushes a bytearray.
+    #[inline(always)]
+    pub(super) fn hold_array(&mut self, size: u64) -> Result<bool, Halt>
+        ensures { OnOk result (self.new ≡ pushed light (112 + size) self.old) }
+    {
+        if size > MOST {
+            return Err(Halt::Lost);
+        }
+        self.make(Packed::new(1, 0, false, false), 112 + size)
+    }
+
+    /// Pushes what is made of these bytes. What has an action of its own isn't read.
+    #[inline(never)]
+    pub(super) fn read(&mut self, op: Op, bytes: &[u8]) -> Result<bool, Halt>
+        ensures { OnOk result (self.new ≡ pushed (heft_made op (length bytes.now) [])
+            (reading_memory op bytes.now) self.old) }
+    {
+        let size = bytes.len() as u64;
+        if size > MOST {
+            return Err(Halt::Lost);
+        }
+        match op {
+            Op::Long1 | Op::Long4 => self.make(made_long(size), 48 + size * 8 / 7),
+            Op::Int | Op::Long => self.make(made_long(size), 48 + size / 2),
+            Op::Float => self.make(Packed::new(1, 0, false, false), 48),
+            Op::String | Op::BinString | Op::ShortBinString => self.hold(size),
+            Op::BinBytes | Op::ShortBinBytes | Op::BinBytes8 => self.hold(size),
+            Op::ByteArray8 => self.hold_array(size),
+            Op::Unicode => self.make(made_text(size), 16 + line_memory(bytes)),
+            Op::Global => self.make(Packed::new(1, 0, true, true), 16),
+            Op::PersId | Op::NextBuffer => self.make(Packed::new(1, 0, true, false), 16),
+            _ => Err(Halt::Lost),
+        }
+    }
+}

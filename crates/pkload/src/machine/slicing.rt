@@ -1,0 +1,118 @@
+//! Operations on the objects above the topmost mark.
+
+ghost use Rattle.std.specs.Prelude.{◌≡◌, IfOk, Ok, OnOk, false, true};
+ghost use Rattle.pkstack.specs.Shape.{operands};
+ghost use Rattle.pkload.specs.Private.Billing.{IsQuiet, operated_on};
+
+use super::Machine;
+use crate::gathering::{take_items, take_pairs, tied_all, with_receiver};
+use crate::halt::Halt;
+use crate::making::frozen;
+use crate::memory::after_operation;
+use crate::packed::Packed;
+use pkops::Op;
+use pkstack::{SliceRule, Takes};
+
+impl Machine {
+    /// APPENDS, which leaves the list. Returns false, since it counts no key.
+    #[inline(never)]
+    pub(super) fn append_slice(&mut self) -> Result<bool, Halt>
+        ensures billed { OnOk result (operated_on true Op.Appends self.old
+            (operands (Takes.SliceAndReceiver SliceRule.AnySlice) self.old.shape.entries)
+            ≡ Ok self.new) }
+        ensures quiet { OnOk result (IsQuiet self.old self.new) }
+    {
+        let count = self.stack.drop_slice()?;
+        let Some(_list) = self.stack.top() else {
+            return Err(Halt::Lost);
+        };
+        self.memory = after_operation(Op::Appends, with_receiver(count)?, self.memory)?;
+        Ok(false)
+    }
+
+    /// SETITEMS, which leaves the dict. Returns true, since it counts keys.
+    #[inline(never)]
+    pub(super) fn set_slice(&mut self) -> Result<bool, Halt>
+        ensures billed { OnOk result (operated_on true Op.SetItems self.old
+            (operands (Takes.SliceAndReceiver SliceRule.EvenSlice) self.old.shape.entries)
+            ≡ Ok self.new) }
+        ensures counted { IfOk result (λ counted. counted ≡ true) }
+    {
+        let count = take_pairs(&mut self.stack, &mut self.tally)?;
+        let Some(_dict) = self.stack.top() else {
+            return Err(Halt::Lost);
+        };
+        self.memory = after_operation(Op::SetItems, with_receiver(count)?, self.memory)?;
+        Ok(true)
+    }
+
+    /// ADDITEMS, which leaves the set. Returns true.
+    #[inline(never)]
+    pub(super) fn add_slice(&mut self) -> Result<bool, Halt>
+        ensures billed { OnOk result (operated_on true Op.AddItems self.old
+            (operands (Takes.SliceAndReceiver SliceRule.AnySlice) self.old.shape.entries)
+            ≡ Ok self.new) }
+        ensures counted { IfOk result (λ counted. counted ≡ true) }
+    {
+        let count = take_items(&mut self.stack, &mut self.tally)?;
+        let Some(_set) = self.stack.top() else {
+            return Err(Halt::Lost);
+        };
+        self.memory = after_operation(Op::AddItems, with_receiver(count)?, self.memory)?;
+        Ok(true)
+    }
+
+    /// FROZENSET. Returns true. All items are keys, so what the keys weigh more is their weight.
+    #[inline(never)]
+    pub(super) fn freeze_slice(&mut self) -> Result<bool, Halt>
+        ensures billed { OnOk result (operated_on false Op.FrozenSet self.old
+            (operands (Takes.Slice SliceRule.AnySlice) self.old.shape.entries) ≡ Ok self.new) }
+        ensures counted { IfOk result (λ counted. counted ≡ true) }
+    {
+        let before = self.tally.work;
+        let count = take_items(&mut self.stack, &mut self.tally)?;
+        let held = self.tally.work - before;
+        self.memory = after_operation(Op::FrozenSet, count, self.memory)?;
+        self.stack.push(frozen(held))?;
+        Ok(true)
+    }
+
+    /// DICT. Returns true.
+    #[inline(always)]
+    pub(super) fn dict_slice(&mut self) -> Result<bool, Halt>
+        ensures billed { OnOk result (operated_on false Op.Dict self.old
+            (operands (Takes.Slice SliceRule.EvenSlice) self.old.shape.entries) ≡ Ok self.new) }
+        ensures counted { IfOk result (λ counted. counted ≡ true) }
+    {
+        let count = take_pairs(&mut self.stack, &mut self.tally)?;
+        self.memory = after_operation(Op::Dict, count, self.memory)?;
+        self.stack.push(Packed::new(1, 0, false, false))?;
+        Ok(true)
+    }
+
+    /// LIST. Returns false, as does the next one.
+    #[inline(always)]
+    pub(super) fn list_slice(&mut self) -> Result<bool, Halt>
+        ensures billed { OnOk result (operated_on false Op.List self.old
+            (operands (Takes.Slice SliceRule.AnySlice) self.old.shape.entries) ≡ Ok self.new) }
+        ensures quiet { OnOk result (IsQuiet self.old self.new) }
+    {
+        let count = self.stack.drop_slice()?;
+        self.memory = after_operation(Op::List, count, self.memory)?;
+        self.stack.push(Packed::new(1, 0, false, false))?;
+        Ok(false)
+    }
+
+    /// TUPLE.
+    #[inline(never)]
+    pub(super) fn tie_slice(&mut self) -> Result<bool, Halt>
+        ensures billed { OnOk result (operated_on false Op.Tuple self.old
+            (operands (Takes.Slice SliceRule.AnySlice) self.old.shape.entries) ≡ Ok self.new) }
+        ensures quiet { OnOk result (IsQuiet self.old self.new) }
+    {
+        let heft = tied_all(self.stack.objects())?;
+        let count = self.stack.replace_slice(heft)?;
+        self.memory = after_operation(Op::Tuple, count, self.memory)?;
+        Ok(false)
+    }
+}
