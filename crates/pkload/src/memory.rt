@@ -193,10 +193,7 @@ pub fn after_move(what: Move, grown: u32, memory: u64) -> Result<u64, Halt>
 {
     match what {
         Move::PushesMark => plus(memory, 32),
-        Move::Stores | Move::StoresNext => {
-            let all = plus(memory, 32)?;
-            plus(all, 16 * u64::from(grown))
-        }
+        Move::Stores | Move::StoresNext => plus(memory, 32 + 16 * u64::from(grown)),
         _ => plus(memory, 16),
     }
 }
