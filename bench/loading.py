@@ -7,13 +7,19 @@ pickle. Keys made to collide are bounded by `clash` alone: they are checked with
 With --bare, what is refused is loaded too: the process is killed after some seconds, or crashes.
 """
 import argparse
+import os
+import pathlib
 import resource
 import struct
 import subprocess
 import sys
 from typing import Dict, List, Set, Tuple
 
-from storklocker import AllowList, Limits, check
+PYTHON = str(pathlib.Path(__file__).resolve().parent.parent / "python")
+sys.path.insert(0, PYTHON)
+os.environ["PYTHONPATH"] = PYTHON  # of the processes that load
+
+from storklocker import AllowList, Limits, check  # noqa: E402
 
 SECONDS, MEMORY, LEAST = 1.0, 250, 10**6
 PRIME = 2**61 - 1  # the modulus of the hashes of numbers
