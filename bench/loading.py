@@ -5,6 +5,7 @@ Each that a guard with the default limits accepts is loaded by it, in a process 
 limits. The status is 1 if that takes more than a second, or 250 bytes of memory for a byte of the
 pickle. Keys made to collide are bounded by `clash` alone: they are checked with `clash=30_000`.
 With --bare, what is refused is loaded too: the process is killed after some seconds, or crashes.
+Last, it measures what a unit of work takes to hash, and a level of the C stack.
 """
 import argparse
 import os
@@ -35,6 +36,17 @@ peak, start = resource.getrusage(own).ru_maxrss, time.process_time()
 kept = loads(data)
 took = time.process_time() - start
 print(f"{took:.3f} {resource.getrusage(own).ru_maxrss - peak}")
+"""
+
+HASHES = """
+import sys, threading
+threading.stack_size(1 << 20)
+made = ()
+for _ in range(int(sys.argv[1])):
+    made = (made,)
+thread = threading.Thread(target=hash, args=(made,))
+thread.start()
+thread.join()
 """
 
 
@@ -143,6 +155,23 @@ def is_within(data: bytes, line: str) -> bool:
     return took <= SECONDS and grew * 1024 <= MEMORY * max(len(data), LEAST)
 
 
+def work_of_a_unit() -> float:
+    """The nanoseconds that a unit of work takes, in a pickle with nearly all that is allowed."""
+    key, times = b")" + b"2\x86" * 18 + b"q\0" + b"0", 190  # it weighs 2^19 - 1
+    data = b"\x80\2" + key + b"}(" + b"h\0N" * times + b"u."
+    return float(loaded(data, "guarded").split()[0]) / ((2**19 - 1) * times) * 1e9
+
+
+def stack_of_a_level() -> float:
+    """The bytes of the C stack that a level takes: how deep a key a thread with 1 MiB hashes."""
+    low, high = 1, 1 << 20
+    while high - low > 64:
+        middle = (low + high) // 2
+        ran = subprocess.run([sys.executable, "-c", HASHES, str(middle)], capture_output=True)
+        low, high = (middle, high) if ran.returncode == 0 else (low, middle)
+    return (1 << 20) / low
+
+
 def main() -> int:
     words = argparse.ArgumentParser(description=__doc__.splitlines()[0])
     words.add_argument("--bare", action="store_true", help="load what is refused, too")
@@ -155,6 +184,7 @@ def main() -> int:
             is_bad = bool(verdict) and (line.startswith("status") or not is_within(data, line))
             failed += is_bad
             print(f"{name:32}{len(data):9}  {verdict!s:32}  {line}{'  TOO MUCH' * is_bad}")
+    print(f"a unit of work takes {work_of_a_unit():.0f} ns, a level {stack_of_a_level():.0f} bytes")
     return 1 if failed else 0
 
 
