@@ -1,16 +1,16 @@
-//! The current instruction and the bytes taken for it.
+//! The current instruction, the bytes taken for it, and the most that were ever held.
 
 ghost use Rattle.std.specs.Prelude.{◌≡◌, ◌+◌, ◌∷◌, ◌<◌, ◌≤◌, [], ℕ, List, length, max, take};
 ghost use Rattle.std.specs.Prelude.{IfErr, IfNone, IfOk, IfSome};
 ghost use Rattle.pkread.specs.Rows.{all_bytes, sight};
 ghost use Rattle.pkread.specs.Held.{most_held, none_held};
 ghost use Rattle.pkread.specs.Private.Progress.{KeepsRest, intake};
-ghost use Rattle.pkread.specs.Private.Reads.{ReadsByte, ReadsNone, TakesAll, TakesBlock};
-ghost use Rattle.pkread.specs.Private.Reads.{TakesByte};
+ghost use Rattle.pkread.specs.Private.Reads.{ReadsByte, ReadsNone, ReadsSome, TakesAll};
+ghost use Rattle.pkread.specs.Private.Reads.{TakesBlock, TakesByte};
 ghost use Rattle.pkread.specs.Private.SkippedBytes.{PassedSome};
 
-use crate::buffer::Buffer;
 use crate::source::Source;
+use crate::store::{make_room, pull_into, put, put_field};
 use pkops::{Limits, Reason};
 use std::alloc::Global;
 use std::marker::Model;
@@ -19,26 +19,32 @@ use std::marker::Model;
 const BLOCK: usize = 4096;
 
 /// The bytes of the current instruction, how many bytes can still be taken from the source, and the
-/// limits on what an instruction holds. At most 2^64 - 1 bytes are taken.
+/// limits on what an instruction holds. At most 2^64 - 1 bytes are taken. The store never shrinks,
+/// so a read never has to zero memory first.
 #[derive(Debug, Drop)]
 pub(crate) struct Gathering {
-    buffer: Buffer,
+    store: Vec<u8>,
+    held: usize,
+    /// The most bytes held at any time when some were dropped.
+    peak: usize,
     room: u64,
     limits: Limits,
 }
 
 impl Model for Gathering {
-    ghost use Rattle.std.specs.Prelude.{◌-◌};
+    ghost use Rattle.std.specs.Prelude.{◌-◌, ◌≤◌, length, take};
     ghost use Rattle.pkread.specs.Private.Progress.{GatheringView};
     ghost use Rattle.pkread.specs.Rows.{all_bytes};
 
     ghost Value = { GatheringView };
 
     ghost view = { λ g. record {
-      buffer = g.buffer;
+      buffer = record { bytes = take g.held g.store.items; peak = g.peak };
       taken = all_bytes - g.room;
       limits = g.limits;
     } };
+
+    ghost invariant = { λ g. g.held ≤ length g.store.items };
 }
 
 impl Gathering {
@@ -47,7 +53,9 @@ impl Gathering {
         ensures { result ≡ record { buffer = none_held; taken = 0; limits = limits.now } }
     {
         Gathering {
-            buffer: Buffer::new(alloc),
+            store: Vec::new(alloc),
+            held: 0,
+            peak: 0,
             room: u64::MAX,
             limits: *limits,
         }
@@ -79,7 +87,7 @@ impl Gathering {
     pub(crate) fn most(&self) -> usize
         ensures { result ≡ most_held self.now.buffer }
     {
-        self.buffer.most()
+        self.peak.max(self.held)
     }
 
     /// The bytes held.
@@ -87,7 +95,7 @@ impl Gathering {
     pub(crate) fn bytes(&self) -> &[u8]
         ensures { result.now ≡ self.now.buffer.bytes }
     {
-        self.buffer.bytes()
+        &self.store[..self.held]
     }
 
     /// The first byte held, if any.
@@ -97,7 +105,10 @@ impl Gathering {
         ensures some { IfSome result (λ byte.
             (rest : List ℕ) × (self.now.buffer.bytes ≡ byte ∷ rest)) }
     {
-        self.buffer.first()
+        if self.held == 0 {
+            return None;
+        }
+        Some(self.store[0])
     }
 
     /// Drops all bytes and keeps their memory.
@@ -107,7 +118,8 @@ impl Gathering {
           buffer = record { bytes = []; peak = most_held self.old.buffer };
         } }
     {
-        self.buffer.clear();
+        self.note_most();
+        self.held = 0;
     }
 
     /// Keeps the first `count` bytes and drops the rest.
@@ -121,7 +133,36 @@ impl Gathering {
           };
         } }
     {
-        self.buffer.cut(count);
+        self.note_most();
+        self.held = count;
+    }
+
+    /// Updates the peak before bytes are dropped. The peak rarely rises, so the write is out of
+    /// line.
+    #[inline(always)]
+    fn note_most(&mut self)
+        ensures { self.new ≡ record self.old {
+          buffer = record {
+            bytes = self.old.buffer.bytes;
+            peak = most_held self.old.buffer;
+          };
+        } }
+    {
+        if self.held > self.peak {
+            self.note_most_slowly();
+        }
+    }
+
+    #[inline(never)]
+    fn note_most_slowly(&mut self)
+        ensures { self.new ≡ record self.old {
+          buffer = record {
+            bytes = self.old.buffer.bytes;
+            peak = length self.old.buffer.bytes;
+          };
+        } }
+    {
+        self.peak = self.held;
     }
 
     /// Counts bytes as taken: those of an instruction that is lent from where it lies, as if it
@@ -146,15 +187,15 @@ impl Gathering {
         if room == 0 {
             return Err(Reason::TooLarge);
         }
-        let byte = self.buffer.read_byte(source)?;
+        let byte = self.read_byte(source)?;
         self.room = room - 1;
         Ok(byte)
     }
 
-    /// Reads one byte ahead of the next instruction. The buffer holds it, but it does not count as
-    /// taken yet.
+    /// Reads one byte and holds it, but does not count it as taken. It passes through an array of
+    /// one, because the compiler turns a copy of known length to a known place into a move.
     #[inline]
-    pub(crate) fn take_ahead<R: Source>(&mut self, source: &mut R) -> Result<u8, Reason>
+    pub(crate) fn read_byte<R: Source>(&mut self, source: &mut R) -> Result<u8, Reason>
         ensures keeps { KeepsRest self.old self.new }
         ensures taken { self.new.taken ≡ self.old.taken }
         ensures ok { IfOk result (λ byte. ReadsByte byte
@@ -164,7 +205,66 @@ impl Gathering {
         ensures err { IfErr result (ReadsNone
             (sight R.left R.failures source.old) (sight R.left R.failures source.new)) }
     {
-        self.buffer.read_byte(source)
+        let held = self.held;
+        make_room(&mut self.store, held, 1)?;
+        let mut one = [0];
+        let count = source.pull(&mut one)?;
+        if count == 0 {
+            return Err(Reason::Truncated);
+        }
+        put(&mut self.store, held, one[0]);
+        self.held = held + 1;
+        Ok(one[0])
+    }
+
+    /// Makes one read of at most N bytes and holds them, as `read_byte` does.
+    #[inline(always)]
+    fn read_field<R: Source, const N: usize>(&mut self, source: &mut R) -> Result<usize, Reason>
+        requires some { 0 < N }
+        requires few { N ≤ 8 }
+        ensures keeps { KeepsRest self.old self.new }
+        ensures taken { self.new.taken ≡ self.old.taken }
+        ensures ok { IfOk result (λ n. ReadsSome N n
+            self.old.buffer.bytes (sight R.left R.failures source.old)
+            self.new.buffer.bytes (sight R.left R.failures source.new)) }
+        ensures same { IfErr result (λ _. self.new.buffer.bytes ≡ self.old.buffer.bytes) }
+        ensures err { IfErr result (ReadsNone
+            (sight R.left R.failures source.old) (sight R.left R.failures source.new)) }
+    {
+        let held = self.held;
+        make_room(&mut self.store, held, N)?;
+        let mut field = [0; N];
+        let count = source.pull(&mut field)?;
+        if count == 0 {
+            return Err(Reason::Truncated);
+        }
+        put_field(&mut self.store, held, &field);
+        self.held = held + count;
+        Ok(count)
+    }
+
+    /// Makes one read of at most `wanted` bytes and holds them, as `read_byte` does.
+    #[inline]
+    fn read<R: Source>(&mut self, source: &mut R, wanted: usize) -> Result<usize, Reason>
+        requires some { 0 < wanted }
+        requires few { wanted ≤ 4096 }
+        ensures keeps { KeepsRest self.old self.new }
+        ensures taken { self.new.taken ≡ self.old.taken }
+        ensures ok { IfOk result (λ n. ReadsSome wanted n
+            self.old.buffer.bytes (sight R.left R.failures source.old)
+            self.new.buffer.bytes (sight R.left R.failures source.new)) }
+        ensures same { IfErr result (λ _. self.new.buffer.bytes ≡ self.old.buffer.bytes) }
+        ensures err { IfErr result (ReadsNone
+            (sight R.left R.failures source.old) (sight R.left R.failures source.new)) }
+    {
+        let held = self.held;
+        make_room(&mut self.store, held, wanted)?;
+        let count = pull_into(source, &mut self.store, held, wanted)?;
+        if count == 0 {
+            return Err(Reason::Truncated);
+        }
+        self.held = held + count;
+        Ok(count)
     }
 
     /// Makes one read of at most `left` bytes, and at most a block. Returns how many arrived.
@@ -185,7 +285,7 @@ impl Gathering {
             return Err(Reason::TooLarge);
         }
         let wanted = left.min(BLOCK).min(room as usize);
-        let n = self.buffer.read(source, wanted)?;
+        let n = self.read(source, wanted)?;
         self.room = room - n as u64;
         Ok(n)
     }
@@ -216,11 +316,12 @@ impl Gathering {
             (intake R.left R.failures source.old self.old)
             (intake R.left R.failures source.new self.new) }
     {
-        if self.room < N as u64 {
+        let room = self.room;
+        if room < N as u64 {
             return self.take_rest(source, N);
         }
-        let n = self.buffer.read_field::<R, N>(source)?;
-        self.room -= n as u64;
+        let n = self.read_field::<R, N>(source)?;
+        self.room = room - n as u64;
         if n == N {
             return Ok(());
         }

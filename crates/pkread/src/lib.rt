@@ -13,7 +13,6 @@
 
 mod admission;
 mod arms;
-mod buffer;
 mod frames;
 mod frequent_lines;
 mod front;
@@ -26,6 +25,7 @@ mod reader;
 mod slice;
 mod source;
 mod state;
+mod store;
 mod walk;
 
 pub use frames::{BrokenFrame, Frames, frame_argument};

@@ -327,7 +327,7 @@ fn ask<R: Source>(source: &mut R, gathering: &mut Gathering) -> Result<bool, Rea
     if gathering.taken() == u64::MAX {
         return Err(Reason::TooLarge);
     }
-    match gathering.take_ahead(source) {
+    match gathering.read_byte(source) {
         Ok(_) => Ok(true),
         Err(reason) => match reason {
             // No byte arrived.
