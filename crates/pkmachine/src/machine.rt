@@ -1,6 +1,6 @@
 //! The symbolic machine, which knows what holds in every run and executes nothing.
 
-ghost use Rattle.std.specs.Prelude.{◌≡◌, option_map, is_some, IfOk, IfErr, IsTrue};
+ghost use Rattle.std.specs.Prelude.{◌≡◌, option_map, is_some, IfOk, IsTrue};
 ghost use Rattle.std.specs.Prelude.{[], None, false, true, OnErr, OnOk};
 ghost use Rattle.pkmachine.specs.declared.old_strings.OldStrings.TheVariants as OldStrings;
 ghost use Rattle.pkops.specs.Inst.{instruction_of};
@@ -13,10 +13,7 @@ ghost use Rattle.pkmachine.specs.Knowledge.{nothing_known};
 ghost use Rattle.pkmachine.specs.Policies.{permit_of, policy_of};
 ghost use Rattle.pkimport.specs.Import.{asked_shown, pair_shown};
 ghost use Rattle.pkops.specs.Payloads.{is_passed};
-ghost use Rattle.pkmachine.specs.Step.{AnswersAsBefore, AppendsPermitted, FailsStep, GoesOn};
-ghost use Rattle.pkmachine.specs.Step.{IfFirst};
-ghost use Rattle.pkmachine.specs.Step.{IsNoFalseAlarm, IsStep, MayLackMemory, MeansInEachRun};
-ghost use Rattle.pkmachine.specs.Step.{PassesNoFault, RefusesForGood, UnknownIsNeeded};
+ghost use Rattle.pkmachine.specs.Step.{IsStep};
 ghost use Rattle.pkmachine.specs.Texts.{texts_then};
 ghost use Rattle.pkmachine.specs.View.{fresh, has_off_list, moved_apart, restarted, stopped_by};
 
@@ -116,28 +113,10 @@ impl Machine {
     pub fn step(&mut self, inst: &Inst, policy: &Policy) -> Result<Moved, Reason>
         requires admitted { is_admitted (instruction_of inst.now) ≡ true }
         requires running { self.old.stopped ≡ false }
-        ensures again { AnswersAsBefore self.old self.new result }
-        ensures goes_on { IfOk result (GoesOn (policy_of policy.now) (instruction_of inst.now)
-            self.old self.new) }
-        // What an accepted step means in every covered run.
-        ensures covered { OnOk result (MeansInEachRun (policy_of policy.now)
-            (instruction_of inst.now) self.old self.new) }
-        ensures permitted { OnOk result (AppendsPermitted (policy_of policy.now)
-            self.old.imports self.new.imports) }
-        ensures no_fault { OnOk result (PassesNoFault (policy_of policy.now)
-            (instruction_of inst.now) self.old self.new) }
-        ensures unknown { OnOk result (UnknownIsNeeded (policy_of policy.now)
-            (instruction_of inst.now) self.old self.new) }
+        ensures step { IsStep (policy_of policy.now) (instruction_of inst.now) self.old self.new
+            result }
         ensures texts { OnOk result (self.new.texts
             ≡ texts_then self.old.old_strings (instruction_of inst.now).op self.old.texts) }
-        ensures fails { IfFirst self.old result (FailsStep (policy_of policy.now)
-            (instruction_of inst.now) self.old self.new) }
-        // No refusal is a false alarm.
-        ensures alarm { IfFirst self.old result (IsNoFalseAlarm (policy_of policy.now)
-            (instruction_of inst.now) self.old self.new) }
-        ensures memory { IfFirst self.old result (MayLackMemory (policy_of policy.now)
-            (instruction_of inst.now) self.old self.new) }
-        ensures kept { IfErr result (RefusesForGood self.old self.new) }
     {
         if let Some(reason) = self.refused {
             return Err(reason);
