@@ -1,5 +1,5 @@
 -- What the verdicts for C mean.
-use Rattle.std.specs.Prelude.{◌≡◌, ◌≢◌, ◌++◌, ◌⊎◌, ℕ, List, length, drop, leb, if◌then◌else◌, codes}
+use Rattle.std.specs.Prelude.{◌≡◌, ◌≢◌, ◌≤◌, ◌++◌, ◌⊎◌, ℕ, List, length, drop, leb, if◌then◌else◌, codes}
 use Rattle.std.specs.Prelude.{Option, Some, None, Ok, Err, false, true}
 use Rattle.std.specs.Str.{IsUtf8}
 use Rattle.toml.specs.Data.{Members, get_member}
@@ -31,6 +31,16 @@ use Rattle.pkguard.specs.Settings.{old_strings_in}
 -- a source of these bytes
 abbrev pub memory : List ℕ → Sight
 memory bytes = record { left = Some bytes; failures = 0 }
+
+-- what a call answers: its status is that of the verdict, 0 for a yes, 1 for a no, 2 for a fault of
+-- the list, and 3 for settings that are not supported
+pub record Answers (result : ℕ) (verdict : Verdict) (Yes No Fault Usage : Type 0) : Type 0 where
+  pub status : result ≡ verdict.status
+  pub bound : verdict.status ≤ 3
+  pub yes : verdict.status ≡ 0 → Yes
+  pub no : verdict.status ≡ 1 → No
+  pub fault : verdict.status ≡ 2 → Fault
+  pub usage : verdict.status ≡ 3 → Usage
 
 -- an empty verdict
 abbrev pub nothing_told : Verdict

@@ -1,7 +1,7 @@
 //! Checks pickles, and bounds what loading them costs.
 ghost use Rattle.std.specs.Prelude.{◌≡◌, ◌≢◌, ◌≤◌, Some, []};
 ghost use Rattle.pkmachine.specs.Policies.{permit_of};
-ghost use Rattle.pkguard.specs.Guard.{IsListFault};
+ghost use Rattle.pkguard.specs.Guard.{Answers, IsListFault};
 ghost use Rattle.pkguard.specs.Loading.{AreCostsOf, IsNoOrCostly, IsUsageWith, IsYesWithBill};
 ghost use Rattle.pkguard.specs.Loading.{SetsWith, extent_by, nothing_billed, tolls_by};
 ghost use Rattle.pkguard.specs.Settings.{PermitsPairs, limits_by, listed_by, loading_by};
@@ -33,20 +33,15 @@ pub extern "C" fn pkguard_check_loading(
     out: &mut Verdict,
     bill: &mut Bill,
 ) -> u32
-    ensures status { result ≡ out.new.status }
-    ensures bound { out.new.status ≤ 3 }
-    ensures list { out.new.status ≢ 2 }
     ensures pairs { PermitsPairs settings.now pairs.now }
-    ensures yes { out.new.status ≡ 0 → SetsWith settings.now costs.now (λ old. IsYesWithBill
-        (loading_by settings.now old) (Some (listed_by settings.now pairs.now))
-        (limits_by settings.now) (tolls_by costs.now) (extent_by costs.now) pickles.now
-        room.old room.new out.new bill.new) }
-    ensures no { out.new.status ≡ 1 → SetsWith settings.now costs.now (λ old. IsNoOrCostly
-        (loading_by settings.now old) (Some (listed_by settings.now pairs.now))
-        (limits_by settings.now) (tolls_by costs.now) (extent_by costs.now) pickles.now
-        room.old room.new out.new) }
-    ensures usage { out.new.status ≡ 3
-        → IsUsageWith settings.now costs.now room.old room.new out.new }
+    ensures answer { Answers result out.new
+        (SetsWith settings.now costs.now (λ old. IsYesWithBill (loading_by settings.now old)
+        (Some (listed_by settings.now pairs.now)) (limits_by settings.now) (tolls_by costs.now)
+        (extent_by costs.now) pickles.now room.old room.new out.new bill.new))
+        (SetsWith settings.now costs.now (λ old. IsNoOrCostly (loading_by settings.now old)
+        (Some (listed_by settings.now pairs.now)) (limits_by settings.now) (tolls_by costs.now)
+        (extent_by costs.now) pickles.now room.old room.new out.new))
+        ⊥ (IsUsageWith settings.now costs.now room.old room.new out.new) }
     ensures nothing { out.new.status ≢ 0 → bill.new ≡ nothing_billed }
 {
     halving();
@@ -77,11 +72,8 @@ pub extern "C" fn pkguard_list_costs(
     costs: &mut Costs,
     out: &mut Verdict,
 ) -> u32
-    ensures status { result ≡ out.new.status }
-    ensures bound { out.new.status ≤ 2 }
-    ensures never { out.new.status ≢ 1 }
-    ensures read { out.new.status ≡ 0 → AreCostsOf list.now costs.old costs.new out.new }
-    ensures fault { out.new.status ≡ 2 → IsListFault list.now [] [] out.new }
+    ensures answer { Answers result out.new (AreCostsOf list.now costs.old costs.new out.new) ⊥
+        (IsListFault list.now [] [] out.new) ⊥ }
     ensures same { out.new.status ≢ 0 → costs.new ≡ costs.old }
 {
     *out = read_costs(alloc, list, costs);

@@ -21,7 +21,7 @@ mod verdict;
 
 ghost use Rattle.std.specs.Prelude.{◌≡◌, ◌≢◌, ◌≤◌, ◌⊎◌, None, Some};
 ghost use Rattle.pkmachine.specs.Policies.{permit_of};
-ghost use Rattle.pkguard.specs.Guard.{IsListFault, IsImports, IsImportsBefore, IsListRead};
+ghost use Rattle.pkguard.specs.Guard.{Answers, IsListFault, IsImports, IsImportsBefore, IsListRead};
 ghost use Rattle.pkguard.specs.Guard.{IsLimitedList, IsNo, IsNoOfRow, IsOfAnotherSize, IsUsage};
 ghost use Rattle.pkguard.specs.Guard.{IsYes, IsYesOfRow, Under};
 ghost use Rattle.pkguard.specs.Settings.{PermitsPairs, Sets, limits_by, limits_within};
@@ -54,28 +54,24 @@ pub extern "C" fn pkguard_check_pairs(
     room: &mut [u8],
     out: &mut Verdict,
 ) -> u32
-    ensures status { result ≡ out.new.status }
-    ensures bound { out.new.status ≤ 3 }
-    ensures list { out.new.status ≢ 2 }
     ensures pairs { PermitsPairs settings.now pairs.now }
-    ensures yes { out.new.status ≡ 0 → Sets settings.now (λ old. IsYes old
-        (Some (listed_by settings.now pairs.now)) (limits_by settings.now) pickle.now
-        room.old room.new out.new) }
-    ensures no { out.new.status ≡ 1 → Sets settings.now (λ old. IsNo old
-        (Some (listed_by settings.now pairs.now)) (limits_by settings.now) pickle.now
-        room.old room.new out.new) }
-    ensures usage { out.new.status ≡ 3 → IsUsage settings.now room.old room.new out.new }
+    ensures answer { Answers result out.new
+        (Sets settings.now (λ old. IsYes old (Some (listed_by settings.now pairs.now))
+        (limits_by settings.now) pickle.now room.old room.new out.new))
+        (Sets settings.now (λ old. IsNo old (Some (listed_by settings.now pairs.now))
+        (limits_by settings.now) pickle.now room.old room.new out.new))
+        ⊥ (IsUsage settings.now room.old room.new out.new) }
 {
     halving();
     *out = match settings::old_strings_in(settings) {
         None => verdict::of_usage(),
         Some(old) => {
-            let terms = Terms {
+            let request = Request {
                 permit: settings::permit_by(settings, pairs),
                 limits: settings::limits_by(settings),
                 loading: settings::loading_by(settings, old),
             };
-            answered(alloc, &terms, pickle, room)
+            answered(alloc, &request, pickle, room)
         }
     };
     out.status
@@ -93,18 +89,14 @@ pub extern "C" fn pkguard_check_list(
     room: &mut [u8],
     out: &mut Verdict,
 ) -> u32
-    ensures status { result ≡ out.new.status }
-    ensures bound { out.new.status ≤ 3 }
-    ensures yes { out.new.status ≡ 0 → Sets settings.now (λ old.
-        Under list.now (λ policy limits. IsYes old policy
-        (limits_within limits settings.now) pickle.now room.old room.new out.new)) }
-    ensures no { out.new.status ≡ 1 → Sets settings.now (λ old.
-        Under list.now (λ policy limits. IsNo old policy
-        (limits_within limits settings.now) pickle.now room.old room.new out.new)) }
-    ensures fault { out.new.status ≡ 2 → Sets settings.now (λ _.
-        IsListFault list.now room.old room.new out.new) }
-    ensures usage { out.new.status ≡ 3 → IsUsage settings.now room.old room.new out.new
-        ⊎ IsLimitedList list.now room.old room.new out.new }
+    ensures answer { Answers result out.new
+        (Sets settings.now (λ old. Under list.now (λ policy limits. IsYes old policy
+        (limits_within limits settings.now) pickle.now room.old room.new out.new)))
+        (Sets settings.now (λ old. Under list.now (λ policy limits. IsNo old policy
+        (limits_within limits settings.now) pickle.now room.old room.new out.new)))
+        (Sets settings.now (λ _. IsListFault list.now room.old room.new out.new))
+        (IsUsage settings.now room.old room.new out.new
+        ⊎ IsLimitedList list.now room.old room.new out.new) }
 {
     *out = match settings::old_strings_in(settings) {
         None => verdict::of_usage(),
@@ -130,28 +122,26 @@ pub extern "C" fn pkguard_check_row(
     room: &mut [u8],
     out: &mut Verdict,
 ) -> u32
-    ensures status { result ≡ out.new.status }
-    ensures bound { out.new.status ≤ 3 }
-    ensures list { out.new.status ≢ 2 }
     ensures pairs { PermitsPairs settings.now pairs.now }
-    ensures yes { out.new.status ≡ 0 → Sets settings.now (λ old. IsYesOfRow
-        (loading_by settings.now old) (Some (listed_by settings.now pairs.now))
-        (limits_by settings.now) pickles.now room.old room.new out.new) }
-    ensures no { out.new.status ≡ 1 → Sets settings.now (λ old. IsNoOfRow
-        (loading_by settings.now old) (Some (listed_by settings.now pairs.now))
-        (limits_by settings.now) pickles.now room.old room.new out.new) }
-    ensures usage { out.new.status ≡ 3 → IsUsage settings.now room.old room.new out.new }
+    ensures answer { Answers result out.new
+        (Sets settings.now (λ old. IsYesOfRow (loading_by settings.now old)
+        (Some (listed_by settings.now pairs.now)) (limits_by settings.now) pickles.now
+        room.old room.new out.new))
+        (Sets settings.now (λ old. IsNoOfRow (loading_by settings.now old)
+        (Some (listed_by settings.now pairs.now)) (limits_by settings.now) pickles.now
+        room.old room.new out.new))
+        ⊥ (IsUsage settings.now room.old room.new out.new) }
 {
     halving();
     *out = match settings::old_strings_in(settings) {
         None => verdict::of_usage(),
         Some(old) => {
-            let terms = Terms {
+            let request = Request {
                 permit: settings::permit_by(settings, pairs),
                 limits: settings::limits_by(settings),
                 loading: settings::loading_by(settings, old),
             };
-            answered_row(alloc, &terms, pickles, room)
+            answered_row(alloc, &request, pickles, room)
         }
     };
     out.status
@@ -168,14 +158,11 @@ pub extern "C" fn pkguard_read_list(
     wanted: &mut u64,
     out: &mut Verdict,
 ) -> u32
-    ensures status { result ≡ out.new.status }
-    ensures bound { out.new.status ≤ 3 }
-    ensures never { out.new.status ≢ 1 }
-    ensures read { out.new.status ≡ 0
-        → IsListRead list.now room.old room.new limits.new wanted.new out.new }
+    ensures answer { Answers result out.new
+        (IsListRead list.now room.old room.new limits.new wanted.new out.new) ⊥
+        (IsListFault list.now room.old room.new out.new)
+        (IsOfAnotherSize limits.old room.old room.new out.new) }
     ensures size { out.new.status ≢ 3 → limits.old.size ≡ 64 }
-    ensures fault { out.new.status ≡ 2 → IsListFault list.now room.old room.new out.new }
-    ensures usage { out.new.status ≡ 3 → IsOfAnotherSize limits.old room.old room.new out.new }
     ensures nothing { out.new.status ≢ 0 → wanted.new ≡ 0 }
     ensures same { out.new.status ≢ 0 → limits.new ≡ limits.old }
 {
@@ -200,26 +187,24 @@ pub extern "C" fn pkguard_imports(
     wanted: &mut u64,
     out: &mut Verdict,
 ) -> u32
-    ensures status { result ≡ out.new.status }
-    ensures bound { out.new.status ≤ 3 }
-    ensures list { out.new.status ≢ 2 }
-    ensures yes { out.new.status ≡ 0 → Sets settings.now (λ old. IsImports old
-        (limits_by settings.now) pickle.now room.old room.new wanted.new out.new) }
-    ensures no { out.new.status ≡ 1 → Sets settings.now (λ old. IsImportsBefore old
-        (limits_by settings.now) pickle.now room.old room.new wanted.new out.new) }
-    ensures usage { out.new.status ≡ 3 → IsUsage settings.now room.old room.new out.new }
+    ensures answer { Answers result out.new
+        (Sets settings.now (λ old. IsImports old (limits_by settings.now) pickle.now
+        room.old room.new wanted.new out.new))
+        (Sets settings.now (λ old. IsImportsBefore old (limits_by settings.now) pickle.now
+        room.old room.new wanted.new out.new))
+        ⊥ (IsUsage settings.now room.old room.new out.new) }
     ensures nothing { out.new.status ≡ 3 → wanted.new ≡ 0 }
 {
     *wanted = 0;
     *out = match settings::old_strings_in(settings) {
         None => verdict::of_usage(),
         Some(old) => {
-            let terms = Terms {
+            let request = Request {
                 permit: Permit::By(Policy::AnyImport),
                 limits: settings::limits_by(settings),
                 loading: settings::loading_by(settings, old),
             };
-            imported(alloc, &terms, pickle, room, wanted)
+            imported(alloc, &request, pickle, room, wanted)
         }
     };
     out.status
@@ -253,7 +238,7 @@ fn read(
 
 /// What a check obeys.
 #[derive(Clone, Copy)]
-struct Terms<'a> {
+struct Request<'a> {
     permit: Permit<'a>,
     limits: Limits,
     loading: Loading,
@@ -262,21 +247,21 @@ struct Terms<'a> {
 /// The verdict of `check_with_imports` with every import permitted, and the imports.
 fn imported(
     alloc: Global,
-    terms: &Terms<'_>,
+    request: &Request<'_>,
     pickle: &[u8],
     room: &mut [u8],
     wanted: &mut u64,
 ) -> Verdict
-    requires { permit_of terms.now.permit ≡ None }
+    requires { permit_of request.now.permit ≡ None }
     ensures bound { result.status ≤ 1 }
-    ensures yes { result.status ≡ 0 → IsImports terms.now.loading.old_strings terms.now.limits
+    ensures yes { result.status ≡ 0 → IsImports request.now.loading.old_strings request.now.limits
         pickle.now room.old room.new wanted.new result }
-    ensures no { result.status ≡ 1 → IsImportsBefore terms.now.loading.old_strings
-        terms.now.limits pickle.now room.old room.new wanted.new result }
+    ensures no { result.status ≡ 1 → IsImportsBefore request.now.loading.old_strings
+        request.now.limits pickle.now room.old room.new wanted.new result }
 {
     let mut source = Memory::new(pickle);
-    let old = terms.loading.old_strings;
-    match check_with_imports(alloc, &mut source, &terms.permit, &terms.limits, old) {
+    let old = request.loading.old_strings;
+    match check_with_imports(alloc, &mut source, &request.permit, &request.limits, old) {
         Ok(yes) => {
             *wanted = encoding::give_imports(&yes.imports, room);
             verdict::of_yes(yes.taken, &yes.imports, 1)
@@ -319,31 +304,31 @@ fn listed(
             if !allow.cost_limits().are_unsaid() {
                 return verdict::of_usage();
             }
-            let terms = Terms {
+            let request = Request {
                 limits: settings::limits_within(served.settings, &allow.limits()),
                 permit: Permit::By(Policy::Listed(&allow)),
                 loading: settings::loading_by(served.settings, served.old_strings),
             };
-            answered(alloc, &terms, pickle, room)
+            answered(alloc, &request, pickle, room)
         }
     }
 }
 
 /// The verdict of `check`.
-fn answered(alloc: Global, terms: &Terms<'_>, pickle: &[u8], room: &mut [u8]) -> Verdict
+fn answered(alloc: Global, request: &Request<'_>, pickle: &[u8], room: &mut [u8]) -> Verdict
     ensures bound { result.status ≤ 1 }
-    ensures yes { result.status ≡ 0 → IsYes terms.now.loading.old_strings
-        (permit_of terms.now.permit) terms.now.limits pickle.now room.old room.new result }
-    ensures no { result.status ≡ 1 → IsNo terms.now.loading.old_strings
-        (permit_of terms.now.permit) terms.now.limits pickle.now room.old room.new result }
+    ensures yes { result.status ≡ 0 → IsYes request.now.loading.old_strings
+        (permit_of request.now.permit) request.now.limits pickle.now room.old room.new result }
+    ensures no { result.status ≡ 1 → IsNo request.now.loading.old_strings
+        (permit_of request.now.permit) request.now.limits pickle.now room.old room.new result }
 {
     let mut source = Memory::new(pickle);
-    let Loading { old_strings, .. } = terms.loading;
+    let Loading { old_strings, .. } = request.loading;
     match check_with_imports(
         alloc,
         &mut source,
-        &terms.permit,
-        &terms.limits,
+        &request.permit,
+        &request.limits,
         old_strings,
     ) {
         Ok(yes) => verdict::of_yes(yes.taken, &yes.imports, 1),
@@ -352,20 +337,20 @@ fn answered(alloc: Global, terms: &Terms<'_>, pickle: &[u8], room: &mut [u8]) ->
 }
 
 /// The verdict of `check_all_loaded`.
-fn answered_row(alloc: Global, terms: &Terms<'_>, pickles: &[u8], room: &mut [u8]) -> Verdict
+fn answered_row(alloc: Global, request: &Request<'_>, pickles: &[u8], room: &mut [u8]) -> Verdict
     ensures bound { result.status ≤ 1 }
-    ensures yes { result.status ≡ 0 → IsYesOfRow terms.now.loading (permit_of terms.now.permit)
-        terms.now.limits pickles.now room.old room.new result }
-    ensures no { result.status ≡ 1 → IsNoOfRow terms.now.loading (permit_of terms.now.permit)
-        terms.now.limits pickles.now room.old room.new result }
+    ensures yes { result.status ≡ 0 → IsYesOfRow request.now.loading (permit_of request.now.permit)
+        request.now.limits pickles.now room.old room.new result }
+    ensures no { result.status ≡ 1 → IsNoOfRow request.now.loading (permit_of request.now.permit)
+        request.now.limits pickles.now room.old room.new result }
 {
     let mut source = Memory::new(pickles);
     match check_all_loaded(
         alloc,
         &mut source,
-        &terms.permit,
-        &terms.limits,
-        terms.loading,
+        &request.permit,
+        &request.limits,
+        request.loading,
     ) {
         Ok(yes) => verdict::of_yes(yes.taken, &yes.imports, yes.pickles),
         Err(all) => verdict::of_no(&all.no, all.pickle, room),

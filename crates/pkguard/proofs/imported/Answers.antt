@@ -5,7 +5,7 @@ use Rattle.pkguard.proofs.imported.Goals as goal
 
 pub returns-in-Err-clause-no : goal.returns-in-Err-clause-no
 returns-in-Err-clause-no c is =
-    told_before _ (permit_of c.args.terms.now.permit) _ _ _ _ _ _ _ _ c.in-Err.refused.no.at _ _ _
+    told_before _ (permit_of c.args.request.now.permit) _ _ _ _ _ _ _ _ c.in-Err.refused.no.at _ _ _
     c.requires c.new-source.ensures c.in-Err.ensures.answer c.of_no_with_imports.ensures.told
     c.of_no_with_imports.ensures.place c.give_imports-in-Err.ensures.wanted
     c.give_imports-in-Err.ensures.room
