@@ -5,6 +5,7 @@ import datetime
 import logging
 import os
 import pickle
+import signal
 import socket
 import subprocess
 import sys
@@ -95,16 +96,12 @@ class Control:
         self.shapes = poison.shapes(folder)
 
     def runs_all(self, attempt):
-        """Tries each pickle in a process of its own, and asserts that it left its mark."""
-        for data in self.shapes.values():
-            child = os.fork()
-            if child == 0:
-                try:
-                    _silenced()
-                    attempt(data)
-                finally:
-                    os._exit(0)
-            os.waitpid(child, 0)
+        """Tries each pickle in a process of its own, and asserts that it left its mark. One that
+        stalls its process is tried again.
+        """
+        for seconds in (PATIENCE // 20, PATIENCE // 4):
+            for name in self.left(self.shapes):
+                _attempted(lambda: attempt(self.shapes[name]), seconds)
         self.assert_all_ran(self.shapes, 0)
 
     def left(self, names):
@@ -133,6 +130,21 @@ def log():
     yield lines
     logger.removeHandler(handler)
     logger.propagate = True
+
+
+def _attempted(call, seconds):
+    """Calls in a child, which is killed if it takes longer."""
+    child, end = os.fork(), time.monotonic() + seconds
+    if child == 0:
+        try:
+            _silenced()
+            call()
+        finally:
+            os._exit(0)
+    while os.waitpid(child, os.WNOHANG)[0] == 0:
+        if time.monotonic() > end:
+            os.kill(child, signal.SIGKILL)
+        time.sleep(0.005)
 
 
 def _silenced():
@@ -179,8 +191,10 @@ def _wait_for(port, server):
 
 
 @contextlib.contextmanager
-def process(*words, log, **environment):
-    """Another process in this folder, ended with the test; its output goes to a file."""
+def process(*words, log, is_killed=False, **environment):
+    """Another process in this folder, ended with the test, or killed with all that it has begun.
+    Its output goes to a file.
+    """
     with open(log, "wb") as out:
         started = subprocess.Popen(
             [sys.executable, *words],
@@ -188,11 +202,16 @@ def process(*words, log, **environment):
             env={**os.environ, **environment},
             stdout=out,
             stderr=subprocess.STDOUT,
+            start_new_session=is_killed,
         )
     try:
         yield started
     finally:
-        started.terminate()
+        if is_killed:
+            with contextlib.suppress(ProcessLookupError):
+                os.killpg(started.pid, signal.SIGKILL)
+        else:
+            started.terminate()
         try:
             started.wait(20)
         except subprocess.TimeoutExpired:

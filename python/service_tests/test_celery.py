@@ -4,6 +4,7 @@ import collections
 import contextlib
 import os
 import pickle
+import sys
 import tempfile
 import time
 import uuid
@@ -15,6 +16,9 @@ import watching
 
 NEEDS = ("celery", "redis", "sqlalchemy", "$redis-server")
 WORDS = ("-m", "celery", "-A", "celery_app", "worker", "-c", "2", "-l", "warning")
+ALONE = ("--without-mingle", "--without-gossip", "--without-heartbeat")
+STALLED = 20
+"""Seconds without a mark, after which a message gets another worker, and then twice as long."""
 TABLE = poison.shapes(common.MARKS)
 CLIENTS = ("sqlite3", "_sqlite3", "pylibmc", "_pylibmc", "memcache", "six", "cPickle", "gc")
 """Modules that the backends import when they connect."""
@@ -22,8 +26,8 @@ MISSHAPEN = (b"K\x01.", b"N.", pickle.dumps([1, 2]), pickle.dumps({"args": 1}), 
 """What is accepted and is no task."""
 
 
-def publish(app, body, task="jobs.add", protocol=2, **more):
-    """Puts a message into the queue as a stranger would who can reach the broker."""
+def publish(app, body, task="jobs.add", protocol=2, queue="celery", **more):
+    """Puts a message into a queue as a stranger would who can reach the broker."""
     from kombu import Exchange, Producer, Queue
 
     name = str(uuid.uuid4())
@@ -37,9 +41,9 @@ def publish(app, body, task="jobs.add", protocol=2, **more):
         headers.pop("id", None)
     with app.connection() as connection, connection.channel() as channel:
         exchange = Exchange("celery")
-        Producer(channel, exchange=exchange, routing_key="celery").publish(
+        Producer(channel, exchange=exchange, routing_key=queue).publish(
             body,
-            declare=[Queue("celery", exchange, routing_key="celery")],
+            declare=[Queue(queue, exchange, routing_key=queue)],
             content_type="application/x-python-serialize",
             content_encoding="binary",
             headers=headers,
@@ -98,27 +102,43 @@ def control(log):
     os.environ["PLAIN"] = "1"
     import celery_app
 
-    with common.table() as table:
-        for data in table.shapes.values():
-            publish(celery_app.app, second_protocol(data))
-        run_table(table, log)
-    with common.table() as table:
-        for data in table.shapes.values():
-            publish(celery_app.app, first_protocol(data), protocol=1)
-        run_table(table, log)
+    for body, protocol in ((second_protocol, 2), (first_protocol, 1)):
+        with common.table() as table:
+            messages = {name: body(data) for name, data in table.shapes.items()}
+            run_table(celery_app.app, table, messages, protocol, log)
     with common.table() as table:
         table.runs_all(lambda data: read_result(celery_app.app, data))
-    del os.environ["PLAIN"], __import__("sys").modules["celery_app"]
+    del os.environ["PLAIN"], sys.modules["celery_app"]
 
 
-def run_table(table, log):
-    """The worker runs the table. A message may end it before all have run: then it starts again."""
+def run_table(app, table, messages, protocol, log):
+    """Workers run the table, each some messages from a queue of its own, because a message may end
+    or stall its worker. What has left no mark by then goes to other workers: to each less of it, at
+    last one message, and to each more time.
+    """
     end = time.monotonic() + common.PATIENCE
-    while table.left(table.shapes) and time.monotonic() < end:
-        with common.process(*WORDS, log=log, C_FORCE_ROOT="1") as worker:
-            while table.left(table.shapes) and worker.poll() is None and time.monotonic() < end:
-                time.sleep(0.1)
+    size, seconds = len(messages), STALLED
+    while table.left(messages) and time.monotonic() < end:
+        left, size = table.left(messages), max(1, size // 4)
+        for at in range(0, len(left), size):
+            queue, names = str(uuid.uuid4()), left[at : at + size]
+            for name in names:
+                publish(app, messages[name], protocol=protocol, queue=queue)
+            words = (*WORDS, *ALONE, "-Q", queue)
+            with common.process(*words, log=log, is_killed=True, C_FORCE_ROOT="1") as worker:
+                wait_for_marks(table, names, worker, seconds, end)
+        seconds *= 2
     table.assert_all_ran(table.shapes, 0)
+
+
+def wait_for_marks(table, names, worker, seconds, end):
+    """Waits until all marks are there, the worker has ended, or so long none is added."""
+    left, until = table.left(names), time.monotonic() + seconds
+    while left and worker.poll() is None and time.monotonic() < min(until, end):
+        time.sleep(0.1)
+        now = table.left(names)
+        if len(now) < len(left):
+            left, until = now, time.monotonic() + seconds
 
 
 def read_result(app, data):
