@@ -2,21 +2,26 @@
 
 from __future__ import annotations
 
-from typing import Dict
+import functools
+import re
+from typing import Dict, Pattern, Sequence, Tuple
 
-from .berkeley import berkeley_reading
-from .caches import cachelib_reading
+from .berkeley import BERKELEY_MARK, berkeley_reading
+from .caches import CACHE_MARK, cachelib_reading
 from .checkpoints import records_reading
+from .npys import MAGIC as NPY_MAGIC
 from .npys import npy_reading
 from .packed import (
-    bzip2_reading, gzip_reading, lzma_reading, unknown_reading, xz_reading, zf_reading, zlib_reading
+    LZMA_MARK, bzip2_reading, gzip_reading, lzma_reading, unknown_reading, xz_reading, zf_reading,
+    zlib_reading
 )
 from .pickles import pickle_reading
-from .readings import Reading
+from .places import METADATA, PART, VALUES
+from .readings import Place, Reading
 from .shelves import shelf_reading
 from .sqlite_files import sqlite_reading
-from .stores import STORES
-from .tars import tar_reading
+from .stores import HDF5_MAGIC, LMDB_MARK, STORES
+from .tars import TAR_MARK, tar_reading
 from .zips import zip_reading
 
 READINGS: Dict[str, Reading] = {
@@ -39,3 +44,77 @@ READINGS: Dict[str, Reading] = {
     "zip": zip_reading,  # the last, because it leaves out what a member holds
 }
 """By the name of what they read."""
+
+FIRST: Dict[str, bytes] = {
+    "gzip": b"\x1f",
+    "bzip2": b"B",
+    "xz": b"\xfd",
+    "zlib": b"\x08\x18\x28\x38\x48\x58\x68\x78",
+    "ZF": b"Z",
+    "packed file": b"7RL\x02\x04\x1e" + bytes(range(0x22, 0x29)) + bytes(range(0x50, 0x60)),
+    "SQLite": b"S7\xd9",
+    "GDBM": b"\x13\xcd\xce\xcf\xd0\xd1",
+    "Arrow": b"AF",
+    "Parquet": b"P",
+}
+"""With which byte the files begin that a reader takes, if not with any."""
+
+NAMED: Dict[str, str] = {"dbm.dumb": VALUES, "distcp": METADATA}
+"""How the names of the files end that a reader takes, if not in any way."""
+
+MARKED: Dict[str, bytes] = {
+    "cachelib": CACHE_MARK,
+    "tar": TAR_MARK,
+    "lzma": LZMA_MARK,
+    "Berkeley DB": BERKELEY_MARK,
+    "LMDB": LMDB_MARK,
+}
+"""A pattern of the first bytes of all files that a reader takes."""
+
+_ZIP = b"PK"  # (as local headers and end records begin)
+HOLDING: Dict[str, bytes] = {"npy": NPY_MAGIC, "HDF5": HDF5_MAGIC, "zip": _ZIP}
+"""What stands somewhere in all files that a reader takes."""
+
+_Item = Tuple[str, Reading]
+_ENDINGS = (VALUES, PART, METADATA)
+
+
+def asked(place: Place) -> Sequence[_Item]:
+    """The readings that have to be asked, by name: the others find nothing. Few have to be, of most
+    files.
+    """
+    source = place.source
+    front = source.front()
+    if not front or place.path.lower().endswith(_ENDINGS):
+        return tuple(READINGS.items())
+    is_whole = len(front) == source.size
+    plain, marks, others = _beginning(front[:1])
+    if is_whole and not (
+        NPY_MAGIC in front or HDF5_MAGIC in front or _ZIP in front or marks.match(front)
+    ):
+        return plain
+    return [
+        (name, reading)
+        for name, reading in others
+        if not is_whole or HOLDING.get(name, b"") in front and _mark_of(name).match(front)
+    ]
+
+
+@functools.lru_cache(maxsize=None)
+def _beginning(first: bytes) -> Tuple[Sequence[_Item], Pattern[bytes], Sequence[_Item]]:
+    """The readings of files with this first byte: those that are always asked, the marks of the
+    others, and all.
+    """
+    found = {
+        name: reading
+        for name, reading in READINGS.items()
+        if first in FIRST.get(name, first) and name not in NAMED
+    }
+    plain = [item for item in found.items() if item[0] not in {**MARKED, **HOLDING}]
+    marks = b"|".join(mark for name, mark in MARKED.items() if name in found)
+    return plain, re.compile(marks, re.DOTALL), list(found.items())
+
+
+@functools.lru_cache(maxsize=None)
+def _mark_of(name: str) -> Pattern[bytes]:
+    return re.compile(MARKED.get(name, b""), re.DOTALL)

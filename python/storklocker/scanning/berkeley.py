@@ -2,6 +2,7 @@
 
 from __future__ import annotations
 
+import re
 import struct
 from typing import Callable, Dict, Iterator, List, Set, Tuple
 
@@ -16,6 +17,7 @@ _ORDERS = {
     for order in "<>"
 }
 """The order of bytes in numbers, by those behind the first twelve of the file."""
+BERKELEY_MARK = b".{12}(?:%b)" % b"|".join(map(re.escape, _ORDERS))
 _HEADER, _OVERFLOW = 26, 7
 """The length of a page's header, and the kind of page that has a part of a long value."""
 _LEAST, _MOST = 1 << 9, 1 << 16

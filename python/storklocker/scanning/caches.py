@@ -2,6 +2,7 @@
 
 from __future__ import annotations
 
+import re
 import zlib
 
 from .._reasons import Reason
@@ -15,6 +16,8 @@ from .stores import is_import, is_in_words, is_value
 _TIME, _PICKLED = 4, 64
 """The bytes of cachelib's time, and more than Django's pickle of a time has."""
 _LOOKED_AT = 1 << 20
+CACHE_MARK = b".{%d}[%b]" % (_TIME, re.escape(bytes(LENGTHS)))
+"""An instruction stands where the value begins."""
 _NEVER = (b"", b"P", b"Q")
 """No value, or one that cachelib stops at: an object that is kept elsewhere."""
 
@@ -64,7 +67,9 @@ def _length(source: Source, budget: Budget) -> int:
     """The length of the pickle at the front, if it imports nothing. It is a short one, or has no
     PROTO, without which nobody claims what stands behind it.
     """
-    front = source.read(0, _PICKLED)
+    front = source.front()[:_PICKLED]
+    if front[:1] == b"\x80" and b"." not in front:
+        return 0  # it doesn't end there
     found = imports_within(front, NOTHING, WIDEST)
     verdict, has_imports = found.verdict, bool(found.names)
     is_cut = verdict.reason is Reason.Truncated and len(front) < source.size

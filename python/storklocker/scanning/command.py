@@ -188,7 +188,9 @@ def _jobs(word: str) -> int:
 def _files_of(asked: argparse.Namespace) -> Iterator[Files]:
     """The files to scan. When they are exhausted, reports how many were left out."""
     choice = Choice(getattr(asked, "include", ()), getattr(asked, "exclude", ()))
-    files = Files(asked.paths, getattr(asked, "recursive", False), choice)
+    is_measured = any(getattr(asked, it, None) for it in ("cluster", "resume"))
+    is_measured |= getattr(asked, "jobs", 1) > 1
+    files = Files(asked.paths, getattr(asked, "recursive", False), choice, is_measured)
     yield files
     if files.left_out:
         count = f"{files.left_out} folder{'s' * (files.left_out > 1)}"

@@ -26,36 +26,47 @@ def condensed(reports: Iterable[Report]) -> Iterator[Report]:
     """
     rest = _Rest()
     try:
-        yield from rest.left_of(reports)
+        for report in reports:
+            if rest.has_room(report):
+                yield report
     except Exception:
         yield from rest.counted()
         raise
-    yield from rest.counted()
+    if rest.is_any:
+        yield from rest.counted()
 
 
 class _Rest:
     """What there is no room for."""
 
     def __init__(self) -> None:
-        self._room = {True: ROOM, False: QUIET}
-        self._statuses: "Counter[str]" = Counter()
-        self._kinds: "Counter[str]" = Counter()
-        self._file = ""
+        self._room, self._quiet = ROOM, QUIET
+        self.is_any = False
 
-    def left_of(self, reports: Iterable[Report]) -> Iterator[Report]:
-        """The reports that there is room for."""
-        for report in reports:
-            self._room[report.is_finding] -= _weight(report)
-            if self._room[report.is_finding] > 0:
-                yield report
-                continue
-            self._file = report.file
-            self._statuses[report.status] += 1
-            self._kinds.update(finding.kind for finding in report.findings)
+    def has_room(self, report: Report) -> bool:
+        """Whether there is room for a report. Counts it otherwise."""
+        if report.is_finding:
+            self._room -= _weight(report)
+            room = self._room
+        else:
+            self._quiet -= _weight(report)
+            room = self._quiet
+        if room <= 0:
+            self._count(report)
+        return room > 0
+
+    def _count(self, report: Report) -> None:
+        if not self.is_any:
+            self.is_any = True
+            self._statuses: "Counter[str]" = Counter()
+            self._kinds: "Counter[str]" = Counter()
+        self._file = report.file
+        self._statuses[report.status] += 1
+        self._kinds.update(finding.kind for finding in report.findings)
 
     def counted(self) -> Iterator[Report]:
         """A report on the others, if there are any."""
-        if not self._statuses:
+        if not self.is_any:
             return
         rest = {it: self._statuses[it] for it in _ORDER if self._statuses[it]}
         counts = ", ".join(f"{count:,} {status}" for status, count in rest.items())
@@ -79,6 +90,8 @@ def _weight(report: Report) -> int:
     texts += (line.line for line in report.listing)
     text = "".join(texts)
     # a character takes up to 12 bytes in JSON, 6 in HTML
-    size = len(text) + 11 * len(_OTHER.findall(text)) + 5 * len(_MARKUP.findall(text))
+    size = len(text) + 5 * len(_MARKUP.findall(text))
+    if not (text.isascii() and text.isprintable()):
+        size += 11 * len(_OTHER.findall(text))
     around = _LINE * (len(names) // 2 + len(report.listing))
     return size + around + _REPORT + _FINDING * len(report.findings)

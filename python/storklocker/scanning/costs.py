@@ -4,6 +4,7 @@ much, or whose BUILD changes what it imports.
 
 from __future__ import annotations
 
+import functools
 from typing import TYPE_CHECKING, Iterable, NamedTuple, Optional, Tuple
 
 from .._answers import Verdict
@@ -39,6 +40,8 @@ _SETTINGS = settings_of(NOTHING, LIMITS, "unknown")
 _COUNTING = settings_of(NOTHING, WIDEST._replace(memory=(1 << 64) - 2), "unknown", "any")
 """Settings under which costs are counted, and none is too much."""
 _WEIGHING = settings_of(NOTHING, LIMITS._replace(work=None), "unknown")
+_SMALL = 512
+"""The most bytes of names of which a list is kept."""
 _LEVELS, _WEIGHT = 1_023, 1_048_575
 """As far as levels and weights are counted."""
 _WHY = {
@@ -89,8 +92,17 @@ def exceeded_in_row(data: bytes, names: Iterable[Names]) -> Optional[Tuple[Excee
 
 
 def _permitting(names: Iterable[Names]) -> AllowList:
-    pairs = [(module, name) for module, name in names if module is not None and name]
+    pairs = tuple((module, name) for module, name in names if module is not None and name)
+    is_small = sum(len(module) + len(name) for module, name in pairs) <= _SMALL
+    return _permitting_few(pairs) if is_small else _permitting_all(pairs)
+
+
+def _permitting_all(pairs: Tuple[Tuple[bytes, bytes], ...]) -> AllowList:
     return AllowList._of(pairs, None, None, _SETTINGS)
+
+
+# (the files of a scan mostly import the same names)
+_permitting_few = functools.lru_cache(maxsize=256)(_permitting_all)
 
 
 def bill_of(data: bytes, names: Iterable[Names]) -> str:

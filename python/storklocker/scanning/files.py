@@ -36,17 +36,22 @@ class File(NamedTuple):
 
 class Files:
     """The files among the paths, and those in the folders that are chosen; with `recursive`, in
-    subfolders too.
+    subfolders too. `is_measured` gives their sizes and stamps, which take a call for each.
 
     left_out: the number of subfolders skipped without `recursive`.
     """
 
     def __init__(
-        self, paths: Iterable[str], recursive: bool = False, choice: Optional[Choice] = None
+        self,
+        paths: Iterable[str],
+        recursive: bool = False,
+        choice: Optional[Choice] = None,
+        is_measured: bool = True,
     ) -> None:
         self._paths, self.recursive, self.choice = list(paths), recursive, choice or Choice()
         self._roots = {os.path.realpath(path) for path in self._paths if os.path.isdir(path)}
         self._left = {above for root in self._roots for above in _parents(root)} | _SYSTEM
+        self._file: Callable[[str], File] = _measured if is_measured else _unmeasured
         self.left_out = 0
 
     def __iter__(self) -> Iterator[File]:
@@ -58,7 +63,7 @@ class Files:
             elif path != "-" and os.path.isdir(path):
                 yield from self._files_of(path)
             else:
-                yield _file(path)
+                yield self._file(path)
 
     def _files_of(self, folder: str) -> Iterator[File]:
         try:
@@ -73,7 +78,7 @@ class Files:
             if not self.choice.takes(entry.path, _is(entry.is_dir)):
                 continue
             if _is(entry.is_file):
-                yield _file(entry.path)
+                yield self._file(entry.path)
             elif not _is(entry.is_dir):
                 yield File(entry.path, False)
             elif not self.recursive:
@@ -131,7 +136,11 @@ def is_url(path: str) -> bool:
     return "://" in path
 
 
-def _file(path: str) -> File:
+def _unmeasured(path: str) -> File:
+    return File(path)
+
+
+def _measured(path: str) -> File:
     try:
         found = os.stat(path)
     except OSError:

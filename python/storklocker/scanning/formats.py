@@ -23,7 +23,7 @@ def table(reports: Iterable[Report], names_all: bool = False) -> Iterator[str]:
         word = _word(report)
         count = found[word] = found.get(word, 0) + 1
         if report.status != NO_PICKLE or report.findings or names_all and count <= _QUIET:
-            yield from _lines(report)
+            yield from _lines(report, word)
     if names_all and found.get(NO_PICKLE, 0) > _QUIET:
         yield f"{_INDENT}{found[NO_PICKLE] - _QUIET} more without a pickle"
     yield ", ".join(f"{count} {status}" for status, count in sorted(found.items())) or "no files"
@@ -39,8 +39,8 @@ def _word(report: Report) -> str:
     return report.status
 
 
-def _lines(report: Report) -> Iterator[str]:
-    line = f"{_word(report):10}  {shown(report.path)}  {report.kind}  {shown(report.why)}"
+def _lines(report: Report, word: str) -> Iterator[str]:
+    line = f"{word:10}  {shown(report.path)}  {report.kind}  {shown(report.why)}"
     yield line.rstrip()
     missing = set(report.missing)
     for pair in report.imports:

@@ -147,15 +147,18 @@ def _shown_names(
 ) -> Tuple[Tuple[Pair, ...], Tuple[Pair, ...]]:
     """The imports, and those off the list, as far as there is room for them: the latter first."""
     def is_off(both: "Names") -> bool:
-        return allow is not None and row.refusal is not None and not allow._has(both)
+        return allow is not None and not allow._has(both)
 
     kept: Dict["Names", Pair] = {}
-    for both in itertools.chain(filter(is_off, row.names), row.names):
+    off = () if allow is None or row.refusal is None else filter(is_off, row.names)
+    for both in itertools.chain(off, row.names):
         if budget.names < 1:
             break  # a hostile file has very many
         pair = _text_of(both[0]), _text_of(both[1])
-        if both not in kept and budget.spend_name(sum(len(text or "") for text in pair)):
+        if both not in kept and budget.spend_name(len(pair[0] or "") + len(pair[1] or "")):
             kept[both] = pair
+    if not off:
+        return tuple(kept.values()), ()
     imports = tuple(kept[both] for both in row.names if both in kept)
     return imports, tuple(kept[both] for both in row.names if both in kept and is_off(both))
 

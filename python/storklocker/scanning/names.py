@@ -26,7 +26,7 @@ WIDEST = Limits(passed=1 << 40, numbers=UNBOUND, large=True, **NO_COSTS)
 """Under a list with limits, just these."""
 _ROOM = 1 << 22
 """The least bytes of names that are taken from a pickle; for a larger pickle, its size."""
-_FIRST = 4096
+_FIRST, _FEW = 4096, 512
 
 
 def limits_under(allow: Optional[AllowList], size: int) -> Limits:
@@ -41,6 +41,12 @@ def limits_under(allow: Optional[AllowList], size: int) -> Limits:
 @functools.lru_cache(maxsize=64)
 def _with_numbers(most: int) -> Limits:
     return WIDEST._replace(numbers=most)
+
+
+# (the files of a scan mostly import the same names)
+@functools.lru_cache(maxsize=256)
+def _few_of(room: bytes) -> Tuple[Names, ...]:
+    return tuple(records(room))
 
 
 class Imports(NamedTuple):
@@ -62,7 +68,8 @@ def imports_within(data: bytes, allow: AllowList, limits: Limits = WIDE) -> Impo
         return Imports(verdict, {}, False)
     if wanted > size:
         verdict, wanted, room = _imports(data, allow, settings, wanted)
-    return Imports(verdict, dict.fromkeys(records(room[:wanted])))
+    its = records(room[:wanted]) if wanted > _FEW else _few_of(room[:wanted])
+    return Imports(verdict, dict.fromkeys(its))
 
 
 def verdict_at(source: Source, at: int, budget: Budget) -> Tuple[Verdict, bool]:

@@ -2,8 +2,9 @@
 
 A file is a set of readings. Each reader's rule is a module of its own, which says whether that
 reader would get to a pickle in these bytes, and where. All of them are asked about every file and
-every member: that nothing is a pickle is the conclusion of all, never of the first that knows the
-file's first bytes. Two that differ about one file are a finding of their own.
+every member, but for those that find nothing without a mark that it lacks: that nothing is a pickle
+is the conclusion of all, never of the first that knows the file's first bytes. Two that differ
+about one file are a finding of their own.
 
 A reading is a generator. It yields a `Piece` for bytes that its reader would load as a pickle, and
 gets back how many of them form an accepted pickle; an `Unread` for what it can't say; and `Nothing`
@@ -12,8 +13,9 @@ for bytes without a pickle. It returns whether its reader takes the file at all.
 
 from __future__ import annotations
 
+import functools
 import re
-from typing import Callable, Generator, List, NamedTuple, Optional, Union
+from typing import Callable, Generator, List, NamedTuple, Optional, Sequence, Tuple, Union
 
 from .budget import DEPTH, Budget, TooMuch
 from .report import LONGEST, Finding
@@ -121,15 +123,21 @@ _CONTROL, _SOON = re.compile(rb"[\0-\x08\x0b\x0e-\x1f\x7f]"), 256
 """What no text has, which pickles of protocol 2 and later have soon. Decoding takes longer."""
 
 
+@functools.lru_cache(maxsize=None)
+def _all_asked() -> Callable[[Place], Sequence[Tuple[str, Reading]]]:
+    """Gives the readings to ask. (They import this module, and to import takes as long as some.)"""
+    from .all_readings import asked
+
+    return asked
+
+
 def examine(place: Place) -> Found:
     """All readings of a file or a member. Returns whether any reader takes it."""
-    from .all_readings import READINGS
-
     reports = place.budget.reports
     takers: List[str] = []
     if place.depth < 0:
         raise TooMuch(f"containers are more than {DEPTH} deep in one another")
-    for name, reading in READINGS.items():
+    for name, reading in _all_asked()(place):
         if (yield from reading(place)):
             takers.append(name)
     if len(takers) > 1:

@@ -116,7 +116,10 @@ def unreadable(path: str, kind: str, finding: Finding, file: str) -> Report:
 
 def sorted_findings(findings: Iterable[Finding]) -> Tuple[Finding, ...]:
     """The findings, the worst first."""
-    return tuple(sorted(findings, key=lambda finding: SEVERITIES.index(finding.severity)))
+    found = tuple(findings)
+    if len(found) < 2:
+        return found
+    return tuple(sorted(found, key=lambda finding: SEVERITIES.index(finding.severity)))
 
 
 def dotted(pair: Pair) -> str:

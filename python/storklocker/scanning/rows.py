@@ -58,23 +58,23 @@ class Row:
     raw: why arrays that stand between the instructions could not be left out.
     """
 
+    is_complete, is_reached, is_cut = True, False, False
+    refusal: Optional[Verdict] = None
+    costly: Optional[Exceeded] = None
+    costly_at = costly_number = 0
+    number = pickles = taken = stop = 0
+    refused: Tuple[bytes, int] = (b"", 0)
+    too_much: Optional[TooMuch] = None
+    raw = ""
+    _uncosted: Tuple[int, int] = (0, 0)  # the offset and index from which on to look
+    _try_at = _ONE_BY_ONE
+
     def __init__(self, piece: Piece, allow: Optional[AllowList], budget: Budget) -> None:
         self._piece, self._source, self._budget = piece, piece.source, budget
         self._allow, self._listed = allow, NOTHING if allow is None else allow
-        under = settings_of(self._listed, WIDEST, "unknown", "any")
-        self._is_limited = without_costs(under) != under  # what loading costs, by the list
+        self._is_limited = _limits_costs(self._listed)
         self.names: Dict["Names", None] = {}
-        self.is_complete, self.is_reached, self.is_cut = True, False, False
-        self.refusal: Optional[Verdict] = None
-        self.costly: Optional[Exceeded] = None
-        self.costly_at = self.costly_number = 0
-        self._uncosted: Tuple[int, int] = (0, 0)  # the offset and index from which on to look
-        self._recent: Dict["Names", None] = {}  # what they import
-        self.number = self.pickles = self.taken = self.stop = 0
-        self.refused: Tuple[bytes, int] = (b"", 0)
-        self.too_much: Optional[TooMuch] = None
-        self.raw = ""
-        self._try_at = _ONE_BY_ONE
+        self._recent: Dict["Names", None] = {}  # what those import from which on to look
         try:
             while self._is_more() and self._is_next_accepted():
                 pass
@@ -98,11 +98,16 @@ class Row:
         self._budget.spend_pickle()
         data, found, is_within = self._next()
         verdict = found.verdict
+        is_whole = bool(verdict) and verdict.taken == self._source.size
+        if is_whole and is_within and self._is_lone(data, found):
+            return False
         if self._goes_on_behind(found):
             self.taken += verdict.at + 1
             self._uncosted = (self.taken, self.pickles)
             return True
-        names = dict.fromkeys((*found.names, *self._refused(verdict, found)))
+        names = found.names
+        if not verdict:
+            names = dict.fromkeys((*names, *self._refused(verdict, found)))
         self.is_complete &= found.is_complete
         is_listed = found.is_complete and all(map(self._listed._has, names))
         is_listed = is_listed and is_within and not self._is_limited
@@ -116,12 +121,26 @@ class Row:
         self.taken += verdict.taken
         return True
 
+    def _is_lone(self, data: bytes, found: Imports) -> bool:
+        """Whether all is one small pickle, as most files are, whose imports the list permits. Notes
+        what is known of it.
+        """
+        taken, names = found.verdict.taken, found.names
+        if taken >= _AT_ONCE or not found.is_complete or self._is_limited:
+            return False
+        if not all(map(_is_listable if self._allow is None else self._allow._has, names)):
+            return False
+        self.names, self.pickles, self.taken = dict(names), 1, taken
+        self._uncosted = (taken, 1)
+        self._find_costly_in(data, names, 0, 0)
+        return True
+
     def _look_at_costs(self, data: bytes, found: Imports, names: Dict["Names", None]) -> None:
         """Looks at what the next pickle costs, or leaves it for later if it is a small one, all of
         whose imports a list can permit: another would end the look at many.
         """
         verdict = found.verdict
-        is_listable = found.is_complete and all(name for _, name in names)
+        is_listable = found.is_complete and all(map(_is_listable, names))
         if verdict and verdict.taken < _AT_ONCE and is_listable:
             if self.taken - self._uncosted[0] > _AT_ONCE:
                 self._find_costly()
@@ -186,8 +205,6 @@ class Row:
 
     def _refused(self, verdict: Verdict, found: Imports) -> Tuple["Names", ...]:
         """What a reader may import at the place where a pickle is refused, or behind it."""
-        if verdict:
-            return ()
         beyond = reached(self._source, self.taken + verdict.at, verdict.reason, self.taken)
         names = refused_with(verdict.reason) if beyond or self._piece.is_claimed else ()
         self.is_reached = bool(found.names) or bool(names) or bool(beyond)
@@ -245,6 +262,19 @@ class Row:
         self.taken += verdict.taken
         self._uncosted = (self.taken, self.pickles)
         return True
+
+
+def _is_listable(names: "Names") -> bool:
+    """Whether a list may have these names."""
+    return bool(names[1])
+
+
+def _limits_costs(allow: AllowList) -> bool:
+    """Whether the list limits what loading costs."""
+    if allow.limits is None and allow.build is None:
+        return False
+    under = settings_of(allow, WIDEST, "unknown", "any")
+    return without_costs(under) != under
 
 
 def row_of(piece: Piece, allow: Optional[AllowList], budget: Budget) -> Optional[Row]:

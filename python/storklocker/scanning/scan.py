@@ -4,7 +4,6 @@ from __future__ import annotations
 
 import contextlib
 import errno
-import io
 import os
 import stat
 import sys
@@ -67,7 +66,7 @@ def _opened(file: File) -> ContextManager[BinaryIO]:
         return opened(file.path)
     if file.is_opened:
         # or else it asks for a terminal
-        return open(file.held or file.path, "rb", io.DEFAULT_BUFFER_SIZE)
+        return open(file.held or file.path, "rb", 0)  # (buffered if it isn't small)
     if stat.S_ISDIR(os.stat(file.path).st_mode):
         raise OSError("a folder of devices, or a link to one or to a folder around it: not entered")
     raise OSError("not a regular file")  # a pipe could block forever

@@ -23,10 +23,12 @@ class Source:
     fewer bytes, or none.
     """
 
-    def __init__(self, file: BinaryIO, start: int, size: int, number: int = 0) -> None:
+    def __init__(
+        self, file: BinaryIO, start: int, size: int, number: int = 0, front: bytes = b""
+    ) -> None:
         self._file, self._start, self.size = file, start, size
         self._number = number or next(_numbers)
-        self._front = b""
+        self._front = front
 
     def place(self, at: int) -> Tuple[int, int]:
         """A place of the file that it is a part of: the number of that file, and the offset."""
@@ -62,7 +64,9 @@ class Source:
         """A part of it, which ends where it ends."""
         start = min(start, self.size)
         size = max(0, min(size, self.size - start))
-        return Source(self._file, self._start + start, size, self._number)
+        end = start + size
+        front = self._front[start:end] if end <= len(self._front) else b""
+        return Source(self._file, self._start + start, size, self._number, front)
 
     def opened(self) -> BinaryIO:
         """A file that begins and ends where it does."""
@@ -139,7 +143,12 @@ def in_memory(data: io.BytesIO) -> Source:
 def source_of(file: BinaryIO) -> Source:
     """The source of a file. One that can't seek is read into memory."""
     found = None
-    if file.seekable():
+    if isinstance(file, io.FileIO):
+        found = os.fstat(file.fileno())
+        if stat.S_ISREG(found.st_mode) and 0 < found.st_size <= BLOCK:
+            return Source(file, 0, found.st_size, front=file.read(found.st_size))
+        file = io.BufferedReader(file)
+    elif file.seekable():
         try:
             found = os.fstat(file.fileno())
         except OSError:  # a file in memory

@@ -52,16 +52,17 @@ _LONGEST = 1024
 _NEAR = 64
 """How many bytes in front of a trail are tried as the beginning of its pickle."""
 _STEP, _FIRST, _MOST, _FOOTER = 1 << 16, 1 << 12, 1 << 20, 1 << 20
-_HDF5 = b"\x89HDF\r\n\x1a\n"
+HDF5_MAGIC, _LMDB = b"\x89HDF\r\n\x1a\n", b"\xde\xc0\xef\xbe"
+LMDB_MARK = b".{16}" + _LMDB
 _GDBM = tuple(
     struct.pack(f"{order}I", number)
     for number in (0x13579ACD, 0x13579ACE, 0x13579ACF, 0x13579AD0, 0x13579AD1)
     for order in "<>"
 )
 _MAGICS: Dict[str, List[Tuple[int, Tuple[bytes, ...]]]] = {
-    "HDF5": [(at, (_HDF5,)) for at in (0, *(512 << power for power in range(48)))],
+    "HDF5": [(at, (HDF5_MAGIC,)) for at in (0, *(512 << power for power in range(48)))],
     "GDBM": [(0, _GDBM)],
-    "LMDB": [(16, (b"\xde\xc0\xef\xbe",))],
+    "LMDB": [(16, (_LMDB,))],
     "Arrow": [(0, (b"ARROW1", b"FEA1"))],
     "Parquet": [(0, (b"PAR1",))],
 }

@@ -54,12 +54,14 @@ class Summary:
             yield report
 
     def _hear(self, report: Report) -> None:
-        severities = {report.status, *(it.severity for it in report.findings)}
-        self.is_unread |= UNREADABLE in severities
-        self.is_found |= not self._counted.isdisjoint(severities)
         if report.file != self._file:
             self._file, self._is_noted = report.file, False
             self.files += 1
+        if not report.findings and report.status not in SEVERITIES:
+            return
+        severities = {report.status, *(it.severity for it in report.findings)}
+        self.is_unread |= UNREADABLE in severities
+        self.is_found |= not self._counted.isdisjoint(severities)
         worst = next((it for it in SEVERITIES if it in severities), "")
         if not worst:
             return
@@ -102,11 +104,11 @@ class Progress:
 
     def add(self, reports: List[Report]) -> None:
         """Counts a file, and clears the progress line for its report."""
+        if self._out is None:
+            return
         self._files += 1
         self._bytes += sum(report.size for report in reports)
         self._findings += any(report.is_finding for report in reports)
-        if self._out is None:
-            return
         if self._is_shared and any(report.status != NO_PICKLE for report in reports):
             self._clear()
         elif time.monotonic() - self._told > 0.2:
