@@ -85,6 +85,14 @@ class Budget:
         self.name_bytes -= length
         return True
 
+    def spend_names(self, count: int, length: int) -> bool:
+        """Counts names that are reported, if there is room for all; otherwise none."""
+        if self.names < count or self.name_bytes < length:
+            return False
+        self.names -= count
+        self.name_bytes -= length
+        return True
+
     def spend_time(self) -> None:
         """Looks at the clock."""
         if time.process_time() > self._end:

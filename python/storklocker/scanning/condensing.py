@@ -4,7 +4,7 @@ from __future__ import annotations
 
 import re
 from collections import Counter
-from typing import Iterable, Iterator
+from typing import Iterable, Iterator, Optional
 
 from .report import ACCEPTED, NO_PICKLE, UNJUDGED, Finding, Report, sorted_findings
 from .severity import REFUSED, UNREADABLE
@@ -41,10 +41,18 @@ class _Rest:
 
     def __init__(self) -> None:
         self._room, self._quiet = ROOM, QUIET
-        self.is_any = False
+        self._first: Optional[Report] = None
+        self.is_any = self._is_weighed = False
 
     def has_room(self, report: Report) -> bool:
         """Whether there is room for a report. Counts it otherwise."""
+        if self._first is None:
+            self._first = report
+            if _is_small(report):
+                return True  # most files have no other
+        elif not self._is_weighed:
+            self._quiet -= _weight(self._first)
+        self._is_weighed = True
         if report.is_finding:
             self._room -= _weight(report)
             room = self._room
@@ -79,6 +87,12 @@ class _Rest:
             findings=sorted_findings(found),
             file=self._file,
         )
+
+
+def _is_small(report: Report) -> bool:
+    """Whether there is room for it, if no other is in front of it."""
+    texts = len(report.path) + len(report.file) + len(report.why)
+    return not report.is_finding and not report.listing and len(report.imports) < 8 and texts < 4000
 
 
 def _weight(report: Report) -> int:

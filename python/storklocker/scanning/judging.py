@@ -2,6 +2,7 @@
 
 from __future__ import annotations
 
+import functools
 import itertools
 import re
 from typing import TYPE_CHECKING, BinaryIO, Dict, Iterator, List, NamedTuple, Optional, Tuple
@@ -13,7 +14,9 @@ from .costs import COUNTED, bill_of, cost_finding
 from .dangers import import_findings
 from .joblib_files import WRAPPER_NAMES, without_arrays
 from .listing import listing
-from .readings import Beside, Nothing, Piece, Place, Unread, examine, is_text, nothing
+from .readings import (
+    Beside, Nothing, Piece, Place, Unread, all_asked, examine, is_text, nothing
+)
 from .report import (
     ACCEPTED, LONGEST, NO_PICKLE, UNJUDGED, Finding, Pair, Report, sorted_findings, unreadable
 )
@@ -24,6 +27,8 @@ from .source import Source, source_of
 if TYPE_CHECKING:
     from .._pairs import Names
 
+_SHORT = LONGEST
+"""The most bytes of all names of a pickle whose texts are kept."""
 _IMPORTS = re.compile(rb"([ci][^\n]*\n[^\n]*\n)*")
 
 
@@ -34,6 +39,12 @@ class Question(NamedTuple):
     """The list to judge by, if any."""
     with_sha256: bool = False
     """Whether the reports need the SHA-256, which takes half as long as a check."""
+
+
+def prepare() -> None:
+    """Does what is done with the first file."""
+    all_asked()
+    import_findings([("builtins", "list")])
 
 
 def reports_of(
@@ -84,8 +95,7 @@ def _counts(row: Row, allow: Optional[AllowList]) -> bool:
 
 
 def _judged(piece: Piece, row: Row, question: Question, place: Place) -> Report:
-    imports, missing = _shown_names(row, question.allow, place.budget)
-    findings = import_findings(map(_pair_of, row.names), question.allow)
+    imports, missing, findings = _told_names(row, question.allow, place.budget)
     status, why = ACCEPTED, f"yes: {row.taken} bytes, {len(row.names)} names"
     if question.allow is None:
         status, why = UNJUDGED, f"{row.taken} bytes, {len(row.names)} names"
@@ -140,6 +150,29 @@ def _kind_of(piece: Piece, row: Row) -> str:
     if row.pickles < 2 or piece.most:
         return piece.kind
     return "row of pickles" if piece.kind == "pickle" else f"{piece.kind}, row of pickles"
+
+
+_Told = Tuple[Tuple[Pair, ...], Tuple[Pair, ...], List[Finding]]
+
+
+def _told_names(row: Row, allow: Optional[AllowList], budget: Budget) -> _Told:
+    """The imports of a report, those off the list, and what is to be said of them."""
+    length = sum(len(module or b"") + len(name or b"") for module, name in row.names)
+    if row.refusal is None and length <= _SHORT:
+        pairs, size, is_harmless = _texts_of(tuple(row.names))
+        if budget.spend_names(len(pairs), size):
+            return pairs, (), [] if is_harmless else import_findings(pairs, allow)
+    imports, missing = _shown_names(row, allow, budget)
+    return imports, missing, import_findings(map(_pair_of, row.names), allow)
+
+
+# (the files of a scan mostly import the same names)
+@functools.lru_cache(maxsize=1024)
+def _texts_of(names: Tuple["Names", ...]) -> Tuple[Tuple[Pair, ...], int, bool]:
+    """These names as pairs of texts, how long all are, and whether all are known to be harmless."""
+    pairs = tuple(map(_pair_of, names))
+    size = sum(len(text or "") for pair in pairs for text in pair)
+    return pairs, size, not import_findings(pairs)
 
 
 def _shown_names(

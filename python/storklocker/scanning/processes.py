@@ -12,7 +12,7 @@ import threading
 from typing import Deque, Iterable, Iterator, List, Tuple
 
 from .files import File, batches
-from .judging import Question
+from .judging import Question, prepare
 from .report import Report
 from .scan import reports_on
 
@@ -53,6 +53,8 @@ def scan_in_processes(
 
 
 def _pool_of(question: Question, jobs: int) -> concurrent.futures.ProcessPoolExecutor:
+    if multiprocessing.get_start_method() == "fork":
+        prepare()  # once, and not in each process
     try:
         return concurrent.futures.ProcessPoolExecutor(
             jobs, initializer=_begin, initargs=(question,)

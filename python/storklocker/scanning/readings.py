@@ -124,7 +124,7 @@ _CONTROL, _SOON = re.compile(rb"[\0-\x08\x0b\x0e-\x1f\x7f]"), 256
 
 
 @functools.lru_cache(maxsize=None)
-def _all_asked() -> Callable[[Place], Sequence[Tuple[str, Reading]]]:
+def all_asked() -> Callable[[Place], Sequence[Tuple[str, Reading]]]:
     """Gives the readings to ask. (They import this module, and to import takes as long as some.)"""
     from .all_readings import asked
 
@@ -137,7 +137,7 @@ def examine(place: Place) -> Found:
     takers: List[str] = []
     if place.depth < 0:
         raise TooMuch(f"containers are more than {DEPTH} deep in one another")
-    for name, reading in _all_asked()(place):
+    for name, reading in all_asked()(place):
         if (yield from reading(place)):
             takers.append(name)
     if len(takers) > 1:
