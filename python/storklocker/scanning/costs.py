@@ -41,7 +41,7 @@ _COUNTING = settings_of(NOTHING, WIDEST._replace(memory=(1 << 64) - 2), "unknown
 """Settings under which costs are counted, and none is too much."""
 _WEIGHING = settings_of(NOTHING, LIMITS._replace(work=None), "unknown")
 _SMALL = 512
-"""The most bytes of names of which a list is kept."""
+"""The most bytes of names whose list is kept."""
 _LEVELS, _WEIGHT = 1_023, 1_048_575
 """As far as levels and weights are counted."""
 _WHY = {

@@ -125,7 +125,9 @@ _CONTROL, _SOON = re.compile(rb"[\0-\x08\x0b\x0e-\x1f\x7f]"), 256
 
 @functools.lru_cache(maxsize=None)
 def all_asked() -> Callable[[Place], Sequence[Tuple[str, Reading]]]:
-    """Gives the readings to ask. (They import this module, and to import takes as long as some.)"""
+    """What gives the readings to ask. It is imported late, because they import this module, and
+    once, because that takes as long as some of them.
+    """
     from .all_readings import asked
 
     return asked

@@ -74,7 +74,7 @@ class Row:
         self._allow, self._listed = allow, NOTHING if allow is None else allow
         self._is_limited = _limits_costs(self._listed)
         self.names: Dict["Names", None] = {}
-        self._recent: Dict["Names", None] = {}  # what those import from which on to look
+        self._recent: Dict["Names", None] = {}  # what the pickles import from there on
         try:
             while self._is_more() and self._is_next_accepted():
                 pass
