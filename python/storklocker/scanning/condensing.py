@@ -91,8 +91,10 @@ class _Rest:
 
 def _is_small(report: Report) -> bool:
     """Whether there is room for it, if no other is in front of it."""
-    texts = len(report.path) + len(report.file) + len(report.why)
-    return not report.is_finding and not report.listing and len(report.imports) < 8 and texts < 4000
+    if report.is_finding or report.listing or len(report.imports) > 7:
+        return False
+    names = sum(len(text or "") for pair in report.imports for text in pair)
+    return len(report.path) + len(report.file) + len(report.why) + names < 4000
 
 
 def _weight(report: Report) -> int:

@@ -146,7 +146,10 @@ def source_of(file: BinaryIO) -> Source:
     if isinstance(file, io.FileIO):
         found = os.fstat(file.fileno())
         if stat.S_ISREG(found.st_mode) and 0 < found.st_size <= BLOCK:
-            return Source(file, 0, found.st_size, front=file.read(found.st_size))
+            front = file.read(found.st_size)
+            if len(front) == found.st_size:
+                return Source(file, 0, found.st_size, front=front)
+            file.seek(0)  # a read may give less
         file = io.BufferedReader(file)
     elif file.seekable():
         try:
