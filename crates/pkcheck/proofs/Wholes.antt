@@ -1,9 +1,9 @@
 -- Whole runs and whole checks.
-pub mod Verdicts
 pub mod Stops
 pub mod StopEffects
 pub mod RunSteps
 pub mod Walk
+pub mod Past
 pub mod Soundness
 pub mod Ends
 pub mod Origins
@@ -18,13 +18,13 @@ pub mod Refusals
 pub mod Checked
 pub mod ImportsBefore
 pub mod InTurn
-pub mod LentInstructions
 pub mod HeardInstructions
 pub mod WholeReports
 pub mod AnotherPickle
 pub mod RowOfPickles
-pub mod ThreeEnds
 pub mod Going
+pub mod ThreeEnds
+pub mod Turns
 pub mod BehindStop
 pub mod Exclusive
 pub mod ExclusiveRows

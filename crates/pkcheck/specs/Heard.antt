@@ -1,7 +1,7 @@
 -- What a listener hears during a check: each instruction that was read completely and admitted,
 -- with its offset and the number of marks on the stack before it.
-use Rattle.std.specs.Prelude.{◌≡◌, ⊤, ℕ, List, [], ◌∷◌, ◌++◌, length, map, All}
-use Rattle.std.specs.Prelude.{Result, Ok, Err, Option}
+use Rattle.std.specs.Prelude.{◌≡◌, ⊤, ℕ, List, [], ◌∷◌, ◌++◌, length, map, All, Result, Ok, Err}
+use Rattle.std.specs.Prelude.{Option}
 use Rattle.pkops.specs.Limits.{Bounds}
 use Rattle.pkops.specs.Payloads.{payload_limit}
 use Rattle.pkops.specs.Spelling.{Instruction}
@@ -18,9 +18,8 @@ use Rattle.pkmachine.specs.declared.old_strings.OldStrings.TheVariants.{Unknown}
 use Rattle.pkmachine.specs.Knowledge.{Policy}
 use Rattle.pkimport.specs.Import.{Asked}
 use Rattle.pkcheck.specs.Refused.{Why, reading, judging, growing}
-use Rattle.pkmachine.specs.RowRuns.{Afresh, Beginning}
+use Rattle.pkmachine.specs.RowRuns.{Afresh, Beginning, RunsBehind}
 use Rattle.pkcheck.specs.RunFaults.{IsFaultless}
-use Rattle.pkmachine.specs.RowRuns.{RunsBehind}
 use Rattle.pkstack.specs.Shape.{marks_of}
 use Rattle.pkcheck.specs.declared.checking.Yes.{Yes}
 use Rattle.pkcheck.specs.declared.checking.No.{No}

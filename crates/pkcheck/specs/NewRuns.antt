@@ -1,6 +1,6 @@
 -- Runs of which something is known about the answers: that each is a new object, say.
-use Rattle.std.specs.Prelude.{◌≡◌, ⊤, ℕ, ◌≤◌, All, Bool, true, false, List, [], ◌∷◌, ◌++◌}
-use Rattle.std.specs.Prelude.{length, Some}
+use Rattle.std.specs.Prelude.{◌≡◌, ⊤, ℕ, ◌≤◌, All, Bool, true, false, List, [], ◌∷◌, ◌++◌, length}
+use Rattle.std.specs.Prelude.{Some}
 use Rattle.pkops.specs.Limits.{Bounds}
 use Rattle.pkops.specs.Payloads.{payload_limit}
 use Rattle.pkops.specs.Spelling.{Instruction}
@@ -13,8 +13,7 @@ use Rattle.pkcheck.specs.RowOfPickles.{AreAccepted, begins}
 use Rattle.pkmachine.specs.RowRuns.{Afresh, Beginning, Behind, Pickle, run_row, sequences_of}
 use Rattle.pkcheck.specs.RunFaults.{IsFaultless}
 use Rattle.pkmachine.specs.Runs.{CanCome, Go, Outcome, Raise, Raised, State, Stepped, Stopped}
-use Rattle.pkmachine.specs.Runs.{Stuck}
-use Rattle.pkmachine.specs.Runs.{WentOn, effect_asks, start, step_as}
+use Rattle.pkmachine.specs.Runs.{Stuck, WentOn, effect_asks, start, step_as}
 use Rattle.pkmachine.specs.WholeRuns.{Ended, EndedBy, Reached, first_outcome, outcomes_after}
 use Rattle.pkmachine.specs.WholeRuns.{run_as}
 use Rattle.pkcheck.specs.declared.loading.Loading.{Loading}

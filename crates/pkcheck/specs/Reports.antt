@@ -8,8 +8,7 @@ use Rattle.pkops.specs.declared.Op.{Op}
 use Rattle.pkread.specs.Sequence.{spellings}
 use Rattle.pkmachine.specs.declared.old_strings.OldStrings.{OldStrings}
 use Rattle.pkmachine.specs.Faults.{InEachRun}
-use Rattle.pkmachine.specs.RowRuns.{Beginning}
-use Rattle.pkmachine.specs.RowRuns.{RunsFrom}
+use Rattle.pkmachine.specs.RowRuns.{Beginning, RunsFrom}
 use Rattle.pkstack.specs.Shape.{marks_of}
 
 -- an instruction as a listener is told of it: whole, or only its opcode and the number of its

@@ -14,8 +14,7 @@ use Rattle.pkmachine.specs.Knowledge.{Policy}
 use Rattle.pkcheck.specs.Listing.{EachAsks, ImportsAreListed, StandsFor, UnknownIsOpen}
 use Rattle.pkcheck.specs.Listing.{imports_among}
 use Rattle.pkcheck.specs.Refused.{RefusedFrom}
-use Rattle.pkmachine.specs.RowRuns.{Afresh, Beginning, InEachRunFrom, listed_before}
-use Rattle.pkmachine.specs.RowRuns.{RunsFrom}
+use Rattle.pkmachine.specs.RowRuns.{Afresh, Beginning, InEachRunFrom, listed_before, RunsFrom}
 use Rattle.pkmachine.specs.Runs.{State}
 use Rattle.pkcheck.specs.declared.checking.Yes.{Yes}
 use Rattle.pkcheck.specs.declared.with_imports.NoWithImports.{NoWithImports}

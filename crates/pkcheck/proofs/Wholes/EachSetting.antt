@@ -28,9 +28,9 @@ use Rattle.pkstack.specs.Shape.{Breach, Entry, Shape, Taken, moved, operands, pu
 use Rattle.pkmachine.specs.Runs.{Event, Did, Import, Foreign, Go, Named, NoImport, NotTexts, Object}
 use Rattle.pkmachine.specs.Runs.{ObjectClass, Outcome, Pair, Plain, Raise, Raised, State, Stepped}
 use Rattle.pkmachine.specs.Runs.{Stopped, Stuck, Text, WentOn, answered, asks, class_at, come_of}
-use Rattle.pkmachine.specs.Runs.{effect_asks, given, int_or_bool, made_new, move_step}
-use Rattle.pkmachine.specs.Runs.{named, operate_step, operated, perform, start, step_as, stop_step}
-use Rattle.pkmachine.specs.Runs.{text, with_answer}
+use Rattle.pkmachine.specs.Runs.{effect_asks, given, int_or_bool, made_new, move_step, named}
+use Rattle.pkmachine.specs.Runs.{operate_step, operated, perform, start, step_as, stop_step, text}
+use Rattle.pkmachine.specs.Runs.{with_answer}
 use Rattle.pkmachine.specs.RowRuns.{Afresh, Behind, next_from, run_row, sequences_of}
 use Rattle.pkmachine.specs.WholeRuns.{AllListed, Ended, EndedBy, EndsWell, Reached, first_outcome}
 use Rattle.pkmachine.specs.WholeRuns.{go_on, outcomes_after, run_as}
@@ -273,18 +273,7 @@ module _ (setting : OldStrings) where
   follows is on os (Raised s) (Raised t) w = ([], w)
   follows is on os (Stopped r s) (Stopped q t) w = ([], w)
   follows is on os (Stuck b) (Stuck c) w = ([], w)
-  follows is on os (WentOn s) (Raised t) w = absurd w
-  follows is on os (WentOn s) (Stopped q t) w = absurd w
-  follows is on os (WentOn s) (Stuck c) w = absurd w
-  follows is on os (Raised s) (WentOn t) w = absurd w
-  follows is on os (Raised s) (Stopped q t) w = absurd w
-  follows is on os (Raised s) (Stuck c) w = absurd w
-  follows is on os (Stopped r s) (WentOn t) w = absurd w
-  follows is on os (Stopped r s) (Raised t) w = absurd w
-  follows is on os (Stopped r s) (Stuck c) w = absurd w
-  follows is on os (Stuck b) (WentOn t) w = absurd w
-  follows is on os (Stuck b) (Raised t) w = absurd w
-  follows is on os (Stuck b) (Stopped q t) w = absurd w
+  follows is on os _ _ w = absurd w
 
   runs : (is : List Instruction) → HaveLike is
   runs [] os s t w = ([], w)
@@ -322,14 +311,8 @@ module _ (setting : OldStrings) where
       × (next_from y (run_row Unknown ps qss) ≡ Some v) × Same u v
   next_like ps like oss (EndedBy (Stopped r s)) (EndedBy (Stopped q t)) u w e =
       like oss (cleared s) (cleared t) u (cleared_same s t w) e
-  next_like ps like oss (EndedBy (Stopped r s)) (EndedBy (WentOn t)) u w e = absurd w
-  next_like ps like oss (EndedBy (Stopped r s)) (EndedBy (Raised t)) u w e = absurd w
-  next_like ps like oss (EndedBy (Stopped r s)) (EndedBy (Stuck c)) u w e = absurd w
-  next_like ps like oss (EndedBy (Stopped r s)) (Reached t) u w e = absurd w
-  next_like ps like oss (EndedBy (WentOn s)) y u w e = absurd (none_come u e)
-  next_like ps like oss (EndedBy (Raised s)) y u w e = absurd (none_come u e)
-  next_like ps like oss (EndedBy (Stuck b)) y u w e = absurd (none_come u e)
-  next_like ps like oss (Reached s) y u w e = absurd (none_come u e)
+  next_like ps like oss (EndedBy (Stopped r s)) _ u w e = absurd w
+  next_like ps like oss _ y u w e = absurd (none_come u e)
 
   rows : (ps : List (List Instruction)) → HaveRowLike ps
   rows [] oss s t u w e = ([], t, refl, subst (λ x. Same x t) (same_come s u e) w)
@@ -349,16 +332,9 @@ module _ (setting : OldStrings) where
     ends_well (EndedBy (Raised s)) (EndedBy (Raised t)) w h = listed s t w h
     ends_well (EndedBy (Stopped r s)) (EndedBy (Stopped q t)) w h =
         (ap (λ (k : Shape ℕ). k.entries) w.shape ∙ h.0, listed s t w h.1)
-    ends_well (EndedBy x) (EndedBy (WentOn t)) w h = absurd h
-    ends_well (EndedBy x) (EndedBy (Stuck c)) w h = absurd h
-    ends_well (EndedBy (WentOn s)) (EndedBy (Raised t)) w h = absurd w
-    ends_well (EndedBy (WentOn s)) (EndedBy (Stopped q t)) w h = absurd w
-    ends_well (EndedBy (Raised s)) (EndedBy (Stopped q t)) w h = absurd w
-    ends_well (EndedBy (Stopped r s)) (EndedBy (Raised t)) w h = absurd w
-    ends_well (EndedBy (Stuck b)) (EndedBy (Raised t)) w h = absurd w
-    ends_well (EndedBy (Stuck b)) (EndedBy (Stopped q t)) w h = absurd w
-    ends_well (Reached s) (EndedBy y) w h = absurd w
-    ends_well (EndedBy x) (Reached t) w h = absurd w
+    ends_well (EndedBy (WentOn s)) (EndedBy (WentOn t)) w h = absurd h
+    ends_well (EndedBy (Stuck b)) (EndedBy (Stuck c)) w h = absurd h
+    ends_well _ _ w h = absurd w
 
 alike : Same start start
 alike = record { shape = refl; events = refl; objects = refl }

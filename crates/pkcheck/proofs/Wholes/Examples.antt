@@ -1,19 +1,20 @@
 -- Worked examples of the checker on whole lists of instructions, by computation.
 use Rattle.pkmachine.specs.declared.old_strings.OldStrings.{OldStrings}
 use Rattle.pkmachine.specs.declared.old_strings.OldStrings.TheVariants.{Unknown, Ascii, Bytes}
-use Rattle.std.proofs.Common.{◌≡◌, ℕ, ◌&&◌, List, [], ◌∷◌, Option, Some, None, refl}
+use Rattle.std.proofs.Common.{◌≡◌, ℕ, suc, ◌&&◌, List, [], ◌∷◌, Option, Some, None, Result, Ok, Err}
+use Rattle.std.proofs.Common.{refl}
 use Rattle.std.specs.Prelude.{nat_eq}
 use Rattle.std.proofs.Math.Utf8.{encode}
 use Rattle.std.specs.Cmp.Lexicographic.{pointwise}
 use Rattle.pkops.specs.declared.Op.{Op}
 use Rattle.pkops.specs.declared.Op.TheVariants as op
 use Rattle.pkops.specs.Spelling.{Instruction, Nothing, Number, Pair, Counted, instruction}
-use Rattle.pkops.specs.Limits.{standard}
+use Rattle.pkops.specs.Limits.{Bounds, standard}
 use Rattle.pkstack.specs.Shape.{NoItem, NoMemo, Odd}
-use Rattle.pkmachine.specs.Knowledge.{Policy, Lacks, WrongClass, NotText, UnknownImport, OffList}
-use Rattle.pkmachine.specs.Knowledge.{LeftOver, NotAscii, TooLarge, nothing_known}
+use Rattle.pkmachine.specs.Knowledge.{Knowledge, Policy, Progress, Refusal, Lacks, WrongClass}
+use Rattle.pkmachine.specs.Knowledge.{NotText, UnknownImport, OffList, LeftOver, NotAscii, TooLarge}
+use Rattle.pkmachine.specs.Knowledge.{advance, nothing_known}
 use Rattle.pkimport.specs.Import.{Asked, AskedPair, AskedUnknown}
-use Rattle.pkcheck.proofs.Wholes.Verdicts.{Verdict, Yes, No, verdict}
 
 abbrev pub bare : Op → Instruction
 bare op = instruction op Nothing
@@ -27,6 +28,27 @@ global m n = instruction op.Global (Pair m n)
 -- a memo opcode with an argument of one byte
 abbrev pub at : Op → ℕ → Instruction
 at op n = instruction op (Number 1 n)
+
+-- the knowledge at the end with the imports, one entry for each instruction; or the number of the
+-- refused instruction and the reason
+data Verdict : Type 0 where
+  Yes : Knowledge → List (Option Asked) → Verdict
+  No : ℕ → Refusal → Verdict
+
+-- the verdict with one more accepted instruction in front
+abbrev with_import : Option Asked → Verdict → Verdict
+with_import a (Yes k listed) = Yes k (a ∷ listed)
+with_import a (No n r) = No (suc n) r
+
+-- continues after a step
+abbrev verdict_on : Result Progress Refusal → (Knowledge → Verdict) → Verdict
+verdict_on (Ok q) f = with_import q.import (f q.after)
+verdict_on (Err r) f = No 0 r
+
+-- the verdict on these instructions, beginning with this knowledge
+abbrev verdict : OldStrings → Policy → Bounds → List Instruction → Knowledge → Verdict
+verdict setting p l [] k = Yes k []
+verdict setting p l (i ∷ is) k = verdict_on (advance setting p l i k) (verdict setting p l is)
 
 -- a list with one pair
 abbrev one : List ℕ → List ℕ → Policy

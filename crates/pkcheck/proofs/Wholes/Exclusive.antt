@@ -32,8 +32,7 @@ use Rattle.pkimport.specs.Import.{Asked}
 use Rattle.pkmachine.specs.Faults.{Arrivals, AsksOnce, HasFaultHere, InEachRun, everyone}
 use Rattle.pkcheck.specs.Refused.{RefusedFrom, Why, reading, judging, growing}
 use Rattle.pkcheck.specs.RunFaults.{HasRunFault}
-use Rattle.pkmachine.specs.RowRuns.{RunsFrom}
-use Rattle.pkmachine.specs.RowRuns.{Afresh, Beginning}
+use Rattle.pkmachine.specs.RowRuns.{RunsFrom, Beginning}
 use Rattle.pkmachine.specs.Runs.{State}
 use Rattle.pkcheck.specs.ButForLimits.{RefusedForLimits}
 use Rattle.pkcheck.specs.Exclusive.{YesExcludesNo}
@@ -50,26 +49,19 @@ module _ (here : Arrivals) (real : (s : State) → here.some s → here.any s) w
 
   fault_of_any : (policy : Policy) (limits : Bounds) (i : Instruction) (r : Reason)
       → HasFaultHere policy limits here i r → HasFaultHere policy limits (everyone here) i r
-  fault_of_any policy limits i reason.MissingMark f = each_of _ f
-  fault_of_any policy limits i reason.MissingItem f = each_of _ f
-  fault_of_any policy limits i (reason.MissingMemo n) f = each_of _ f
-  fault_of_any policy limits i reason.OddItems f = each_of _ f
-  fault_of_any policy limits i reason.WrongClass f = each_of _ f
-  fault_of_any policy limits i reason.NotText f = each_of _ f
   fault_of_any policy limits i reason.UnknownImport (m, n, (first, (m', n', second, differ)), off) =
       (m, n, (once_of i m n first, (m', n', once_of i m' n' second, differ)), off)
   fault_of_any policy limits i reason.ImportOffList (m, n, g) = (m, n, (each_of _ g.0, g.1))
-  fault_of_any policy limits i reason.LeftOver f = each_of _ f
-  fault_of_any policy limits i reason.NotAscii f = each_of _ f
   fault_of_any policy limits i reason.TooLarge (s, o, c, d, g) = (s, o, real s c, tt, g)
-  fault_of_any policy limits i reason.Source f = absurd f
-  fault_of_any policy limits i reason.Truncated f = absurd f
-  fault_of_any policy limits i (reason.UnknownOpcode b) f = absurd f
-  fault_of_any policy limits i reason.BadArgument f = absurd f
-  fault_of_any policy limits i reason.ExtensionCode f = absurd f
-  fault_of_any policy limits i (reason.UnsupportedProtocol n) f = absurd f
-  fault_of_any policy limits i reason.BrokenFrame f = absurd f
-  fault_of_any policy limits i reason.OutOfMemory f = absurd f
+  fault_of_any policy limits i reason.Source f = f
+  fault_of_any policy limits i reason.Truncated f = f
+  fault_of_any policy limits i (reason.UnknownOpcode b) f = f
+  fault_of_any policy limits i reason.BadArgument f = f
+  fault_of_any policy limits i reason.ExtensionCode f = f
+  fault_of_any policy limits i (reason.UnsupportedProtocol n) f = f
+  fault_of_any policy limits i reason.BrokenFrame f = f
+  fault_of_any policy limits i reason.OutOfMemory f = f
+  fault_of_any policy limits i _ f = each_of _ f
 
 module _ (setting : OldStrings) (b : Beginning) (policy : Policy) (limits : Bounds)
     (before : List Instruction) (i : Instruction) where
@@ -80,24 +72,7 @@ module _ (setting : OldStrings) (b : Beginning) (policy : Policy) (limits : Boun
   by_any : (r : Reason) → HasRunFault policy limits before (RunsFrom setting b before) i r
       → HasRunFault policy limits before (everyone (RunsFrom setting b before)) i r
   by_any reason.BrokenFrame f = f
-  by_any reason.MissingMark f = shown reason.MissingMark f
-  by_any reason.MissingItem f = shown reason.MissingItem f
-  by_any (reason.MissingMemo n) f = shown (reason.MissingMemo n) f
-  by_any reason.OddItems f = shown reason.OddItems f
-  by_any reason.WrongClass f = shown reason.WrongClass f
-  by_any reason.NotText f = shown reason.NotText f
-  by_any reason.UnknownImport f = shown reason.UnknownImport f
-  by_any reason.ImportOffList f = shown reason.ImportOffList f
-  by_any reason.LeftOver f = shown reason.LeftOver f
-  by_any reason.NotAscii f = shown reason.NotAscii f
-  by_any reason.TooLarge f = shown reason.TooLarge f
-  by_any reason.Source f = absurd f
-  by_any reason.Truncated f = absurd f
-  by_any (reason.UnknownOpcode b) f = absurd f
-  by_any reason.BadArgument f = absurd f
-  by_any reason.ExtensionCode f = absurd f
-  by_any (reason.UnsupportedProtocol n) f = absurd f
-  by_any reason.OutOfMemory f = absurd f
+  by_any r f = shown r f
 
 -- ---- the bytes of a refusal, if they begin with an instruction
 
@@ -191,20 +166,7 @@ module _ (one : OneAnswer) (limit : ℕ) (bytes : List ℕ) (j : Instruction)
   not_amiss s reason.TooLarge h = no_fault s fault.TooLarge h
   not_amiss s reason.ExtensionCode h = not_barred s reason.ExtensionCode h
   not_amiss s (reason.UnsupportedProtocol n) h = not_barred s (reason.UnsupportedProtocol n) h
-  not_amiss s reason.Source h = h
-  not_amiss s reason.Truncated h = h
-  not_amiss s reason.BrokenFrame h = h
-  not_amiss s reason.MissingMark h = h
-  not_amiss s reason.MissingItem h = h
-  not_amiss s (reason.MissingMemo n) h = h
-  not_amiss s reason.OddItems h = h
-  not_amiss s reason.WrongClass h = h
-  not_amiss s reason.NotText h = h
-  not_amiss s reason.UnknownImport h = h
-  not_amiss s reason.ImportOffList h = h
-  not_amiss s reason.LeftOver h = h
-  not_amiss s reason.NotAscii h = h
-  not_amiss s reason.OutOfMemory h = h
+  not_amiss s _ h = h
 
 -- ---- a source with known bytes
 
@@ -272,27 +234,8 @@ module _ (one : OneAnswer) (nothing : (limit : ℕ) → Begun limit []) (limits 
           | inl s ↦ (let lt = s.1 in omega (arith, all, long, few, lt))
           | inr w ↦ not_begun one (payload_limit_at limits bytes) bytes j may.admitted w begun
         ]
-    no_row (reason.UnknownOpcode c) n m h = not_amiss one
-        (payload_limit_at limits bytes) bytes j may.admitted (there h.0)
-        (reason.UnknownOpcode c) h.1
-    no_row reason.BadArgument n m h = not_amiss one (payload_limit_at limits bytes) bytes j
-        may.admitted (there h.0) reason.BadArgument h.1
-    no_row reason.ExtensionCode n m h = not_amiss one
-        (payload_limit_at limits bytes) bytes j may.admitted (there h.0) reason.ExtensionCode h.1
-    no_row (reason.UnsupportedProtocol p) n m h = not_amiss one
-        (payload_limit_at limits bytes) bytes j may.admitted (there h.0)
-        (reason.UnsupportedProtocol p) h.1
-    no_row reason.BrokenFrame n m h = h.1
-    no_row reason.MissingMark n m h = h.1
-    no_row reason.MissingItem n m h = h.1
-    no_row (reason.MissingMemo k) n m h = h.1
-    no_row reason.OddItems n m h = h.1
-    no_row reason.WrongClass n m h = h.1
-    no_row reason.NotText n m h = h.1
-    no_row reason.UnknownImport n m h = h.1
-    no_row reason.ImportOffList n m h = h.1
-    no_row reason.LeftOver n m h = h.1
-    no_row reason.NotAscii n m h = h.1
+    no_row r n m h = not_amiss one (payload_limit_at limits bytes) bytes j may.admitted (there h.0)
+        r h.1
 
 -- ---- a yes and a no
 
@@ -318,24 +261,24 @@ if_not_other : (r : Reason) → (r ≢ reason.TooLarge → ⊥) → r ≡ reason
 if_not_other reason.TooLarge h = refl
 if_not_other r h = absurd (h (λ e. cc))
 
+-- none of these instructions has the fault that this reason names
+abbrev pub HasNone : OldStrings → Beginning → Policy → Bounds → List Instruction → Reason → Type 0
+HasNone setting b policy limits p r =
+    (before : List Instruction) (i : Instruction) (is : List Instruction)
+    → p ≡ before ++ i ∷ is
+    → HasRunFault policy limits before (everyone (RunsFrom setting b before)) i r → ⊥
+
 module _ (one : OneAnswer) (nothing : (limit : ℕ) → Begun limit []) (front : OneFront)
     (goes : SequenceGoesOn) where
-  module _ (setting : OldStrings) (b : Beginning) (policy : Policy) (limits : Bounds)
-      (p q : List Instruction) (rest tail : List ℕ)
-      (g : GoesOnBehind p q rest tail) (each : All (IsAllowedBy (payload_limit limits)) p)
-      (from : ℕ) (few : from + length (spellings p) ≤ all_bytes)
-      (r : Reason)
-      (faultless : (before : List Instruction) (i : Instruction) (is : List Instruction)
-      → p ≡ before ++ i ∷ is → HasRunFault policy limits before
-      (everyone (RunsFrom setting b before)) i r → ⊥)
-      (here after : Sight) (at : ℕ) (pair : Option Asked) (is : here.left ≡ Some tail)
-      (place : at ≡ from + length (spellings q)) where
+  module _ (limits : Bounds) {p q : List Instruction} {rest tail : List ℕ}
+      (g : GoesOnBehind p q rest tail) (each : All (IsAllowedBy (payload_limit limits)) p) where
     may : IsAllowedBy (payload_limit limits) g.next
     may = behind_each (IsAllowedBy (payload_limit limits)) q g.next g.after
         (subst (All (IsAllowedBy (payload_limit limits))) g.split each)
 
-    fits : at + length (spelling g.next) ≤ all_bytes
-    fits =
+    fits : (from at : ℕ) → from + length (spellings p) ≤ all_bytes
+        → at ≡ from + length (spellings q) → at + length (spelling g.next) ≤ all_bytes
+    fits from at few place =
         let n = ap (λ z. length (spellings z)) g.split in
         omega (
           arith,
@@ -346,12 +289,15 @@ module _ (one : OneAnswer) (nothing : (limit : ℕ) → Begun limit []) (front :
           length-append (spelling g.next) (spellings g.after),
         )
 
-    pub not_why : r ≢ reason.Source → r ≢ reason.OutOfMemory
-        → Why setting b policy limits q here after at r pair → ⊥
-    not_why n m (reading h) = no_row one nothing limits here after tail
-        (spellings g.after ++ rest) g.next may is g.bytes h.bytes at h.taken fits h.shown.taken r n
-        m h.shown.row
-    not_why n m (judging h) =
+    pub not_why : {setting : OldStrings} {b : Beginning} {policy : Policy} {r : Reason}
+        {here after : Sight} {at : ℕ} {pair : Option Asked} → HasNone setting b policy limits p r
+        → (from : ℕ) → from + length (spellings p) ≤ all_bytes
+        → at ≡ from + length (spellings q) → here.left ≡ Some tail → r ≢ reason.Source
+        → r ≢ reason.OutOfMemory → Why setting b policy limits q here after at r pair → ⊥
+    not_why {r = r} {here} {after} {at} faultless from few place is n m (reading h) =
+        no_row one nothing limits here after tail (spellings g.after ++ rest) g.next may is g.bytes
+        h.bytes at h.taken (fits from at few place) h.shown.taken r n m h.shown.row
+    not_why {setting} {b} {policy} {r} {here} {after} faultless from few place is n m (judging h) =
         let c = consumed here tail (spelling h.instruction) after is h.bytes in
         let same = front h.instruction g.next c.0 (spellings g.after ++ rest) h.allowed.good
         may.good (sym c.2 ∙ g.bytes) in
@@ -359,39 +305,35 @@ module _ (one : OneAnswer) (nothing : (limit : ℕ) → Begun limit []) (front :
         faultless q g.next g.after g.split
         (subst (λ i. HasRunFault policy limits q (everyone (RunsFrom setting b q)) i r) same.0
         fault)
-    not_why n m (growing h) = m h.memory
+    not_why faultless from few place is n m (growing h) = m h.memory
 
   -- bytes that begin with a sequence are not refused for a fault that no instruction has
-  pub not_refused : (setting : OldStrings) (b : Beginning) (policy : Policy) (limits : Bounds)
-      (p : List Instruction) (rest : List ℕ) (from : ℕ) (old after : Sight) (at : ℕ) (r : Reason)
-      (pair : Option Asked) → old.left ≡ Some (spellings p ++ rest)
+  pub not_refused : {setting : OldStrings} {b : Beginning} {policy : Policy} {limits : Bounds}
+      {p : List Instruction} {from : ℕ} {old after : Sight} {at : ℕ} {r : Reason}
+      {pair : Option Asked} (rest : List ℕ) → old.left ≡ Some (spellings p ++ rest)
       → IsSequence (payload_limit limits) p → from + length (spellings p) ≤ all_bytes
-      → ((before : List Instruction) (i : Instruction) (is : List Instruction)
-      → p ≡ before ++ i ∷ is → HasRunFault policy limits before
-      (everyone (RunsFrom setting b before)) i r → ⊥)
+      → HasNone setting b policy limits p r
       → RefusedFrom from setting b policy limits old after at r pair
       → r ≢ reason.Source → r ≢ reason.OutOfMemory → ⊥
-  not_refused setting b policy limits p rest from old after at r pair is sequence few faultless
+  not_refused {limits = limits} {p = p} {from = from} {old = old} rest is sequence few faultless
       refused n m =
       let q = refused.instructions in
       let c = consumed old (spellings p ++ rest) (spellings q) refused.here is refused.bytes in
       let g = goes (payload_limit limits) (payload_limit limits) p q rest c.0 sequence
       refused.admitted refused.goes_on c.2 in
-      not_why setting b policy limits p q rest c.0 g sequence.each from few r faultless
-      refused.here after at pair c.1 refused.place n m refused.why
+      not_why limits g sequence.each faultless from few refused.place c.1 n m refused.why
 
   pub yes_excludes_no : YesExcludesNo
   yes_excludes_no setting b policy limits bytes old new taken imports from other after at r pair
       known same few accepted refused n m =
-      let p = accepted.instructions in
-      let a = consumed old bytes (spellings p) new known accepted.bytes in
-      not_refused setting b policy limits p a.0 from other after at r pair (same ∙ ap Some a.2)
-      accepted.sequence (let k = accepted.count in omega (arith, k, few))
+      let a = consumed old bytes (spellings accepted.instructions) new known accepted.bytes in
+      not_refused a.0 (same ∙ ap Some a.2) accepted.sequence
+      (let k = accepted.count in omega (arith, k, few))
       (λ before i is e f. accepted.faultless before i is e r f) refused n m
 
   pub refused_for_limits : RefusedForLimits
   refused_for_limits setting policy limits p rest old after at r pair sequence faultless is few
       refused n m =
       if_not_other r (λ other.
-      not_refused setting Afresh policy limits p rest 0 old after at r pair is sequence
-      (omega (arith, few)) (λ before i is e f. faultless before i is e r other f) refused n m)
+      not_refused rest is sequence (omega (arith, few))
+      (λ before i is e f. faultless before i is e r other f) refused n m)

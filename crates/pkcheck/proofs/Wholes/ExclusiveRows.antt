@@ -1,7 +1,7 @@
 -- No row of pickles is both accepted and refused.
-use Rattle.std.proofs.Common.{◌≡◌, ◌≢◌, ℕ, ◌+◌, ◌<◌, inl, inr, List, [], ◌∷◌, ◌++◌, length}
-use Rattle.std.proofs.Common.{Option, Some, refl, sym, ap, subst, ◌∙◌, arith, length-append}
-use Rattle.std.proofs.Common.{append-nil, append_assoc}
+use Rattle.std.proofs.Common.{◌≡◌, ◌≢◌, ℕ, ◌+◌, ◌<◌, inl, inr, List, [], ◌∷◌, ◌++◌, length, Option}
+use Rattle.std.proofs.Common.{Some, refl, sym, ap, subst, ◌∙◌, arith, length-append, append-nil}
+use Rattle.std.proofs.Common.{append_assoc}
 use Rattle.std.specs.Prelude.{All, flat_map}
 use Rattle.std.specs.Io.KnownBytes.{IsAtEnd}
 use Rattle.std.proofs.lemmas.List.{map-append}
@@ -25,9 +25,8 @@ use Rattle.pkmachine.specs.Knowledge.{Policy}
 use Rattle.pkimport.specs.Import.{Asked}
 use Rattle.pkcheck.specs.Refused.{RefusedFrom, Why, growing, judging, reading}
 use Rattle.pkcheck.specs.RowOfPickles.{AreAccepted, HasMore, begins, bytes_of_all}
-use Rattle.pkmachine.specs.RowRuns.{Beginning, Pickle, run_row, sequences_of}
+use Rattle.pkmachine.specs.RowRuns.{Beginning, Pickle, run_row, sequences_of, RunsFrom}
 use Rattle.pkcheck.specs.RunFaults.{HasRunFault}
-use Rattle.pkmachine.specs.RowRuns.{RunsFrom}
 use Rattle.pkmachine.specs.Runs.{CanCome, Outcome, State, start}
 use Rattle.pkmachine.specs.WholeRuns.{CanGetTo, GetsTo}
 use Rattle.pkcheck.proofs.Wholes.Examples.{bare}
@@ -182,9 +181,7 @@ module _ (one : OneAnswer) (nothing : (limit : ℕ) → Begun limit []) (front :
         let c = consumed old bytes (spellings h.instructions) middle is h.bytes in
         let d = consumed other bytes [] here also b in
         let like = same ∙ ap sequences_of (sym (others ∙ append-nil gone)) in
-        not_refused one nothing front goes loading.old_strings (begins loading.memo before) policy
-        limits h.instructions c.0 (length (bytes_of_all before)) here after at r pair
-        (d.1 ∙ ap Some (sym d.2 ∙ c.2)) h.sequence
+        not_refused one nothing front goes c.0 (d.1 ∙ ap Some (sym d.2 ∙ c.2)) h.sequence
         (omega (
           arith,
           few,

@@ -1,28 +1,24 @@
 -- What a reader returned after the earlier instructions, by any of its calls.
-use Rattle.std.proofs.Common.{◌≡◌, ℕ, suc, ◌+◌, true, false, List, [], ◌∷◌, ◌++◌, length}
-use Rattle.std.proofs.Common.{inl, inr, refl, sym}
-use Rattle.std.proofs.Common.{ap, subst, ◌∙◌, arith, Result, Ok, Err}
+use Rattle.std.proofs.Common.{◌≡◌, ℕ, suc, ◌+◌, true, false, List, [], ◌∷◌, ◌++◌, length, inl, inr}
+use Rattle.std.proofs.Common.{refl, sym, ap, subst, ◌∙◌, arith, Ok, Err}
 use Rattle.std.specs.Prelude.{All, Bool, IsTrue, drop, if◌then◌else◌}
 use Rattle.pkops.specs.Inst.{instruction_of}
 use Rattle.pkops.specs.Limits.{Bounds}
 use Rattle.pkops.specs.Payloads.{is_passed, is_passed_code, payload_limit, payload_limit_at}
 use Rattle.pkops.specs.Spelling.{Counted, Instruction, instruction, spelling}
-use Rattle.pkops.specs.declared.Inst.{Inst}
 use Rattle.pkops.specs.declared.Op.{Op}
 use Rattle.pkops.specs.declared.Op.TheVariants as op
 use Rattle.pkops.specs.declared.Refusal.{Refusal}
 use Rattle.pkread.specs.Admission.{IsAllowedBy}
 use Rattle.pkread.specs.AtHand.{AreNext, IsLent, beyond}
 use Rattle.pkread.specs.Core.{Open, phase_after}
-use Rattle.pkread.specs.Heads.{IsSkipped, StepsHead}
-use Rattle.pkread.specs.ReaderCalls.{Gives, ReaderState, Steps}
+use Rattle.pkread.specs.Heads.{StepsHead}
+use Rattle.pkread.specs.ReaderCalls.{Gives, ReaderState}
 use Rattle.pkread.specs.Rows.{Refuses, Sight, Takes, unread}
 use Rattle.pkread.specs.Run.{HeadIsRead, HoldsTo, LentIsRead, NextIsRead, PassedIsRead, PassesTo}
 use Rattle.pkread.specs.Run.{Reads, ReadsMore, RefusalIsRead, RefusalOfHeads}
 use Rattle.pkread.specs.Sequence.{CountsAt, NoStop}
-use Rattle.pkread.specs.declared.Head.{Head}
 use Rattle.pkread.specs.declared.Head.TheVariants as head
-use Rattle.pkread.specs.declared.Next.{Next}
 use Rattle.pkread.specs.declared.Next.TheVariants as next
 use Rattle.pkcheck.specs.Private.Turns.{Gave, TurnedDown}
 
@@ -52,12 +48,6 @@ module _ (start : Sight) (from : ℕ) (limits : Bounds) (p : List Instruction) (
     pub taken : t.taken ≡ s.taken + length (spelling i)
     pub phase : t.phase ≡ phase_after i.op
 
-  -- the payload of this opcode, with `count` bytes, was skipped
-  pub record Passed (at : ℕ) (o : Op) (count : ℕ) (t : ReaderState) : Type 0 where
-    pub payload : List ℕ
-    pub one : IsSkipped (payload_limit limits o) o count payload
-    pub took : Took at (instruction o (Counted payload)) t
-
   -- bytes were taken at this offset, and refused
   pub record Turned (r : Refusal) (t : ReaderState) : Type 0 where
     pub no_stop : NoStop p
@@ -66,8 +56,10 @@ module _ (start : Sight) (from : ℕ) (limits : Bounds) (p : List Instruction) (
     pub why : Refuses (payload_limit_at limits bytes) s.source t.source bytes s.taken t.taken
         r.reason
 
+module _ {start : Sight} {from : ℕ} {limits : Bounds} {p : List Instruction} {s : ReaderState} where
   gave : (at : ℕ) (i : Instruction) (t : ReaderState) → t.limits ≡ s.limits
-      → ReadsMore start from (payload_limit limits) p i t × Gives s at i t → Took at i t
+      → ReadsMore start from (payload_limit limits) p i t × Gives s at i t
+      → Took start from limits p s at i t
   gave at i t same w = record {
     more = w.0;
     same_limits = same;
@@ -78,45 +70,15 @@ module _ (start : Sight) (from : ℕ) (limits : Bounds) (p : List Instruction) (
     phase = w.1.phase;
   }
 
-  module _ (reads : Reads start from (payload_limit limits) p s) (same : s.limits ≡ limits)
-      (t : ReaderState) where
-    -- for `next`, which holds each payload, with one limit for all
-    module _ (one : limits.passed ≡ limits.counted) where
-      holds : HoldsTo s (payload_limit limits)
-      holds o = ap (λ l. l.counted) same ∙ sym (one_limit limits one (is_passed o))
-
-      pub took_next : NextIsRead → (r : Result Next Refusal) (at : ℕ) (i : Inst) → Steps s r t
-          → r ≡ Ok (next.Inst at i) → Took at (instruction_of i) t
-      took_next law r at i k e = gave at (instruction_of i) t k.0
-          (law start from (payload_limit limits) p s t r at i holds reads k e)
-
-      pub refused_next : RefusalIsRead → (r : Result Next Refusal) (x : Refusal) → Steps s r t
-          → r ≡ Err x → Turned x t
-      refused_next law r x k e =
-          let w = law start from (payload_limit limits) p s t r x reads k e in
-          let b = w.1.why.0 in
-          record {
-            no_stop = w.0;
-            place = w.1.place;
-            bytes = b;
-            why = subst (λ l. Refuses l s.source t.source b s.taken t.taken x.reason)
-                (ap (λ l. l.counted) same ∙ sym (one_limit_at limits one b)) w.1.why.1;
-          }
-
-    -- for `next_head`
+  module _ (reads : Reads start from (payload_limit limits) p s) (same : s.limits ≡ limits) where
     passes : PassesTo s (payload_limit limits)
     passes o = ap (λ l. payload_limit l o) same
 
-    pub took_head : HeadIsRead → (r : Result Head Refusal) (at : ℕ) (i : Inst) → StepsHead s r t
-        → r ≡ Ok (head.Inst at i) → Took at (instruction_of i) t
-    took_head law r at i k e = gave at (instruction_of i) t k.0
-        (law start from (payload_limit limits) p s t r at i passes reads k e)
-
-    -- for an instruction lent from the bytes at hand
-    pub took_lent : LentIsRead → (at : ℕ) (bytes : List ℕ) (i : Instruction) → at ≡ s.taken
-        → AreNext s bytes → IsLent limits bytes i → t ≡ beyond (length (spelling i)) s
-        → Took at i t × AreNext t (drop (length (spelling i)) bytes)
-    took_lent law at bytes i place next lent e =
+    pub took_lent : LentIsRead → (bytes : List ℕ) (i : Instruction) → AreNext s bytes
+        → IsLent limits bytes i → {at : ℕ} → at ≡ s.taken → {t : ReaderState}
+        → t ≡ beyond (length (spelling i)) s
+        → Took start from limits p s at i t × AreNext t (drop (length (spelling i)) bytes)
+    took_lent law bytes i next lent place e =
         let lent' = subst (λ (l : Bounds). IsLent l bytes i) (sym same) lent in
         let (more, took, behind) = law start from (payload_limit limits) p s bytes i passes reads
         next lent' in
@@ -137,15 +99,17 @@ module _ (start : Sight) (from : ℕ) (limits : Bounds) (p : List Instruction) (
     open_after op.Stop h = cc
     open_after _ h = refl
 
-    pub took_passed : PassedIsRead → (r : Result Head Refusal) (at : ℕ) (o : Op) (count : ℕ)
-        → StepsHead s r t → r ≡ Ok (head.Passed at o count) → Passed at o count t
-    took_passed law r at o count k e =
+    -- the payload of this opcode was skipped
+    took_passed : PassedIsRead → (at : ℕ) (o : Op) (count : ℕ) (t : ReaderState)
+        → StepsHead s (Ok (head.Passed at o count)) t
+        → (payload : List ℕ)
+        × Took start from limits p s at (instruction o (Counted payload)) t
+    took_passed law at o count t k =
         let (payload, one, more, bytes, taken, g) =
-        law start from (payload_limit limits) p s t r at o count passes reads k e in
-        record {
-          payload = payload;
-          one = one;
-          took = record {
+        law start from (payload_limit limits) p s t (Ok (head.Passed at o count)) at o count passes
+        reads k refl in (
+          payload,
+          record {
             more = more;
             same_limits = k.0;
             place = g.place;
@@ -153,67 +117,74 @@ module _ (start : Sight) (from : ℕ) (limits : Bounds) (p : List Instruction) (
             bytes = bytes;
             taken = taken;
             phase = g.phase ∙ open_after o one.passed;
-          };
-        }
+          },
+        )
 
-    pub refused_head : RefusalOfHeads → (r : Result Head Refusal) (x : Refusal) → StepsHead s r t
-        → r ≡ Err x → Turned x t
-    refused_head law r x k e =
-        let w = law start from (payload_limit limits) p s t r x reads k e in
-        let b = w.1.why.0 in
-        record {
-          no_stop = w.0;
-          place = w.1.place;
-          bytes = b;
-          why = subst
-              (λ l. Refuses (payload_limit_at l b) s.source t.source b s.taken t.taken x.reason)
-              same w.1.why.1;
-        }
-
-    -- for either, if all payloads have one limit where they are held
-    module _ (holding : Bool) (one : holding ≡ true → limits.passed ≡ limits.counted) where
+    -- where payloads are held, `next` has one limit for all
+    module _ (holding : Bool) (one : holding ≡ true → limits.passed ≡ limits.counted)
+        (t : ReaderState) where
       pub took_gave : NextIsRead → HeadIsRead → PassedIsRead → (at : ℕ) (P : Instruction → Type 0)
-          → Gave s t holding at P → (i : Instruction) × Took at i t × P i
+          → Gave s t holding at P → (i : Instruction) × Took start from limits p s at i t × P i
       took_gave nexts heads passed at P = took holding one
         where
           took : (b : Bool) → (b ≡ true → limits.passed ≡ limits.counted) → Gave s t b at P
-              → (i : Instruction) × Took at i t × P i
-          took true one (inst, k, holds) = (
-            instruction_of inst,
-            took_next (one refl) nexts (Ok (next.Inst at inst)) at inst k refl,
-            holds,
-          )
+              → (i : Instruction) × Took start from limits p s at i t × P i
+          took true one (inst, k, holds) =
+              let holds_to : HoldsTo s (payload_limit limits) = λ o. ap (λ l. l.counted) same
+              ∙ sym (one_limit limits (one refl) (is_passed o)) in (
+                instruction_of inst,
+                gave at (instruction_of inst) t k.0
+                    (nexts start from (payload_limit limits) p s t (Ok (next.Inst at inst)) at inst
+                    holds_to reads k refl),
+                holds,
+              )
           took false one (inl (inst, k, holds)) = (
             instruction_of inst,
-            took_head heads (Ok (head.Inst at inst)) at inst k refl,
+            gave at (instruction_of inst) t k.0
+                (heads start from (payload_limit limits) p s t (Ok (head.Inst at inst)) at inst
+                passes reads k refl),
             holds,
           )
           took false one (inr (o, count, k, holds)) =
-              let w = took_passed passed (Ok (head.Passed at o count)) at o count k refl in (
-                instruction o (Counted w.payload),
-                w.took,
-                holds (instruction o (Counted w.payload)) (record {
-                  op_is = refl;
-                  long = omega (arith, w.took.place, w.took.taken);
-                }),
+              let (payload, w) = took_passed passed at o count t k in (
+                instruction o (Counted payload),
+                w,
+                holds (instruction o (Counted payload))
+                    (record { op_is = refl; long = omega (arith, w.place, w.taken) }),
               )
 
       pub turned_down : RefusalIsRead → RefusalOfHeads → (x : Refusal) → TurnedDown s t holding x
-          → Turned x t × CountsAt x.reason s.source.failures t.source.failures
+          → Turned start from limits p s x t × CountsAt x.reason s.source.failures t.source.failures
       turned_down nexts heads x = turned holding one
         where
           turned : (b : Bool) → (b ≡ true → limits.passed ≡ limits.counted) → TurnedDown s t b x
-              → Turned x t × CountsAt x.reason s.source.failures t.source.failures
-          turned true one k = (
-            refused_next (one refl) nexts (Err x) x k refl,
-            (nexts start from (payload_limit limits) p s t (Err x) x reads k refl).1.failures,
-          )
-          turned false one k = (
-            refused_head heads (Err x) x k refl,
-            (heads start from (payload_limit limits) p s t (Err x) x reads k refl).1.failures,
-          )
+              → Turned start from limits p s x t
+              × CountsAt x.reason s.source.failures t.source.failures
+          turned true one k =
+              let w = nexts start from (payload_limit limits) p s t (Err x) x reads k refl in
+              let b = w.1.why.0 in (
+                record {
+                  no_stop = w.0;
+                  place = w.1.place;
+                  bytes = b;
+                  why = subst (λ l. Refuses l s.source t.source b s.taken t.taken x.reason)
+                      (ap (λ l. l.counted) same ∙ sym (one_limit_at limits (one refl) b)) w.1.why.1;
+                },
+                w.1.failures,
+              )
+          turned false one k =
+              let w = heads start from (payload_limit limits) p s t (Err x) x reads k refl in
+              let b = w.1.why.0 in (
+                record {
+                  no_stop = w.0;
+                  place = w.1.place;
+                  bytes = b;
+                  why = subst (λ l. Refuses (payload_limit_at l b) s.source t.source b s.taken
+                      t.taken x.reason) same w.1.why.1;
+                },
+                w.1.failures,
+              )
 
 -- if no byte was read ahead, the view of the source is unchanged
-pub seen_so : (ahead : List ℕ) (now here : Sight) → ahead ≡ [] → now ≡ here
-    → now ≡ unread ahead here
-seen_so ahead now here e h = h ∙ rw e refl
+pub seen_so : {ahead : List ℕ} → ahead ≡ [] → (here : Sight) → here ≡ unread ahead here
+seen_so e here = rw e refl

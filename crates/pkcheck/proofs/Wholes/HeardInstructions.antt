@@ -1,167 +1,205 @@
--- What a listener hears during a check.
-use Rattle.std.proofs.Common.{◌≡◌, ℕ, List, [], ◌∷◌, ◌++◌, append-nil, arith, append_assoc, refl}
-use Rattle.std.proofs.Common.{◌+◌, ap, sym, subst}
-use Rattle.std.proofs.lemmas.Str.{IsUtf8-nil}
-use Rattle.std.specs.Prelude.{Bool, IfErr, Option, Result, Ok, Err}
+-- What an audience is told of the instructions that are read and judged during a check.
+use Rattle.std.proofs.Common.{◌≡◌, ℕ, zero, suc, ◌+◌, ◌≤◌, List, [], ◌∷◌, ◌++◌, length, drop}
+use Rattle.std.proofs.Common.{Option, None, Some, inl, inr, refl, sym, ap, subst, ◌∙◌, arith}
+use Rattle.std.proofs.Common.{append-nil, append_assoc}
+use Rattle.std.specs.Prelude.{Bool, option_map}
+use Rattle.std.proofs.lemmas.List.{drop-drop, length-drop}
 use Rattle.pkops.specs.Limits.{Bounds}
-use Rattle.pkops.specs.Spelling.{Instruction}
+use Rattle.pkops.specs.Spelling.{Instruction, spelling}
 use Rattle.pkops.specs.declared.Refusal.{Refusal}
+use Rattle.pkread.specs.AtHand.{AreNext, IsLent, beyond}
 use Rattle.pkread.specs.ReaderCalls.{ReaderState}
 use Rattle.pkread.specs.Rows.{Sight}
+use Rattle.pkread.specs.Run.{LentIsRead, TakingTwice}
+use Rattle.pkimport.specs.Import.{Asked}
+use Rattle.pkstack.specs.Shape.{marks_of}
 use Rattle.pkmachine.specs.Covers.{Covers}
 use Rattle.pkmachine.specs.Knowledge.{Policy}
-use Rattle.pkimport.specs.Import.{Asked}
-use Rattle.pkread.specs.Run.{LentIsRead, TakingTwice}
-use Rattle.pkcheck.specs.Private.Judgement.{IsRefused, SessionView}
-use Rattle.pkcheck.specs.Private.Lent.{FailsLent, GoesAlong, HearsMore, RefusesLent, heard_along}
-use Rattle.pkcheck.specs.Private.Lent.{heard_before, heard_refused}
-use Rattle.pkcheck.specs.Reports.{AreReportsBehind, IsReportOf, Report, report, told_of}
 use Rattle.pkmachine.specs.RowRuns.{Beginning}
 use Rattle.pkmachine.specs.Runs.{State as RunState}
-use Rattle.pkstack.specs.Shape.{marks_of}
 use Rattle.pkmachine.specs.View.{View}
 use Rattle.pkmachine.specs.declared.old_strings.OldStrings.{OldStrings}
-use Rattle.pkcheck.proofs.Wholes.Checked.{Checked, known_behind}
-use Rattle.pkcheck.proofs.Wholes.Given.{Took}
-use Rattle.pkcheck.proofs.Wholes.InTurn.{one_more}
-use Rattle.pkcheck.proofs.Wholes.LentInstructions.{GoesOnToHold, Reached, holding_along, reached}
-use Rattle.pkcheck.proofs.Wholes.LentInstructions.{reached_refused}
-use Rattle.pkcheck.proofs.Wholes.Origins.{Origin}
+use Rattle.pkcheck.specs.Private.Judgement.{BothGoOn, IsRefused, SessionView}
+use Rattle.pkcheck.specs.Private.Lent.{GoesAlong, PassInTurn, RefusesLent, StopsAt, heard_along}
+use Rattle.pkcheck.specs.Reports.{AreReportsBehind, IsReportOf, Report, report, told_of}
+use Rattle.pkcheck.proofs.Wholes.Checked.{Checked, checked_took, known_behind}
+use Rattle.pkcheck.proofs.Wholes.Given.{Took, took_lent}
+use Rattle.pkcheck.proofs.Wholes.InTurn.{lent_within}
+use Rattle.pkcheck.proofs.Wholes.Origins.{Origin, empty}
 
 -- one more instruction was heard
-module _ (holding : Bool) (setting : OldStrings) (b : Beginning) (from : ℕ) where
-  pub heard_more : (before p : List Instruction) (rs : List Report) (i : Instruction) (x : Report)
-      → AreReportsBehind holding setting b from before p rs
-      → IsReportOf holding setting b from (before ++ p) i x
-      → AreReportsBehind holding setting b from before (p ++ i ∷ []) (rs ++ x ∷ [])
-  heard_more before [] [] i x u h =
-      (subst (λ c. IsReportOf holding setting b from c i x) (append-nil before) h, tt)
-  heard_more before (j ∷ p) (y ∷ rs) i x (f, r) h = (
-    f,
-    heard_more (before ++ j ∷ []) p rs i x r
-        (subst (λ c. IsReportOf holding setting b from c i x)
-        (sym (append_assoc before (j ∷ []) p)) h),
-  )
-  heard_more before [] (y ∷ rs) i x u h = absurd u
-  heard_more before (j ∷ p) [] i x u h = absurd u
+pub heard_more : {holding : Bool} {setting : OldStrings} {b : Beginning} {from : ℕ}
+    (before p : List Instruction) (rs : List Report) (i : Instruction) (x : Report)
+    → AreReportsBehind holding setting b from before p rs
+    → IsReportOf holding setting b from (before ++ p) i x
+    → AreReportsBehind holding setting b from before (p ++ i ∷ []) (rs ++ x ∷ [])
+heard_more {holding} {setting} {b} {from} before [] [] i x u h =
+    (subst (λ c. IsReportOf holding setting b from c i x) (append-nil before) h, tt)
+heard_more {holding} {setting} {b} {from} before (j ∷ p) (y ∷ rs) i x (f, r) h = (
+  f,
+  heard_more (before ++ j ∷ []) p rs i x r
+      (subst (λ c. IsReportOf holding setting b from c i x)
+      (sym (append_assoc before (j ∷ []) p)) h),
+)
+heard_more before [] (y ∷ rs) i x u h = absurd u
+heard_more before (j ∷ p) [] i x u h = absurd u
 
 module _ (holding : Bool) (setting : OldStrings) (policy : Policy) (limits : Bounds) (old : Sight)
     (o : Origin) where
-  -- the instructions that were read, and what was heard of them
-  abbrev pub Heard : List Instruction → List Report → Type 0
-  Heard p rs = AreReportsBehind holding setting o.beginning o.at [] p rs
+  -- instructions of a pickle were read and judged, and this was told of them
+  pub record Told (s : ReaderState) (v : SessionView) (hs : List Report) : Type 0 where
+    pub read : List Instruction
+    pub asked : List (Option Asked)
+    pub checked : Checked setting policy limits old o read asked s v
+    pub told : AreReportsBehind holding setting o.beginning o.at [] read hs
 
-  module _ (p : List Instruction) (asked : List (Option Asked)) (s : ReaderState)
-      (still_open : ℕ) (m : View) (h : Checked setting policy limits old o p asked s still_open m)
-      (t : ReaderState) (at : ℕ) (i : Instruction) (took : Took old o.at limits p s at i t)
-    where
-      -- what is heard of the instruction that the reader returns
-      pub heard_here : (n : ℕ)
-          → ((st : RunState) → Covers m.knowledge st → n ≡ marks_of st.shape.entries)
-          → IsReportOf holding setting o.beginning o.at p i (report at (told_of holding i) n)
-      heard_here n marks =
-          let known = known_behind setting policy limits old o p asked s still_open m h
-          took.more.no_stop in
-          let some = known.some (record { text = []; utf8 = IsUtf8-nil }) in
-          record {
-            same = refl;
-            place = omega (arith, took.place, h.reads.count);
-            marks = record {
-              each = λ st here. marks st (known.each st here);
-              some = (some.0, some.1);
-            };
-          }
+  -- behind them this instruction was read
+  pub record Reached (t : ReaderState) (at : ℕ) (i : Instruction) (v : SessionView)
+      (hs : List Report) : Type 0 where
+    pub between : ReaderState
+    pub so_far : Told between v hs
+    pub took : Took old o.at limits so_far.read between at i t
 
-  -- and so of one that is lent from the bytes at hand
-  pub hears_on : GoesOnToHold holding setting policy limits old o Heard
-  hears_on p asked s still_open m h t at i took rs each =
-      heard_more holding setting o.beginning o.at [] p rs i (heard_before holding at i m) each
-      (heard_here p asked s still_open m h t at i took (marks_of m.knowledge.entries)
-      (λ st here. h.laws.steps.marks _ st here))
+  -- where some instructions among the bytes at hand were accepted in turn
+  record Onward (bytes : List ℕ) (s : ReaderState) (count : ℕ) (v : SessionView)
+      (hs : List Report) : Type 0 where
+    so_far : Told (beyond count s) v hs
+    next : AreNext (beyond count s) (drop count bytes)
+    within : count ≤ length bytes
 
-  module _ (lends : LentIsRead) (twice : TakingTwice) (p : List Instruction)
-      (asked : List (Option Asked)) (s t : ReaderState) (frame : ℕ) (m : View)
-      (h : Checked setting policy limits old o p asked s frame m) (rs : List Report)
-      (each : Heard p rs) {L : Type 0} (hears : L → L → List Report → Type 0) (first before : L)
-      (earlier : List Report) (heard_first : hears first before (earlier ++ rs))
-    where
-      -- what is at hand is heard and accepted
-      pub hears_along : (after : SessionView)
-          (g : GoesAlong holding policy s t (record { frame = frame; machine = m }) after)
-          (behind : L)
-          → HearsMore hears before behind
-          (heard_along holding policy s t (record { frame = frame; machine = m }) g)
-          → (q : List Instruction) × (more : List (Option Asked))
-          × Checked setting policy limits old o q more t after.frame after.machine
-          × (all : List Report) × Heard q all × hears first behind (earlier ++ all)
-      hears_along after g behind more =
-          let w = holding_along holding setting policy limits old o lends twice Heard hears_on p
-          asked
-          s t frame m h rs each after g in (
-            w.0,
-            w.1,
-            w.2,
-            _,
-            w.3,
-            subst (hears first behind) (append_assoc earlier rs _)
-                (more first (earlier ++ rs) heard_first),
-          )
+drop_none : (left : Option (List ℕ)) → option_map (drop 0) left ≡ left
+drop_none None = refl
+drop_none (Some xs) = refl
 
-      -- one is heard and refused
-      pub hears_refused : (after : View) (r : Refusal)
-          (k : RefusesLent holding policy s t (record { frame = frame; machine = m }) after r)
-          (behind : L)
-          → HearsMore hears before behind
-          (heard_refused holding policy s t (record { frame = frame; machine = m }) k)
-          → (x : Reached holding setting policy limits old o lends twice Heard hears_on p asked s t
-          frame m h rs each r.at k.down.here.instruction k.down.here.between k.down.here.earlier)
-          × IsRefused policy k.down.here.instruction k.down.here.between.frame
-          k.down.here.between.machine after r.reason
-          × (all : List Report) × Heard (x.read ++ k.down.here.instruction ∷ []) all
-          × hears first behind (earlier ++ all)
-      hears_refused after r k behind more =
-          let w = reached_refused holding setting policy limits old o lends twice Heard hears_on p
-          asked s t frame m h rs each after r k in
-          let x = w.0 in
-          let here = k.down.here in
-          let each_one = hears_on x.read x.listed x.between here.between.frame here.between.machine
-          x.checked t r.at here.instruction x.took (rs ++ here.earlier) x.holds in (
-            x,
-            w.1,
-            _,
-            each_one,
-            subst (λ z. hears first behind (earlier ++ z)) (sym (one_more
-                (ap (λ n. heard_before holding n here.instruction here.between.machine) k.place) rs
-                here.earlier)) (subst (hears first behind) (append_assoc earlier rs _)
-                (more first (earlier ++ rs) heard_first)),
-          )
+-- a reader that has taken nothing is where it was
+beyond_none : (s : ReaderState) → beyond 0 s ≡ s
+beyond_none s =
+    let left = drop_none s.source.left in
+    let count : s.taken + 0 ≡ s.taken = omega arith in
+    rw (left, count) refl
 
-      -- the listener fails at one
-      pub hears_failed :
-          (k : FailsLent holding policy s t (record { frame = frame; machine = m })) (between : L)
-          → HearsMore hears before between k.here.earlier
-          → (x : Reached holding setting policy limits old o lends twice Heard hears_on p asked s t
-          frame m h rs each
-          (s.taken + k.before_it) k.here.instruction k.here.between k.here.earlier)
-          × (all : List Report) × Heard x.read all × hears first between (earlier ++ all)
-          × IsReportOf holding setting o.beginning o.at x.read k.here.instruction
-          (heard_before holding (s.taken + k.before_it) k.here.instruction k.here.between.machine)
-      hears_failed k between more =
-          let x = reached holding setting policy limits old o lends twice Heard hears_on p asked s t
-          frame m h rs each k.bytes k.before_it k.next k.here k.taken
-          (s.taken + k.before_it) refl in (
-            x,
-            _,
-            x.holds,
-            subst (hears first between) (append_assoc earlier rs _)
-                (more first (earlier ++ rs) heard_first),
-            heard_here x.read x.listed x.between k.here.between.frame k.here.between.machine
-                x.checked t (s.taken + k.before_it) k.here.instruction x.took
-                (marks_of k.here.between.machine.knowledge.entries)
-                (λ st here. h.laws.steps.marks _ st here),
-          )
+module _ {holding : Bool} {setting : OldStrings} {policy : Policy} {limits : Bounds} {old : Sight}
+    {o : Origin} {s : ReaderState} {v : SessionView} {hs : List Report}
+    (r : Told holding setting policy limits old o s v hs) where
+  module _ {t : ReaderState} {at : ℕ} {i : Instruction}
+      (took : Took old o.at limits r.read s at i t) where
+    -- what is told of the instruction that was read, with this number of marks
+    pub report_here : (n : ℕ)
+        → ((st : RunState) → Covers v.machine.knowledge st → n ≡ marks_of st.shape.entries)
+        → IsReportOf holding setting o.beginning o.at r.read i (report at (told_of holding i) n)
+    report_here n marks =
+        let known = known_behind r.checked took.more.no_stop in
+        let some = known.some empty in
+        record {
+          same = refl;
+          place = omega (arith, took.place, r.checked.reads.count);
+          marks = record {
+            each = λ st here. marks st (known.each st here);
+            some = (some.0, some.1);
+          };
+        }
 
--- whatever the error is
-pub if_err : {X Y : Type 0} {P : Type 0} (r : Result X Y) → P → IfErr r (λ _. P)
-if_err (Ok x) h = tt
-if_err (Err y) h = h
+    pub told_here : (n : ℕ)
+        → ((st : RunState) → Covers v.machine.knowledge st → n ≡ marks_of st.shape.entries)
+        → AreReportsBehind holding setting o.beginning o.at [] (r.read ++ i ∷ [])
+        (hs ++ report at (told_of holding i) n ∷ [])
+    told_here n marks = heard_more [] r.read hs i (report at (told_of holding i) n) r.told
+        (report_here n marks)
+
+    -- the instruction is accepted
+    pub told_more : {after : SessionView}
+        → BothGoOn policy i v.frame v.machine after.frame after.machine → (n : ℕ)
+        → ((st : RunState) → Covers v.machine.knowledge st → n ≡ marks_of st.shape.entries)
+        → Told holding setting policy limits old o t after
+        (hs ++ report at (told_of holding i) n ∷ [])
+    told_more both n marks = record {
+      read = r.read ++ i ∷ [];
+      asked = r.asked ++ both.1.1.0.import ∷ [];
+      checked = checked_took r.checked took both;
+      told = told_here n marks;
+    }
+
+  -- so many marks are open in every run
+  pub marks_known : (st : RunState) → Covers v.machine.knowledge st
+      → marks_of v.machine.knowledge.entries ≡ marks_of st.shape.entries
+  marks_known st here = r.checked.laws.steps.marks _ st here
+
+module _ {holding : Bool} {setting : OldStrings} {policy : Policy} {limits : Bounds} {old : Sight}
+    {o : Origin} (lends : LentIsRead) (twice : TakingTwice) where
+  -- one more instruction is lent
+  onward_took : {bytes : List ℕ} {s : ReaderState} {count : ℕ} {v : SessionView}
+      {hs : List Report} (h : Onward holding setting policy limits old o bytes s count v hs)
+      (i : Instruction) → IsLent limits (drop count bytes) i → {t : ReaderState}
+      → t ≡ beyond (count + length (spelling i)) s → {at : ℕ} → at ≡ s.taken + count
+      → Took old o.at limits h.so_far.read (beyond count s) at i t
+      × AreNext t (drop (length (spelling i)) (drop count bytes))
+  onward_took {bytes = bytes} {s = s} {count = count} h i lent is place =
+      took_lent h.so_far.checked.reads h.so_far.checked.read_limits lends (drop count bytes) i
+      h.next lent place (is ∙ twice count (length (spelling i)) s)
+
+  module _ {s : ReaderState} {v : SessionView} {hs : List Report}
+      (r : Told holding setting policy limits old o s v hs) where
+    -- any number of them is accepted
+    onward : (bytes : List ℕ) → AreNext s bytes → (n : ℕ) (after : SessionView) (count : ℕ)
+        (more : List Report) → PassInTurn holding policy s.taken bytes v n after count more
+        → Onward holding setting policy limits old o bytes s count after (hs ++ more)
+    onward bytes next zero after count more (is, none, nothing) =
+        rw (is, none, nothing) (record {
+          so_far = rw (beyond_none s, append-nil hs) r;
+          next = rw (beyond_none s) next;
+          within = omega arith;
+        })
+    onward bytes next (suc n) after count more
+        (between, so_far, i, earlier, pass, lent, both, is, all) =
+        let w = onward bytes next n between so_far earlier pass in
+        let size = length (spelling i) in
+        let lent' = subst (λ (l : Bounds). IsLent l (drop so_far bytes) i) r.checked.same_limits
+        lent in
+        let (took, later) = onward_took w i lent' {t = beyond (so_far + size) s} refl refl in
+        let long = lent_within limits (drop so_far bytes) i lent' in
+        let before = w.within in
+        rw (is, all, ← append_assoc hs earlier) (record {
+          so_far = told_more w.so_far took both _ (marks_known w.so_far);
+          next = subst (λ (b : List ℕ). AreNext (beyond (so_far + size) s) b)
+              (drop-drop size so_far bytes) later;
+          within = omega (arith, long, before, length-drop so_far bytes);
+        })
+
+    -- what is at hand is accepted
+    pub told_along : {t : ReaderState} {after : SessionView}
+        (g : GoesAlong holding policy s t v after)
+        → Told holding setting policy limits old o t after
+        (hs ++ heard_along holding policy s t v g)
+    told_along (inl (is, same)) = rw (is, same, append-nil hs) r
+    told_along {after = after} (inr k) =
+        rw k.taken (onward k.bytes k.next k.number after k.count k.hears k.pass).so_far
+
+    -- an instruction at hand is reached behind others
+    pub reached : (bytes : List ℕ) (count : ℕ) → AreNext s bytes
+        → (here : StopsAt holding policy s.taken bytes v count) → {t : ReaderState}
+        → t ≡ beyond (count + length (spelling here.instruction)) s → {at : ℕ}
+        → at ≡ s.taken + count
+        → Reached holding setting policy limits old o t at here.instruction here.between
+        (hs ++ here.earlier)
+    reached bytes count next here is place =
+        let w = onward bytes next here.number here.between count here.earlier here.pass in
+        let lent = subst (λ (l : Bounds). IsLent l (drop count bytes) here.instruction)
+        r.checked.same_limits here.lent in
+        record {
+          between = beyond count s;
+          so_far = w.so_far;
+          took = (onward_took w here.instruction lent is place).0;
+        }
+
+    -- and refused
+    pub reached_refused : {t : ReaderState} {after : View} {x : Refusal}
+        (k : RefusesLent holding policy s t v after x)
+        → Reached holding setting policy limits old o t x.at k.down.here.instruction
+        k.down.here.between (hs ++ k.down.here.earlier)
+        × IsRefused policy k.down.here.instruction k.down.here.between.frame
+        k.down.here.between.machine after x.reason
+    reached_refused k = (
+      reached k.bytes k.turned.before k.next k.down.here
+          (k.taken ∙ ap (λ n. beyond (k.turned.before + n) _) k.down.long) k.place,
+      rw k.why k.down.why,
+    )

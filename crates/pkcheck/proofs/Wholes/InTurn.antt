@@ -1,9 +1,8 @@
 -- The loop over lent instructions, which counts the bytes of the open frame once.
 use Rattle.std.proofs.Common.{◌≡◌, ◌≢◌, ℕ, zero, suc, ◌+◌, ◌-◌, ◌<◌, ◌≤◌, List, [], ◌∷◌, ◌++◌}
+use Rattle.std.proofs.Common.{length, take, drop, None, Some, false, inr, refl, sym, ap, subst, ◌∙◌}
+use Rattle.std.proofs.Common.{arith, append-nil, append_assoc}
 use Rattle.std.specs.Prelude.{Bool}
-use Rattle.std.proofs.Common.{length, take, drop, None, Some, false, inr, refl, sym, ap, subst}
-use Rattle.std.proofs.Common.{◌∙◌, arith}
-use Rattle.std.proofs.Common.{append-nil, append_assoc}
 use Rattle.std.proofs.lemmas.List.{drop-append-le, drop-drop, length-append, length-drop}
 use Rattle.std.proofs.lemmas.List.{length-take, take-append-drop, take_all}
 use Rattle.std.proofs.lemmas.Bool.{le-ltb}
@@ -18,8 +17,7 @@ use Rattle.pkmachine.specs.Knowledge.{Policy}
 use Rattle.pkcheck.specs.Private.Judgement.{SessionView}
 use Rattle.pkcheck.specs.Private.Lent.{PassInTurn, StopsAt, TurnsDown, heard_before}
 use Rattle.pkcheck.proofs.Wholes.StopEffects.{same_end}
-use Rattle.pkcheck.specs.Reports.{Report, report, told_of}
-use Rattle.pkstack.specs.Shape.{marks_of}
+use Rattle.pkcheck.specs.Reports.{Report}
 use Rattle.pkmachine.specs.Step.{FailsStep, GoesOn}
 use Rattle.pkmachine.specs.View.{View, stopped_by}
 use Rattle.pkmachine.specs.declared.stepping.Moved.{Moved}
@@ -79,18 +77,6 @@ counted_inside frame count size role is some within =
     is_open : frame - count ≢ 0 → frame ≢ 0
     is_open left e = left (omega (arith, e))
 
--- what is heard of an instruction
-pub heard_as : (holding : Bool) (at marks : ℕ) (i : Instruction) (m : View)
-    → marks ≡ marks_of m.knowledge.entries
-    → report at (told_of holding i) marks ≡ heard_before holding at i m
-heard_as holding at marks i m is = ap (report at (told_of holding i)) is
-
--- and is heard behind others
-pub one_more : {x y : Report} → x ≡ y → (earlier hs : List Report)
-    → (earlier ++ hs) ++ x ∷ [] ≡ earlier ++ (hs ++ y ∷ [])
-one_more {x = x} is earlier hs =
-    append_assoc earlier hs (x ∷ []) ∙ ap (λ z. earlier ++ (hs ++ z ∷ [])) is
-
 module _ (holding : Bool) (policy : Policy) (at : ℕ) (bytes inside : List ℕ)
     (before : SessionView) where
   -- some instructions were accepted, this was heard of them, and these bytes are left of those
@@ -106,8 +92,10 @@ module _ (holding : Bool) (policy : Policy) (at : ℕ) (bytes inside : List ℕ)
     pub refused : m.refused ≡ None
     pub stopped : m.stopped ≡ false
 
+module _ {holding : Bool} {policy : Policy} {at : ℕ} {bytes inside : List ℕ}
+    {before : SessionView} where
   pub along_none : before.machine.refused ≡ None → before.machine.stopped ≡ false
-      → Along inside before.machine []
+      → Along holding policy at bytes inside before inside before.machine []
   along_none well running =
       let frame : before.frame - 0 ≡ before.frame = omega arith in
       record {
@@ -121,15 +109,27 @@ module _ (holding : Bool) (policy : Policy) (at : ℕ) (bytes inside : List ℕ)
         stopped = running;
       }
 
-  module _ (whole : IsInside before.frame bytes inside) (rest : List ℕ) (m : View)
-      (hs : List Report) (h : Along rest m hs) (i : Instruction) (lent : IsLent m.limits rest i)
-    where
-      -- how many bytes were passed over
-      pub passed : h.count ≡ length inside - length rest
-      passed =
-          let within = h.within in
-          omega (arith, within, ap length h.left, length-drop h.count inside)
+  module _ {rest : List ℕ} {m : View} {hs : List Report}
+      (h : Along holding policy at bytes inside before rest m hs) where
+    -- how many bytes were passed over
+    pub passed : h.count ≡ length inside - length rest
+    passed =
+        let within = h.within in
+        omega (arith, within, ap length h.left, length-drop h.count inside)
 
+    -- the rest is no longer than all
+    pub no_longer : length rest ≤ length inside
+    no_longer = omega (arith, ap length h.left, length-drop h.count inside)
+
+    -- where no more is lent
+    pub all_passed : PassInTurn holding policy at bytes before h.number
+        (record { frame = before.frame - (length inside - length rest); machine = m })
+        (length inside - length rest) hs
+    all_passed = subst (λ c. PassInTurn holding policy at bytes before h.number
+        (record { frame = before.frame - c; machine = m }) c hs) passed h.pass
+
+    module _ (whole : IsInside before.frame bytes inside) {i : Instruction}
+        (lent : IsLent m.limits rest i) where
       pub lent_here : IsLent before.machine.limits (drop h.count bytes) i
       lent_here =
           let longer : drop h.count bytes ≡ rest ++ whole.behind =
@@ -158,19 +158,11 @@ module _ (holding : Bool) (policy : Policy) (at : ℕ) (bytes inside : List ℕ)
           counted_inside before.frame h.count (length (spelling i)) _ lent.role (omega arith)
           (λ some. let few = whole.few some in omega (arith, few, room))
 
-      -- what is heard of it
-      pub heard_now : (place marks : ℕ) → place ≡ at + (length inside - length rest)
-          → marks ≡ marks_of m.knowledge.entries
-          → report place (told_of holding i) marks ≡ heard_before holding (at + h.count) i m
-      heard_now place marks is open_ones =
-          let count = passed in
-          rw (is, open_ones, count) refl
-
       -- one more is accepted
-      pub along_more : (n : View) (moved : Moved) → GoesOn policy i m n moved
-          → Along (drop (length (spelling i)) rest) n
+      pub along_more : {n : View} {moved : Moved} → GoesOn policy i m n moved
+          → Along holding policy at bytes inside before (drop (length (spelling i)) rest) n
           (hs ++ heard_before holding (at + h.count) i m ∷ [])
-      along_more n moved (progress, e, becomes, is) = record {
+      along_more {moved = moved} (progress, e, becomes, is) = record {
         number = suc h.number;
         count = h.count + length (spelling i);
         pass = (
@@ -194,10 +186,10 @@ module _ (holding : Bool) (policy : Policy) (at : ℕ) (bytes inside : List ℕ)
       }
 
       -- the instruction stands behind those
-      abbrev pub stop_here : (count : ℕ) → count ≡ length inside - length rest
+      abbrev pub stop_here : {count : ℕ} → count ≡ length inside - length rest
           → StopsAt holding policy at bytes before count
-      stop_here count place =
-          let is : h.count ≡ count = passed ∙ sym place in
+      stop_here place =
+          let is = passed ∙ sym place in
           record {
             number = h.number;
             between = record { frame = before.frame - h.count; machine = m };
@@ -209,26 +201,14 @@ module _ (holding : Bool) (policy : Policy) (at : ℕ) (bytes inside : List ℕ)
           }
 
       -- and is refused
-      abbrev pub turned_down : (n : View) (t : Turned) → t.before ≡ length inside - length rest
+      abbrev pub turned_down : {n : View} {t : Turned} → t.before ≡ length inside - length rest
           → t.length ≡ length (spelling i) → FailsStep policy i m n t.reason
           → TurnsDown holding policy at bytes before n t
-      turned_down n t place long fails = record {
-        here = stop_here t.before place;
+      turned_down place long fails = record {
+        here = stop_here place;
         long = long;
         why = inr ((_, frame_after), fails);
       }
-
-  -- where no more is lent
-  pub all_passed : (rest : List ℕ) (m : View) (hs : List Report) (h : Along rest m hs)
-      → PassInTurn holding policy at bytes before h.number
-      (record { frame = before.frame - (length inside - length rest); machine = m })
-      (length inside - length rest) hs
-  all_passed rest m hs h =
-      let within = h.within in
-      let is : h.count ≡ length inside - length rest =
-      omega (arith, within, ap length h.left, length-drop h.count inside) in
-      subst (λ c. PassInTurn holding policy at bytes before h.number
-      (record { frame = before.frame - c; machine = m }) c hs) is h.pass
 
 -- the bytes behind the first ones, as a slice of them shows
 pub behind_slice : (n : ℕ) (xs : List ℕ) → take (length xs - n) (drop n xs) ≡ drop n xs
@@ -262,13 +242,11 @@ pass_within holding policy at bytes before (suc n) after count hs
     omega (arith, is, front, long, length-drop so_far bytes)
 
 -- the one behind them lies in the bytes too
-pub stops_within : (holding : Bool) (policy : Policy) (at : ℕ) (bytes : List ℕ)
-    (before : SessionView) (count : ℕ)
-    (here : StopsAt holding policy at bytes before count)
+pub stops_within : {holding : Bool} {policy : Policy} {at : ℕ} {bytes : List ℕ}
+    {before : SessionView} {count : ℕ} (here : StopsAt holding policy at bytes before count)
     → count + length (spelling here.instruction) ≤ length bytes
-stops_within holding policy at bytes before count here =
+stops_within {holding} {policy} {at} {bytes} {before} {count} here =
     let front = pass_within holding policy at bytes before here.number here.between count
-    here.earlier
-    here.pass in
+    here.earlier here.pass in
     let long = lent_within before.machine.limits (drop count bytes) here.instruction here.lent in
     omega (arith, front, long, length-drop count bytes)

@@ -1,24 +1,22 @@
 -- The imports of every run are those that the checker lists.
 use Rattle.pkmachine.specs.declared.old_strings.OldStrings.{OldStrings}
-use Rattle.std.proofs.Common.{◌≡◌, ℕ, List, [], ◌∷◌, ◌++◌, Option, Some, None}
-use Rattle.std.proofs.Common.{inl, inr, refl, sym, ap, subst, ◌∙◌, append-nil}
-use Rattle.std.proofs.Common.{append_assoc}
+use Rattle.std.proofs.Common.{◌≡◌, ℕ, List, [], ◌∷◌, ◌++◌, Option, Some, None, inl, inr, refl, sym}
+use Rattle.std.proofs.Common.{ap, subst, ◌∙◌, append-nil, append_assoc}
 use Rattle.pkmachine.specs.Effects.{Stops, effect_as}
 use Rattle.pkops.specs.Spelling.{Instruction}
-use Rattle.pkmachine.specs.Runs.{State, Event, Outcome, Stepped, WentOn, Raised, Stopped}
-use Rattle.pkmachine.specs.Runs.{Stuck}
-use Rattle.pkmachine.specs.Runs.{step_as, effect_asks}
-use Rattle.pkmachine.specs.Knowledge.{Knowledge, Policy, Progress, advance}
+use Rattle.pkmachine.specs.Runs.{State, Event, Outcome, Stepped, WentOn, Raised, Stopped, Stuck}
+use Rattle.pkmachine.specs.Runs.{step_as}
+use Rattle.pkmachine.specs.Knowledge.{Knowledge, Policy, Progress}
 use Rattle.pkimport.specs.Import.{Asked, AskedPair, AskedUnknown, asks_more}
 use Rattle.pkops.specs.Limits.{Bounds}
-use Rattle.pkmachine.specs.WholeRuns.{Ended, first_outcome, outcomes_after, go_on, run_as}
+use Rattle.pkmachine.specs.WholeRuns.{Ended, first_outcome, go_on, run_as}
 use Rattle.pkmachine.specs.Covers.{Adds, Covers, Follows, IsAsked, Pointwise, imports_of}
 use Rattle.pkmachine.specs.StepLaws.{StepLaws}
 use Rattle.pkcheck.proofs.Wholes.StopEffects.{only_stop}
 use Rattle.pkcheck.proofs.Wholes.RunSteps.{stopped_by_stop}
 use Rattle.pkcheck.proofs.Wholes.Soundness.{imports_of-append}
-use Rattle.pkcheck.proofs.Wholes.Verdicts.{StopsLast, Yes, verdict}
-use Rattle.pkcheck.proofs.Wholes.Walk.{verdict_first}
+use Rattle.pkcheck.proofs.Wholes.Stops.{StopsLast, after_first}
+use Rattle.pkcheck.proofs.Wholes.Walk.{Accepts, accepts_first, accepts_none}
 use Rattle.pkcheck.specs.Listing.{StandsFor, IsBeginning, ImportsAreListed, imports_among}
 
 -- no instruction follows STOP
@@ -26,10 +24,6 @@ pub stop_is_last : (setting : OldStrings) (i : Instruction) (is : List Instructi
     → StopsLast (i ∷ is) → effect_as setting i ≡ Stops → is ≡ []
 stop_is_last setting i [] h e = refl
 stop_is_last setting i (j ∷ is) h e = absurd (only_stop setting i h.0 e)
-
-pub after_first : (i : Instruction) (is : List Instruction) → StopsLast (i ∷ is) → StopsLast is
-after_first i [] h = tt
-after_first i (j ∷ is) h = h.1
 
 Pointwise-append : {A B : Type 0} (P : A → B → Type 0) (xs : List A) (ys : List B) (vs : List A)
     (ws : List B) → Pointwise P xs ys → Pointwise P vs ws → Pointwise P (xs ++ vs) (ys ++ ws)
@@ -69,60 +63,46 @@ pub more_among : (a : Option Asked) (as' : List Asked) (asked : List (Option Ask
 more_among None as' asked = refl
 more_among (Some a) as' asked = append_assoc as' (a ∷ []) (imports_among asked)
 
-module _ (laws : StepLaws) (setting : OldStrings) (p : Policy) (l : Bounds) where
-  step_listed : (q : Progress) (s : State) (st : Stepped) (done : List Asked)
-      (rest : List (Option Asked)) (f : State → Ended) → Follows q s st
-      → Pointwise StandsFor done (imports_of s.events)
-      → ((r : ℕ) (t : State) → st ≡ Stopped r t → rest ≡ [])
-      → ((t : State) → Covers q.after t → Pointwise StandsFor (asks_more q.import done)
-      (imports_of t.events) → ImportsAreListed (asks_more q.import done ++ imports_among rest)
-      (f t)) → ImportsAreListed (done ++ imports_among (q.import ∷ rest)) (go_on st f)
-  step_listed q s (WentOn t) done rest f g h last on = subst (λ x. ImportsAreListed x (f t))
-      (more_among q.import done rest) (on t g.0 (adds_stands q.import done s.events t.events h g.1))
-  step_listed q s (Raised t) done rest f (inl g) h last on = subst
-      (λ x. IsBeginning x (imports_of t.events)) (more_among q.import done rest)
-      (all_begins (asks_more q.import done) (imports_among rest) (imports_of t.events)
-      (adds_stands q.import done s.events t.events h g))
-  step_listed q s (Raised t) done rest f (inr g) h last on =
-      all_begins done _ (imports_of t.events) (adds_stands None done s.events t.events h g.1)
-  step_listed q s (Stopped r t) done rest f g h last on =
-      subst (λ x. Pointwise StandsFor (done ++ imports_among (q.import ∷ x)) (imports_of t.events))
-      (sym (last r t refl))
-      (subst (λ x. Pointwise StandsFor (done ++ imports_among (x ∷ [])) (imports_of t.events))
-      (sym g.3)
-      (subst (λ x. Pointwise StandsFor (done ++ []) (imports_of x)) (sym g.4)
-      (subst (λ x. Pointwise StandsFor x (imports_of s.events)) (sym (append-nil done)) h)))
-  step_listed q s (Stuck b) done rest f g h last on = absurd g
+step_listed : (q : Progress) (s : State) (st : Stepped) (done : List Asked)
+    (rest : List (Option Asked)) (f : State → Ended) → Follows q s st
+    → Pointwise StandsFor done (imports_of s.events)
+    → ((r : ℕ) (t : State) → st ≡ Stopped r t → rest ≡ [])
+    → ((t : State) → Covers q.after t → Pointwise StandsFor (asks_more q.import done)
+    (imports_of t.events) → ImportsAreListed (asks_more q.import done ++ imports_among rest)
+    (f t)) → ImportsAreListed (done ++ imports_among (q.import ∷ rest)) (go_on st f)
+step_listed q s (WentOn t) done rest f g h last on = subst (λ x. ImportsAreListed x (f t))
+    (more_among q.import done rest) (on t g.0 (adds_stands q.import done s.events t.events h g.1))
+step_listed q s (Raised t) done rest f (inl g) h last on = subst
+    (λ x. IsBeginning x (imports_of t.events)) (more_among q.import done rest)
+    (all_begins (asks_more q.import done) (imports_among rest) (imports_of t.events)
+    (adds_stands q.import done s.events t.events h g))
+step_listed q s (Raised t) done rest f (inr g) h last on =
+    all_begins done _ (imports_of t.events) (adds_stands None done s.events t.events h g.1)
+step_listed q s (Stopped r t) done rest f g h last on =
+    rw (last r t refl, g.3, g.4, append-nil done) h
+step_listed q s (Stuck b) done rest f g h last on = absurd g
 
-  none_left : (is : List Instruction) (k known : Knowledge) (asked : List (Option Asked)) → is ≡ []
-      → verdict setting p l is k ≡ Yes known asked → asked ≡ []
-  none_left [] k known asked e h = cc
-  none_left (i ∷ is) k known asked e h = cc
+module _ {setting : OldStrings} {p : Policy} {l : Bounds} where
+  none_left : {is : List Instruction} {k known : Knowledge} {asked : List (Option Asked)}
+      → is ≡ [] → Accepts setting p l is k known asked → asked ≡ []
+  none_left e accepts_none = refl
+  none_left e (accepts_first q g h) = cc
 
   -- the imports of a run are a prefix of the listed ones, after those listed before, and all of
   -- them if the run stopped
-  pub listed_from : (is : List Instruction) (k known : Knowledge) (asked : List (Option Asked))
-      (done : List Asked) (s : State) (os : List Outcome) → StopsLast is
-      → verdict setting p l is k ≡ Yes known asked → Covers k s
+  pub listed_from : StepLaws → {is : List Instruction} {k known : Knowledge}
+      {asked : List (Option Asked)} (done : List Asked) (s : State) (os : List Outcome)
+      → StopsLast is → Accepts setting p l is k known asked → Covers k s
       → Pointwise StandsFor done (imports_of s.events)
       → ImportsAreListed (done ++ imports_among asked) (run_as setting is os s)
-  listed_from [] k known asked done s os last e c h =
-      all_begins done (imports_among asked) (imports_of s.events) h
-  listed_from (i ∷ is) k known asked done s os last e c h =
-      let f = verdict_first (advance setting p l i k) (verdict setting p l is) known asked e in
-      let st = step_as setting i s (first_outcome os) in
-      let w = laws.sound setting p l i k f.passed f.passes s (first_outcome os) c in
-      subst
-      (λ x. ImportsAreListed (done ++ imports_among x)
-      (go_on st (run_as setting is (outcomes_after (effect_asks (effect_as setting i)) os))))
-      (sym f.rest.first)
-      (step_listed f.passed s st done f.rest.listed
-      (run_as setting is (outcomes_after (effect_asks (effect_as setting i)) os)) w h
-      (λ r t g. none_left is f.passed.after known f.rest.listed
-      (stop_is_last setting i is last
-      (stopped_by_stop (effect_as setting i) i r s t (first_outcome os) g)) f.rest.accepts)
-      (λ t d g. listed_from is f.passed.after known f.rest.listed
-      (asks_more f.passed.import done) t _ (after_first i is last) f.rest.accepts d g))
+  listed_from laws done s os last accepts_none c had = all_begins done [] (imports_of s.events) had
+  listed_from laws done s os last (accepts_first {i = i} {is = is} {k = k} q e h) c had =
+      let o = first_outcome os in
+      step_listed q s (step_as setting i s o) done _ (run_as setting is _)
+      (laws.sound setting p l i k q e s o c) had
+      (λ r t g. none_left (stop_is_last setting i is last
+      (stopped_by_stop (effect_as setting i) i r s t o g)) h)
+      (λ t d g. listed_from laws (asks_more q.import done) t _ (after_first i is last) h d g)
 
 -- the imports that are listed with one more instruction
 pub among_more : (done : List Asked) (asked : List (Option Asked)) (a : Option Asked)

@@ -4,16 +4,13 @@ use Rattle.std.proofs.Common.{◌≡◌, ℕ, List, [], Some, refl, sym, ap, sub
 use Rattle.std.specs.Prelude.{All}
 use Rattle.std.proofs.lemmas.List.Elements.{All-nil}
 use Rattle.std.proofs.lemmas.Str.{IsUtf8-nil}
-use Rattle.pkops.specs.Limits.{Bounds}
 use Rattle.pkops.specs.Spelling.{Instruction}
 use Rattle.pkmachine.specs.Covers.{Covers, Pointwise, imports_of}
 use Rattle.pkmachine.specs.Witnesses.{Answered, CoversBy, Stands, Word}
 use Rattle.pkmachine.specs.Knowledge.{Knowledge, Policy, nothing_known}
 use Rattle.pkcheck.specs.Listing.{StandsFor, permitted_by}
 use Rattle.pkmachine.specs.RowRuns.{Afresh, Arrives, Beginning, Behind, CanArrive, CanComeTo}
-use Rattle.pkmachine.specs.RowRuns.{ComesTo}
-use Rattle.pkmachine.specs.RowRuns.{InEachRunFrom, listed_before}
-use Rattle.pkmachine.specs.RowRuns.{RunsFrom}
+use Rattle.pkmachine.specs.RowRuns.{ComesTo, InEachRunFrom, listed_before, RunsFrom}
 use Rattle.pkmachine.specs.Runs.{CanCome, Outcome, State, start}
 use Rattle.pkmachine.specs.WholeRuns.{AllListed, CanGetTo, Ended, GetsTo, run_as}
 use Rattle.pkcheck.proofs.Wholes.Walk.{Along}
@@ -75,39 +72,38 @@ module _ (setting : OldStrings) where
   in_each Afresh p Holds h = λ os. h start os refl
   in_each (Behind pickles) p Holds h = h
 
-  module _ (policy : Policy) where
-    -- at the start, nothing is known
-    pub begins_afresh : Begins policy Afresh nothing_known
-    begins_afresh = record {
-      each = λ s e. subst (Covers nothing_known) (sym e)
-          (record { entries = tt; memo = tt });
-      some = λ v. (start, refl, record { entries = tt; memo = tt });
-      permitted = λ s e. subst (λ x. AllListed (permitted_by policy) (imports_of x.events))
-          (sym e) tt;
-      listed = λ s e. subst (λ x. Pointwise StandsFor [] (imports_of x.events)) (sym e) tt;
-    }
+first_state : (s : State) → Some start ≡ Some s → s ≡ start
+first_state s e = cc
 
-    first_state : (s : State) → Some start ≡ Some s → s ≡ start
-    first_state s e = cc
+module _ {setting : OldStrings} {policy : Policy} where
+  -- at the start, nothing is known
+  pub begins_afresh : Begins setting policy Afresh nothing_known
+  begins_afresh = record {
+    each = λ s e. subst (Covers nothing_known) (sym e) (record { entries = tt; memo = tt });
+    some = λ v. (start, refl, record { entries = tt; memo = tt });
+    permitted = λ s e. subst (λ x. AllListed (permitted_by policy) (imports_of x.events))
+        (sym e) tt;
+    listed = λ s e. subst (λ x. Pointwise StandsFor [] (imports_of x.events)) (sym e) tt;
+  }
 
-    -- behind no pickles, runs begin as those of a pickle that is alone
-    pub begins_row : (known : Knowledge) → Begins policy Afresh known
-        → Begins policy (Behind []) known
-    begins_row known h = record {
-      each = λ s w. h.each s (first_state s w.1);
-      some = λ v. let w = h.some v in (w.0, ([], All-nil (All CanCome), ap Some (sym w.1)), w.2);
-      permitted = λ s w. h.permitted s (first_state s w.1);
-      listed = λ s w. h.listed s (first_state s w.1);
-    }
+  -- behind no pickles, runs begin as those of a pickle that is alone
+  pub begins_row : {known : Knowledge} → Begins setting policy Afresh known
+      → Begins setting policy (Behind []) known
+  begins_row h = record {
+    each = λ s w. h.each s (first_state s w.1);
+    some = λ v. let w = h.some v in (w.0, ([], All-nil (All CanCome), ap Some (sym w.1)), w.2);
+    permitted = λ s w. h.permitted s (first_state s w.1);
+    listed = λ s w. h.listed s (first_state s w.1);
+  }
 
-    -- what is known along instructions stands for the runs that get past them
-    pub stands_from : (limits : Bounds) (b : Beginning) (before : List Instruction)
-        (first known : Knowledge) → Begins policy b first
-        → Along setting policy limits before first known → Stands known (RunsFrom setting b before)
-    stands_from limits b before first known h a = record {
-      each = λ t g. let w = arrived b before t g in a.each w.0 t w.2.0 (h.each w.0 w.1) w.2.1;
-      real = λ t g. any_arrives b before t g;
-      answers = λ v n. v.utf8;
-      some = λ v. let w = h.some v in let m = a.some v w.0 w.2 in
-          (m.0, arrives b before w.0 m.0 w.1 m.1, m.2);
-    }
+  -- what is known along instructions stands for the runs that get past them
+  pub stands_from : {b : Beginning} {before : List Instruction} {first known : Knowledge}
+      → Begins setting policy b first → Along setting before first known
+      → Stands known (RunsFrom setting b before)
+  stands_from {b = b} {before = before} h a = record {
+    each = λ t g. let w = arrived setting b before t g in a.each w.0 t (h.each w.0 w.1) w.2;
+    real = λ t g. any_arrives setting b before t g;
+    answers = λ v n. v.utf8;
+    some = λ v. let w = h.some v in let m = a.some v w.0 w.2 in
+        (m.0, arrives setting b before w.0 m.0 w.1 m.1, m.2);
+  }

@@ -1,6 +1,6 @@
 -- Bytes that begin with instructions that have no fault are refused only behind these.
-use Rattle.std.proofs.Common.{◌≡◌, ℕ, ◌⊎◌, inl, inr, List, [], ◌∷◌, ◌++◌}
-use Rattle.std.proofs.Common.{Some, refl, sym, ap, ◌∙◌, append_assoc}
+use Rattle.std.proofs.Common.{◌≡◌, ℕ, ◌⊎◌, inl, inr, List, [], ◌∷◌, ◌++◌, Some, refl, sym, ap, ◌∙◌}
+use Rattle.std.proofs.Common.{append_assoc}
 use Rattle.std.specs.Prelude.{All}
 use Rattle.std.proofs.lemmas.List.Elements.{All-cons, All-head, All-nil, All-tail}
 use Rattle.pkops.specs.Contents.{IsGood}
@@ -13,7 +13,6 @@ use Rattle.pkread.specs.Sequence.{spellings}
 use Rattle.pkread.specs.Sequences.{GoesOnBehind, OneFront, SequenceGoesOn}
 use Rattle.pkcheck.specs.Exclusive.{OneBegins, RefusedBehind}
 use Rattle.pkmachine.specs.Faults.{everyone}
-use Rattle.pkcheck.specs.RowOfPickles.{begins}
 use Rattle.pkcheck.specs.RunFaults.{HasRunFault}
 use Rattle.pkcheck.proofs.Wholes.Exclusive.{OneAnswer, consumed, not_why}
 use Rattle.pkcheck.proofs.Wholes.ExclusiveRows.{same_runs}
@@ -81,12 +80,10 @@ refused_behind one nothing front goes loading before others policy limits bytes 
         → GoesOnBehind p refused.instructions rest tail
         ⊎ ((behind : List Instruction) × (refused.instructions ≡ p ++ behind))
         → (behind : List Instruction) × (refused.instructions ≡ p ++ behind)
-    by_part tail rest is (inl g) = absurd (not_why one nothing front goes loading.old_strings
-        (begins loading.memo others) policy limits p refused.instructions rest tail g allowed from
-        few r
+    by_part tail rest is (inl g) = absurd (not_why one nothing front goes limits g allowed
         (λ q i more e f. faultless q i more e r
         (same_runs loading.old_strings q
         (λ at_i. HasRunFault policy limits q (everyone at_i) i r) loading.memo others before
         (sym alike) f))
-        refused.here after at pair is refused.place n m refused.why)
+        from few refused.place is n m refused.why)
     by_part tail rest is (inr k) = k

@@ -16,33 +16,30 @@ use Rattle.pkread.specs.Again.{NoByteIsRefused}
 use Rattle.pkread.specs.Run.{ReadingGoesOn}
 use Rattle.pkread.specs.ReaderCalls.{ReaderState}
 use Rattle.pkread.specs.Core.{Open}
-use Rattle.pkread.specs.Rows.{Refuses, Sight, Takes, TakingLaws, all_bytes}
-use Rattle.pkread.specs.Sequence.{IsSequence, StopIsLast, spellings}
+use Rattle.pkread.specs.Rows.{Sight, Takes, TakingLaws, all_bytes}
+use Rattle.pkread.specs.Sequence.{IsSequence, NoStop, StopIsLast, spellings}
+use Rattle.pkcheck.specs.Private.Judgement.{SessionView}
 use Rattle.pkops.specs.declared.Op.TheVariants.{Stop}
 use Rattle.pkops.specs.declared.Refusal.{Refusal as ReadRefusal}
-use Rattle.pkcheck.proofs.Wholes.Checked.{Checked, IsReady, accepted, checked_again}
-use Rattle.pkcheck.proofs.Wholes.Checked.{refused_turned}
+use Rattle.pkcheck.proofs.Wholes.Checked.{Checked, IsReady, accepted, checked_none, refused_turned}
 use Rattle.pkcheck.proofs.Wholes.NextPickle.{begins_next, imports_more}
-use Rattle.pkcheck.proofs.Wholes.Origins.{Begins, Origin, begins_afresh, begins_row}
+use Rattle.pkcheck.proofs.Wholes.Origins.{Begins, Origin, begins_afresh}
 use Rattle.pkcheck.proofs.Wholes.JudgingLaws.{JudgingLaws}
 use Rattle.pkmachine.specs.declared.old_strings.OldStrings.{OldStrings}
 use Rattle.pkcheck.specs.declared.loading.Loading.{Loading}
 use Rattle.pkmachine.specs.declared.memo.Memo.{Memo}
 use Rattle.pkmachine.specs.declared.memo.Memo.TheVariants.{Fresh, Kept}
-use Rattle.pkmachine.specs.View.{View}
+use Rattle.pkmachine.specs.View.{View, moved_apart, restarted}
 use Rattle.pkcheck.specs.Accepted.{AcceptedFrom}
 use Rattle.pkmachine.specs.Knowledge.{Knowledge, Policy, nothing_known}
 use Rattle.pkimport.specs.Import.{Asked}
 use Rattle.pkcheck.specs.Listing.{imports_among}
 use Rattle.pkcheck.specs.Private.NextPickle.{IsRefusedBehind, listed_apart, listed_in}
-use Rattle.pkmachine.specs.View.{moved_apart}
-use Rattle.pkmachine.specs.View.{restarted}
 use Rattle.pkcheck.specs.Heard.{refused_instruction}
 use Rattle.pkcheck.specs.Refused.{RefusedFrom}
-use Rattle.pkcheck.specs.RowOfPickles.{AcceptedRow, AreAccepted, IsAcceptedBehind}
-use Rattle.pkcheck.specs.RowOfPickles.{begins, bytes_of_all}
-use Rattle.pkmachine.specs.RowRuns.{Beginning, Behind, Pickle, imports_of_all, listed_before}
-use Rattle.pkmachine.specs.RowRuns.{sequences_of}
+use Rattle.pkcheck.specs.RowOfPickles.{AcceptedRow, AreAccepted, IsAcceptedBehind, begins}
+use Rattle.pkcheck.specs.RowOfPickles.{bytes_of_all}
+use Rattle.pkmachine.specs.RowRuns.{Beginning, Pickle, imports_of_all, listed_before, sequences_of}
 use Rattle.pkcheck.proofs.Wholes.AnotherPickle.{refuses_again}
 
 -- a sequence has at least one byte
@@ -84,26 +81,15 @@ pub none_before : (memo : Memo) → listed_before (begins memo []) ≡ []
 none_before Fresh = refl
 none_before Kept = refl
 
-pub begins_first : (memo : Memo) (setting : OldStrings) (policy : Policy)
+pub begins_first : (memo : Memo) {setting : OldStrings} {policy : Policy}
     → Begins setting policy (begins memo []) nothing_known
-begins_first Fresh setting policy = begins_afresh setting policy
-begins_first Kept setting policy = begins_afresh setting policy
+begins_first Fresh = begins_afresh
+begins_first Kept = begins_afresh
 
--- under a kept memo, the pickle behind some others begins where their runs ended
-kept_more : (before : List Pickle) (x : Pickle)
-    → begins Kept (before ++ x ∷ []) ≡ Behind (before ++ x ∷ [])
-kept_more [] x = refl
-kept_more (y ∷ before) x = refl
-
+-- under a kept memo, the imports of the pickles before are in the machine
 kept_listed : (before : List Pickle) → listed_before (begins Kept before) ≡ imports_of_all before
 kept_listed [] = refl
 kept_listed (x ∷ before) = refl
-
-kept_begins : (setting : OldStrings) (policy : Policy) (before : List Pickle) (known : Knowledge)
-    → Begins setting policy (begins Kept before) known
-    → Begins setting policy (Behind before) known
-kept_begins setting policy [] known h = begins_row setting policy known h
-kept_begins setting policy (x ∷ before) known h = h
 
 -- the imports of a row, which are outside the machine or inside it
 pub all_listed : (memo : Memo) (apart own : List Asked) (before : List Pickle)
@@ -188,184 +174,161 @@ module _ (taking : TakingLaws) (loading : Loading) (policy : Policy) (limits : B
       (subst (IsSequence (payload_limit limits)) same a.sequence)
       (accepted_sequences between new (before ++ x ∷ []) xs rest)
 
-  -- the row begins with no pickle
-  pub row_begins : (old : Sight) (pickles : ℕ) (apart : List Asked) → pickles ≡ 0 → apart ≡ []
-      → RowSoFar loading policy limits old old
-      (record { at = 0; beginning = begins loading.memo []; known = nothing_known }) pickles apart
-      []
-  row_begins old pickles apart e none = record {
-    each = taking.none old;
-    from_is = refl;
-    begins = refl;
-    number = e;
-    few = omega (arith, e);
-    listed = none ∙ none_apart loading.memo;
-  }
+-- the row begins with no pickle
+pub row_begins : TakingLaws → {loading : Loading} {policy : Policy} {limits : Bounds} {old : Sight}
+    {pickles : ℕ} {apart : List Asked} → pickles ≡ 0 → apart ≡ []
+    → RowSoFar loading policy limits old old
+    (record { at = 0; beginning = begins loading.memo []; known = nothing_known }) pickles apart []
+row_begins taking {loading = loading} {old = old} e none = record {
+  each = taking.none old;
+  from_is = refl;
+  begins = refl;
+  number = e;
+  few = omega (arith, e);
+  listed = none ∙ none_apart loading.memo;
+}
 
-  -- the imports outside the machine after one more pickle
-  apart_more : (memo : Memo) (apart own : List Asked) (before : List Pickle) (p : List Instruction)
-      (asked : List (Option Asked)) → apart ≡ listed_apart memo before
-      → own ≡ listed_before (begins memo before) ++ imports_among asked
-      → moved_apart memo apart own ≡ listed_apart memo (before ++ record
-      { instructions = p; imports = imports_among asked } ∷ [])
-  apart_more Fresh apart own before p asked e h = rw (e, h)
-      (sym (imports_more before (record { instructions = p; imports = imports_among asked })))
-  apart_more Kept apart own before p asked e h = e
+-- the imports outside the machine after one more pickle
+apart_more : (memo : Memo) (apart own : List Asked) (before : List Pickle) (x : Pickle)
+    → apart ≡ listed_apart memo before → own ≡ listed_before (begins memo before) ++ x.imports
+    → moved_apart memo apart own ≡ listed_apart memo (before ++ x ∷ [])
+apart_more Fresh apart own before x e h = rw (e, h) (sym (imports_more before x))
+apart_more Kept apart own before x e h = e
 
-  module _ (old here : Sight) (origin : Origin) (pickles : ℕ) (apart : List Asked)
-      (before : List Pickle)
-      (h : RowSoFar loading policy limits old here origin pickles apart before) where
-    bytes_more : (x : Pickle) → length (bytes_of_all (before ++ x ∷ []))
-        ≡ length (bytes_of_all before) + length (spellings x.instructions)
-    bytes_more x =
-        let e : bytes_of_all (before ++ x ∷ []) ≡ bytes_of_all before ++
-        (spellings x.instructions ++ []) = ap (λ (l : List (List Instruction)). flat_map
-        spellings l) (map-append (λ (y : Pickle). y.instructions) before (x ∷ [])) ∙
-        flat_map-append spellings (sequences_of before) (x.instructions ∷ []) in
-        omega (
-          arith,
-          ap length e,
-          length-append (bytes_of_all before) (spellings x.instructions ++ []),
-          length-append (spellings x.instructions) [],
-        )
-
-    module _ (p : List Instruction) (asked : List (Option Asked)) (s : ReaderState) (still_open : ℕ)
-        (m : View)
-        (checked : Checked loading.old_strings policy limits here origin p asked s still_open m)
-        (sequence : IsSequence (payload_limit limits) p) where
-      is_accepted : IsAcceptedBehind loading policy limits here s.source before (this p asked)
-      is_accepted =
-          let a = accepted loading.old_strings policy limits here origin p asked s still_open m
-          checked s.source (length (spellings p)) (imports_among asked) sequence refl
-          checked.reads.count refl in
-          subst
-          (λ b.
-          (a : AcceptedFrom loading.old_strings b policy limits here s.source
-          (length (spellings p)) (imports_among asked)) × (a.instructions ≡ p)) h.begins a
-
-      -- the pickle that was read and judged here is accepted, and the next one begins
-      pub pickle_more : (new : Sight) → Takes s.source new []
-          → (known : Knowledge) (all : List Asked) → all ≡ moved_apart loading.memo apart m.imports
-          → RowSoFar loading policy limits old new
-          (record {
-            at = s.taken;
-            beginning = begins loading.memo (before ++ this p asked ∷ []);
-            known = known;
-          }) (pickles + 1) all (before ++ this p asked ∷ [])
-      pickle_more new takes known all listed =
-          let x = this p asked in
-          let a = accepted_on here s.source new before x is_accepted takes in
-          let some = some_byte p (subst StopIsLast a.1 a.0.sequence.stops) in
-          let reads = checked.reads.count in
-          record {
-            each = accepted_more old here new [] before x h.each a;
-            from_is = reads ∙ ap (λ n. n + length (spellings p)) h.from_is ∙ sym (bytes_more x);
-            begins = refl;
-            number = omega (arith, h.number, length-append before (x ∷ []));
-            few = (let few = h.few in omega (arith, few, some, reads));
-            listed = listed ∙ apart_more loading.memo apart m.imports before p asked h.listed
-                (checked.imports ∙ ap (λ b. listed_before b ++ imports_among asked) h.begins);
-          }
-
-      ready : (memo : Memo) → origin.beginning ≡ begins memo before
-          → IsReady loading.old_strings policy limits (begins memo (before ++ this p asked ∷ []))
-          (restarted memo m)
-      ready Fresh e = record {
-        begins = begins_afresh loading.old_strings policy;
-        imports = refl;
-        same_limits = checked.same_limits;
-        same_setting = checked.same_setting;
-        refused = refl;
-        off = refl;
-        stopped = refl;
-      }
-      ready Kept e =
-          let begun = kept_begins loading.old_strings policy before origin.known
-          (subst (λ b. Begins loading.old_strings policy b origin.known) e checked.begins) in
-          subst (λ b. IsReady loading.old_strings policy limits b (restarted Kept m))
-          (sym (kept_more before (this p asked)))
-          (record {
-            begins = begins_next checked.laws.steps loading.old_strings policy limits before
-                origin.known begun (payload_limit limits) p sequence m.knowledge asked
-                checked.accepts;
-            imports = checked.imports
-                ∙ (ap (λ b. listed_before b ++ imports_among asked) e
-                ∙ (ap (λ l. l ++ imports_among asked) (kept_listed before)
-                ∙ sym (imports_more before (this p asked))));
-            same_limits = checked.same_limits;
-            same_setting = checked.same_setting;
-            refused = checked.refused;
-            off = checked.off;
-            stopped = refl;
-          })
-
-      -- the restarted machine is ready for the next pickle
-      pub next_ready : IsReady loading.old_strings policy limits
-          (begins loading.memo (before ++ this p asked ∷ [])) (restarted loading.memo m)
-      next_ready = ready loading.memo h.begins
-
-    not_none : 0 < pickles → sequences_of before ≢ []
-    not_none some e = omega
-        (arith, some, h.number, ap length e, length-map before (λ (y : Pickle). y.instructions))
-
-    -- the source is at its end
-    pub row_accepted : (taken : ℕ) (imports : List Asked) → 0 < pickles → IsAtEnd here.left
-        → taken ≡ origin.at → taken < all_bytes → imports ≡ imports_of_all before
-        → (right : AcceptedRow loading policy limits old here taken pickles imports)
-        × (right.row ≡ before)
-    row_accepted taken imports some ends is within listed = (
-      record {
-        row = before;
-        ends = ends;
-        is_row = record {
-          some = not_none some;
-          each = accepted_sequences old here [] before h.each;
-          spelled = refl;
-        };
-        bytes = accepted_bytes old here [] before h.each;
-        count = is ∙ h.from_is;
-        within = within;
-        number = h.number;
-        each = h.each;
-        listed = listed;
-      },
-      refl,
+bytes_more : (before : List Pickle) (x : Pickle) → length (bytes_of_all (before ++ x ∷ []))
+    ≡ length (bytes_of_all before) + length (spellings x.instructions)
+bytes_more before x =
+    let e : bytes_of_all (before ++ x ∷ []) ≡ bytes_of_all before ++
+    (spellings x.instructions ++ []) = ap (λ (l : List (List Instruction)). flat_map
+    spellings l) (map-append (λ (y : Pickle). y.instructions) before (x ∷ [])) ∙
+    flat_map-append spellings (sequences_of before) (x.instructions ∷ []) in
+    omega (
+      arith,
+      ap length e,
+      length-append (bytes_of_all before) (spellings x.instructions ++ []),
+      length-append (spellings x.instructions) [],
     )
 
-    -- no read has failed so far
-    pub none_failed : here.failures ≡ old.failures
-    none_failed = (accepted_bytes old here [] before h.each).count
+module _ (taking : TakingLaws) {loading : Loading} {policy : Policy} {limits : Bounds}
+    {old here : Sight} {origin : Origin} {pickles : ℕ} {apart : List Asked} {before : List Pickle}
+    (h : RowSoFar loading policy limits old here origin pickles apart before) where
+  module _ {p : List Instruction} {asked : List (Option Asked)} {s : ReaderState} {v : SessionView}
+      (checked : Checked loading.old_strings policy limits here origin p asked s v)
+      (sequence : IsSequence (payload_limit limits) p) where
+    is_accepted : IsAcceptedBehind loading policy limits here s.source before (this p asked)
+    is_accepted = subst
+        (λ b. (a : AcceptedFrom loading.old_strings b policy limits here s.source
+        (length (spellings p)) (imports_among asked)) × (a.instructions ≡ p)) h.begins
+        (accepted checked sequence checked.reads.count)
 
-  module _ (laws : JudgingLaws) (begins : ReadingGoesOn) (s : ReaderState)
-      (same : s.limits ≡ limits) (b : Beginning) (m : View)
-      (ready : IsReady loading.old_strings policy limits b m) where
-    -- no byte was taken of the pickle that would begin
-    abbrev RefusedFirst : ReadRefusal → Sight → Type 0
-    RefusedFirst x new =
-        (r : RefusedFrom s.taken loading.old_strings b policy limits s.source new x.at x.reason
-        None)
-        × (r.instructions ++ refused_instruction r.why ≡ [])
-        × ImportsBefore loading.old_strings b r.instructions []
+    -- the pickle that was read and judged here is accepted, and the next one begins
+    pub pickle_more : {new : Sight} → Takes s.source new [] → (known : Knowledge)
+        {all : List Asked} → all ≡ moved_apart loading.memo apart v.machine.imports
+        → RowSoFar loading policy limits old new
+        (record {
+          at = s.taken;
+          beginning = begins loading.memo (before ++ this p asked ∷ []);
+          known = known;
+        }) (pickles + 1) all (before ++ this p asked ∷ [])
+    pickle_more {new = new} takes known listed =
+        let x = this p asked in
+        let a = accepted_on taking loading policy limits here s.source new before x is_accepted
+        takes in
+        let some = some_byte p (subst StopIsLast a.1 a.0.sequence.stops) in
+        let reads = checked.reads.count in
+        record {
+          each = accepted_more taking loading policy limits old here new [] before x h.each a;
+          from_is = reads ∙ ap (λ n. n + length (spellings p)) h.from_is
+              ∙ sym (bytes_more before x);
+          begins = refl;
+          number = omega (arith, h.number, length-append before (x ∷ []));
+          few = (let few = h.few in omega (arith, few, some, reads));
+          listed = listed ∙ apart_more loading.memo apart v.machine.imports before x h.listed
+              (checked.imports ∙ ap (λ b. listed_before b ++ imports_among asked) h.begins);
+        }
 
-    turned : (x : ReadRefusal) (new : Sight) → x.at ≡ s.taken
-        → Refuses (payload_limit_at limits []) s.source new [] s.taken s.taken x.reason
-        → RefusedFirst x new
-    turned x new place why =
-        let open' : ReaderState = record s { phase = Open } in
-        let origin : Origin = record { at = s.taken; beginning = b; known = m.knowledge } in
-        let here = checked_again loading.old_strings policy limits s.source laws begins open' refl
-        same b m ready in
-        let r = refused_turned loading.old_strings policy limits s.source origin [] [] open' 0 m
-        here
-        (record s { source = new }) x new
-        (record { no_stop = All-nil (λ i. i.op ≢ Stop); place = place; bytes = []; why = why })
-        refl in
-        let none = imports_before loading.old_strings policy limits s.source origin [] [] open' 0 m
-        here [] refl (All-nil (λ i. i.op ≢ Stop)) in
-        (r.0, r.1, subst (λ p. ImportsBefore loading.old_strings b p []) (sym r.2) none)
+    ready : (memo : Memo) → origin.beginning ≡ begins memo before
+        → IsReady loading.old_strings policy limits (begins memo (before ++ this p asked ∷ []))
+        (restarted memo v.machine)
+    ready Fresh e = record {
+      begins = begins_afresh;
+      imports = refl;
+      same_limits = checked.same_limits;
+      same_setting = checked.same_setting;
+      refused = refl;
+      off = refl;
+      stopped = refl;
+    }
+    ready Kept e = record {
+      begins = begins_next checked.laws.steps before
+          (subst (λ b. Begins loading.old_strings policy b origin.known) e checked.begins) sequence
+          checked.accepts;
+      imports = checked.imports
+          ∙ (ap (λ b. listed_before b ++ imports_among asked) e
+          ∙ (ap (λ l. l ++ imports_among asked) (kept_listed before)
+          ∙ (sym (imports_more before (this p asked))
+          ∙ sym (kept_listed (before ++ this p asked ∷ [])))));
+      same_limits = checked.same_limits;
+      same_setting = checked.same_setting;
+      refused = checked.refused;
+      off = checked.off;
+      stopped = refl;
+    }
 
-    -- the reader refused after STOP, or an allocation for the imports was refused
-    pub refused_behind : NoByteIsRefused → (t : ReaderState) (x : ReadRefusal)
-        → IsRefusedBehind s t x → RefusedFirst x t.source
-    refused_behind law t x h = turned x t.source h.place
-        (law (payload_limit_at limits []) s _ x (refuses_again s t x h)).0
+    -- the restarted machine is ready for the next pickle
+    pub next_ready : IsReady loading.old_strings policy limits
+        (begins loading.memo (before ++ this p asked ∷ [])) (restarted loading.memo v.machine)
+    next_ready = ready loading.memo h.begins
+
+  not_none : 0 < pickles → sequences_of before ≢ []
+  not_none some e = omega
+      (arith, some, h.number, ap length e, length-map before (λ (y : Pickle). y.instructions))
+
+  -- the source is at its end
+  pub row_accepted : {imports : List Asked} → 0 < pickles → IsAtEnd here.left
+      → origin.at < all_bytes → imports ≡ imports_of_all before
+      → (right : AcceptedRow loading policy limits old here origin.at pickles imports)
+      × (right.row ≡ before)
+  row_accepted some ends within listed = (
+    record {
+      row = before;
+      ends = ends;
+      is_row = record {
+        some = not_none some;
+        each = accepted_sequences taking loading policy limits old here [] before h.each;
+        spelled = refl;
+      };
+      bytes = accepted_bytes taking loading policy limits old here [] before h.each;
+      count = h.from_is;
+      within = within;
+      number = h.number;
+      each = h.each;
+      listed = listed;
+    },
+    refl,
+  )
+
+  -- no read has failed so far
+  pub none_failed : here.failures ≡ old.failures
+  none_failed = (accepted_bytes taking loading policy limits old here [] before h.each).count
+
+-- no byte was taken of the pickle that would begin: the reader refused after STOP, or an allocation
+-- for the imports was refused
+pub refused_behind : JudgingLaws → ReadingGoesOn → NoByteIsRefused → {setting : OldStrings}
+    {policy : Policy} {limits : Bounds} {b : Beginning} {m : View} (s t : ReaderState)
+    (x : ReadRefusal) → s.limits ≡ limits → IsReady setting policy limits b m
+    → IsRefusedBehind s t x
+    → (r : RefusedFrom s.taken setting b policy limits s.source t.source x.at x.reason None)
+    × (r.instructions ++ refused_instruction r.why ≡ [])
+    × ImportsBefore setting b r.instructions []
+refused_behind laws begins law {setting = setting} {limits = limits} {b = b} s t x same ready h =
+    let open' : ReaderState = record s { phase = Open } in
+    let here = checked_none laws (begins open' (payload_limit limits) refl) refl same ready in
+    let none : NoStop [] = All-nil (λ i. i.op ≢ Stop) in
+    let r = refused_turned here {t = record s { source = t.source }} (record {
+      no_stop = none;
+      place = h.place;
+      bytes = [];
+      why = (law (payload_limit_at limits []) s _ x (refuses_again s t x h)).0;
+    }) in
+    (r.0, r.1, subst (λ p. ImportsBefore setting b p []) (sym r.2) (imports_before here none))

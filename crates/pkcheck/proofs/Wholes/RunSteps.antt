@@ -1,8 +1,6 @@
 -- One step of a whole run.
 use Rattle.pkmachine.specs.declared.old_strings.OldStrings.{OldStrings}
 use Rattle.std.proofs.Common.{◌≡◌, ◌≢◌, ℕ, Bool, true, false, List, [], ◌∷◌, Result, Ok, Err, refl}
-use Rattle.std.proofs.Common.{sym}
-use Rattle.std.proofs.Common.{ap, subst, ◌∙◌}
 use Rattle.std.specs.Prelude.{All}
 use Rattle.std.proofs.lemmas.List.Elements.{All-cons}
 use Rattle.pkops.specs.Operands.{memo_number}
@@ -12,13 +10,12 @@ use Rattle.pkmachine.specs.declared.effect.Names.{Names}
 use Rattle.pkmachine.specs.declared.effect.Gives.{Gives}
 use Rattle.pkmachine.specs.Effects.{Effect, Operates, Moves, Stops, Raises, effect_as}
 use Rattle.pkstack.specs.Shape.{Breach, Shape, Taken, moved, operands}
-use Rattle.pkmachine.specs.Runs.{Go, Raise, move_step}
-use Rattle.pkmachine.specs.Runs.{State, Outcome, CanCome, Stepped, WentOn, Raised, Stopped}
-use Rattle.pkmachine.specs.Runs.{Stuck, Named, NoImport, Pair, NotTexts, asks, come_of, operated}
-use Rattle.pkmachine.specs.Runs.{operate_step, perform, step_as, effect_asks}
-use Rattle.pkmachine.specs.Knowledge.{Knowledge, Progress}
+use Rattle.pkmachine.specs.Runs.{Go, Raise, move_step, State, Outcome, CanCome, Stepped, WentOn}
+use Rattle.pkmachine.specs.Runs.{Raised, Stopped, Stuck, Named, NoImport, Pair, NotTexts, asks}
+use Rattle.pkmachine.specs.Runs.{come_of, operated, operate_step, perform, step_as, effect_asks}
+use Rattle.pkmachine.specs.Knowledge.{Progress}
 use Rattle.pkcheck.proofs.Wholes.StopEffects.{only_stop}
-use Rattle.pkmachine.specs.Covers.{Covers, Follows}
+use Rattle.pkmachine.specs.Covers.{Adds, Covers, Follows}
 use Rattle.pkmachine.specs.WholeRuns.{Ended, Reached, first_outcome, outcomes_after, go_on, run_as}
 use Rattle.pkmachine.specs.Witnesses.{Answered, CoversBy, StepsPast}
 
@@ -90,39 +87,32 @@ kept [] = refl
 kept (o ∷ os) = refl
 
 -- a run whose first outcome is this one if the step asks
-pub run_on : (setting : OldStrings) (b : Bool) (i : Instruction) (is : List Instruction) (s : State)
-    (o : Outcome) (os : List Outcome) (x : Ended) → CanCome o → All CanCome os
-    → effect_asks (effect_as setting i) ≡ b → go_on (step_as setting i s o) (run_as setting is os) ≡
-    x → (qs : List Outcome) × All CanCome qs × (run_as setting (i ∷ is) qs s ≡ x)
-run_on setting true i is s o os x can all b e = (
-  o ∷ os,
-  All-cons CanCome o os can all,
-  subst
-      (λ c. go_on (step_as setting i s o) (run_as setting is (outcomes_after c (o ∷ os))) ≡ x)
-      (sym b) e,
-)
-run_on setting false i is s o os x can all b e = (
-  os,
-  all,
-  subst (λ c. go_on (step_as setting i s (first_outcome os))
-      (run_as setting is (outcomes_after c os)) ≡ x) (sym b)
-      (ap (λ st. go_on st (run_as setting is (outcomes_after false os)))
-      (perform_unused (effect_as setting i) i s (first_outcome os) o b) ∙ ap
-      (λ qs. go_on (step_as setting i s o) (run_as setting is qs)) (kept os) ∙ e),
-)
+pub run_on : (setting : OldStrings) (i : Instruction) (is : List Instruction) (s : State)
+    (o : Outcome) (os : List Outcome) {x : Ended} → CanCome o → All CanCome os
+    → go_on (step_as setting i s o) (run_as setting is os) ≡ x
+    → (qs : List Outcome) × All CanCome qs × (run_as setting (i ∷ is) qs s ≡ x)
+run_on setting i is s o os {x} can all e = by_asking (effect_asks (effect_as setting i)) refl
+  where
+    by_asking : (b : Bool) → effect_asks (effect_as setting i) ≡ b
+        → (qs : List Outcome) × All CanCome qs × (run_as setting (i ∷ is) qs s ≡ x)
+    by_asking true b = (o ∷ os, All-cons CanCome o os can all, rw b e)
+    by_asking false b = (
+      os,
+      all,
+      rw (b, kept os, perform_unused (effect_as setting i) i s (first_outcome os) o b) e,
+    )
 
 pub same_reached : (s t : State) → Reached s ≡ Reached t → s ≡ t
 same_reached s t e = cc
 
-pub each_on : (setting : OldStrings) (q : Progress) (s : State) (st : Stepped)
-    (is : List Instruction) (os : List Outcome) (t : State) (known : Knowledge)
-    → Follows q s st → ((u : State) → Covers q.after u
-    → run_as setting is os u ≡ Reached t → Covers known t)
-    → go_on st (run_as setting is os) ≡ Reached t → Covers known t
-each_on setting q s (WentOn u) is os t known h on e = on u h.0 e
-each_on setting q s (Raised u) is os t known h on e = cc
-each_on setting q s (Stopped r u) is os t known h on e = cc
-each_on setting q s (Stuck b) is os t known h on e = absurd h
+-- a run that gets past a step goes on behind it
+pub gets_past : (q : Progress) (s : State) (st : Stepped) (f : State → Ended) (t : State)
+    → Follows q s st → go_on st f ≡ Reached t
+    → (u : State) × Covers q.after u × Adds q.import s.events u.events × (f u ≡ Reached t)
+gets_past q s (WentOn u) f t h e = (u, h.0, h.1, e)
+gets_past q s (Raised u) f t h e = cc
+gets_past q s (Stopped r u) f t h e = cc
+gets_past q s (Stuck b) f t h e = cc
 
 -- a step that doesn't stop and gets past its instruction goes on
 pub gone : (v : List ℕ) (q : Progress) (st : Stepped) → ((r : ℕ) (u : State) → st ≡ Stopped r u

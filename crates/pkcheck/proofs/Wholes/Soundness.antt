@@ -7,16 +7,14 @@ use Rattle.pkimport.specs.Import.{Asked, AskedPair, AskedUnknown}
 use Rattle.pkmachine.specs.declared.old_strings.OldStrings.{OldStrings}
 use Rattle.pkmachine.specs.Covers.{Adds, AlikeEntry, Covers, Follows, IsAsked, Pointwise, TrueOf}
 use Rattle.pkmachine.specs.Covers.{imports_of}
-use Rattle.pkmachine.specs.Knowledge.{Knowledge, Policy, Progress, advance}
+use Rattle.pkmachine.specs.Knowledge.{Knowledge, Policy, Progress}
 use Rattle.pkmachine.specs.Runs.{Did, Event, Import, Outcome, Raised, State, Stepped, Stopped}
-use Rattle.pkmachine.specs.Runs.{Stuck}
-use Rattle.pkmachine.specs.Runs.{WentOn, step_as}
+use Rattle.pkmachine.specs.Runs.{Stuck, WentOn, step_as}
 use Rattle.pkmachine.specs.Step.{IsPermitted}
 use Rattle.pkmachine.specs.StepLaws.{StepLaws}
 use Rattle.pkcheck.specs.Listing.{permitted_by}
 use Rattle.pkmachine.specs.WholeRuns.{AllListed, Ended, EndsWell, first_outcome, go_on, run_as}
-use Rattle.pkcheck.proofs.Wholes.Verdicts.{Yes, verdict}
-use Rattle.pkcheck.proofs.Wholes.Walk.{verdict_first}
+use Rattle.pkcheck.proofs.Wholes.Walk.{Accepts, accepts_first, accepts_none}
 
 emptied : {A B : Type 0} (es : List A) (fs : List B) (R : A → B → Type 0) → es ≡ []
     → Pointwise R es fs → fs ≡ []
@@ -78,18 +76,15 @@ module _ (p : Policy) where
   )
   step_fine q s (Stuck b) f h g old on = absurd g
 
-  module _ (laws : StepLaws) (setting : OldStrings) (l : Bounds) where
-    -- a yes is sound from a covered state in which all imports so far are permitted
-    pub sound_from : (is : List Instruction) (k known : Knowledge) (asked : List (Option Asked))
-        (s : State) (os : List Outcome) → verdict setting p l is k ≡ Yes known asked
-        → Covers k s → AreListed (imports_of s.events)
-        → EndsWell (permitted_by p) (run_as setting is os s)
-    sound_from [] k known asked s os e c old = old
-    sound_from (i ∷ is) k known asked s os e c old =
-        let f = verdict_first (advance setting p l i k) (verdict setting p l is) known asked e in
-        let o = first_outcome os in
-        step_fine f.passed s (step_as setting i s o) (run_as setting is _)
-        (laws.permitted setting p l i k f.passed f.passes)
-        (laws.sound setting p l i k f.passed f.passes s o c) old
-        (λ t d listed. sound_from is f.passed.after known f.rest.listed t _ f.rest.accepts d
-        listed)
+-- a yes is sound from a covered state in which all imports so far are permitted
+pub sound_from : StepLaws → {setting : OldStrings} {p : Policy} {l : Bounds}
+    {is : List Instruction} {k known : Knowledge} {asked : List (Option Asked)} (s : State)
+    (os : List Outcome) → Accepts setting p l is k known asked → Covers k s
+    → AreListed p (imports_of s.events) → EndsWell (permitted_by p) (run_as setting is os s)
+sound_from laws s os accepts_none c old = old
+sound_from laws {setting = setting} {p = p} {l = l} s os
+    (accepts_first {i = i} {is = is} {k = k} q e h) c old =
+    let o = first_outcome os in
+    step_fine p q s (step_as setting i s o) (run_as setting is _)
+    (laws.permitted setting p l i k q e) (laws.sound setting p l i k q e s o c) old
+    (λ t d listed. sound_from laws t _ h d listed)

@@ -1,6 +1,6 @@
 -- STOP, and only STOP, stops the machine and the reader, however old strings are decoded.
-use Rattle.std.proofs.Common.{◌≡◌, ◌≢◌, [], Bool, Option, None, Some, true, false, cond, refl}
-use Rattle.std.proofs.Common.{sym, ap, ◌∙◌, ◌⊎◌, inl, inr}
+use Rattle.std.proofs.Common.{◌≡◌, ◌≢◌, [], Bool, Option, None, Some, true, false, cond, refl, sym}
+use Rattle.std.proofs.Common.{ap, ◌∙◌, ◌⊎◌, inl, inr}
 use Rattle.std.specs.Prelude.{unwrap_or}
 use Rattle.std.specs.List.{list_all}
 use Rattle.std.specs.Char.{is_ascii}

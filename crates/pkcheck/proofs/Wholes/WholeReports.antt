@@ -10,8 +10,7 @@ use Rattle.pkmachine.specs.Knowledge.{Policy}
 use Rattle.pkcheck.specs.ThreeEnds.{StoppedFrom}
 use Rattle.pkcheck.specs.Private.WholeReports.{whole_of, wholes}
 use Rattle.pkcheck.specs.Reports.{AreReportsBehind, Report, Told, Whole}
-use Rattle.pkmachine.specs.RowRuns.{Afresh}
-use Rattle.pkmachine.specs.RowRuns.{RunsFrom}
+use Rattle.pkmachine.specs.RowRuns.{Afresh, RunsFrom}
 use Rattle.pkstack.specs.Shape.{marks_of}
 use Rattle.pkmachine.specs.declared.old_strings.OldStrings.TheVariants.{Unknown}
 

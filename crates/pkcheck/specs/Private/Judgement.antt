@@ -40,14 +40,10 @@ abbrev pub BreaksFrame : Instruction → ℕ → View → View → Reason → Ty
 BreaksFrame i was_open before after reason =
     (counted was_open (piece_of i) ≡ None) × (after ≡ before) × (reason ≡ BrokenFrame)
 
--- the instruction obeys the frame rules, and the machine refuses it or an allocation is refused
-abbrev pub IsRefusedByMachine : Policy → Instruction → ℕ → View → View → Reason → Type 0
-IsRefusedByMachine policy i was_open before after reason =
-    ((is_open : ℕ) × (counted was_open (piece_of i) ≡ Some is_open))
-    × FailsStep policy i before after reason
-
--- the frame rules or the machine refuse the instruction
+-- the instruction breaks the frame rules, or it obeys them and the machine refuses it or an
+-- allocation is refused
 abbrev pub IsRefused : Policy → Instruction → ℕ → View → View → Reason → Type 0
 IsRefused policy i was_open before after reason =
     BreaksFrame i was_open before after reason
-    ⊎ IsRefusedByMachine policy i was_open before after reason
+    ⊎ (((is_open : ℕ) × (counted was_open (piece_of i) ≡ Some is_open))
+    × FailsStep policy i before after reason)

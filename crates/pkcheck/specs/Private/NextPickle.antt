@@ -1,6 +1,6 @@
 -- What is kept for the next pickle of a row.
-use Rattle.std.specs.Prelude.{◌≡◌, ℕ, ◌+◌, Bool, IfErr, IfOk, List, [], None, Ok}
-use Rattle.std.specs.Prelude.{OnErr, OnOk, Option, Result}
+use Rattle.std.specs.Prelude.{◌≡◌, ℕ, ◌+◌, Bool, IfErr, IfOk, List, [], None, Ok, OnErr, OnOk}
+use Rattle.std.specs.Prelude.{Option, Result}
 use Rattle.pkops.specs.declared.Refusal.{Refusal}
 use Rattle.pkread.specs.Again.{StepsAgain, TakesOneAhead, WhyNoByte}
 use Rattle.pkread.specs.Core.{CoreView}

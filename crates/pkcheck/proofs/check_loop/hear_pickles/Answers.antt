@@ -2,21 +2,21 @@
 use Rattle.std.proofs.Common.{rules, [], drop, length, refl, sym, ap, ◌∙◌}
 use Rattle.std.proofs.Math.Seq.{drop-length}
 use Rattle.std.proofs.lemmas.Result.{err_from_is_err_and}
-use Rattle.pkread.specs.ReaderCalls.{is_ended, state}
+use Rattle.pkread.specs.ReaderCalls.{is_ended}
 use Rattle.pkread.specs.Rows.{sight}
 use Rattle.pkmachine.specs.Knowledge.{nothing_known}
 use Rattle.pkcheck.specs.Private.NextPickle.{listed_in}
 use Rattle.pkcheck.specs.RowOfPickles.{begins}
 use Rattle.pkcheck.proofs.Wholes.AnotherPickle.{again_false, again_true, refused_from, some_ahead}
-use Rattle.pkcheck.proofs.Wholes.Checked.{checked_first}
-use Rattle.pkcheck.proofs.Wholes.JudgingLaws.{JudgingLaws, bounded}
-use Rattle.pkcheck.proofs.Wholes.Given.{seen_so}
-use Rattle.pkcheck.proofs.Wholes.RowOfPickles.{begins_first, none_before, row_begins}
 use Rattle.pkcheck.proofs.Wholes.BehindStop.{accepts_alone, accepts_row, going_again, refused_again}
-use Rattle.pkcheck.proofs.Wholes.Going.{accepted_as, count_told, failed_at_hand, failed_next}
-use Rattle.pkcheck.proofs.Wholes.Going.{going_along, going_next, if_err_count, phase_along}
-use Rattle.pkcheck.proofs.Wholes.Going.{refused_as, refused_at_hand, refused_next}
-use Rattle.pkcheck.proofs.Wholes.ThreeEnds.{alone_first, phase_open}
+use Rattle.pkcheck.proofs.Wholes.Checked.{checked_first}
+use Rattle.pkcheck.proofs.Wholes.Given.{seen_so}
+use Rattle.pkcheck.proofs.Wholes.Going.{accepted_as, alone_first, phase_open, refused_as}
+use Rattle.pkcheck.proofs.Wholes.Going.{stopped_as}
+use Rattle.pkcheck.proofs.Wholes.JudgingLaws.{JudgingLaws, bounded}
+use Rattle.pkcheck.proofs.Wholes.RowOfPickles.{begins_first, none_before, row_begins}
+use Rattle.pkcheck.proofs.Wholes.Turns.{failed_at_hand, failed_next, going_along, going_next}
+use Rattle.pkcheck.proofs.Wholes.Turns.{phase_along, refused_at_hand, refused_next}
 use Rattle.pkcheck.proofs.check_loop.hear_pickles.Goals as goal
 
 pub instructions-init : goal.instructions-init
@@ -30,9 +30,6 @@ instructions-init g c =
       steps = c.steps.ensures;
     } in
     let memo = c.args.row.now.memo in
-    let setting = c.args.session.now.machine.old_strings in
-    let limits = c.args.session.now.machine.limits in
-    let here = sight g.R.Source.left g.R.Source.failures c.args.reader.now.source.now in
     let row = c.requires.row in
     record {
       memo = refl;
@@ -56,22 +53,24 @@ instructions-init g c =
         one = c.requires.one;
         law = g.met.A.Audience.hears_more;
         bounded = bounded c.bounded_names.ensures c.args.policy.now;
-        here = here;
+        here = sight g.R.Source.left g.R.Source.failures c.args.reader.now.source.now;
         origin = record { at = 0; beginning = begins memo []; known = nothing_known };
         before = [];
-        row = row_begins c.rows.ensures.taking _ _ _ _ _ _ row.pickles row.apart;
+        row = row_begins c.rows.ensures.taking row.pickles row.apart;
         own = row.earlier ∙ sym (ap length (none_before memo));
         more = λ ne. absurd (ne refl);
         alone = alone_first _ _;
         earlier = [];
         of_pickles = refl;
-        read = [];
-        asked = [];
-        checked = rw (c.requires.reader, c.requires.session.frame, c.requires.session.machine)
-            (checked_first setting _ limits here laws c.heads.ensures.begins _ (none_before memo)
-            (begins_first memo _ _));
         last = [];
-        behind = tt;
+        so_far = record {
+          read = [];
+          asked = [];
+          checked = checked_first laws c.heads.ensures.begins c.requires.reader
+              c.requires.session.frame c.requires.session.machine (none_before memo)
+              (begins_first memo);
+          told = tt;
+        };
         heard = g.met.A.Audience.hears_none _;
       };
     }
@@ -81,120 +80,86 @@ instructions-init g c =
 pub returns-in_err-refusal-clause-stopped : goal.returns-in_err-refusal-clause-stopped
 returns-in_err-refusal-clause-stopped g c =
     let now = sight g.R.Source.left g.R.Source.failures c.hear_at_hand.new.reader.source.now in
-    let x = failed_at_hand _ _ _ _ _ _ _ _ _ _ _ _ _ _ _ _ c.instructions.invariant.going
-    g.A.Audience.fails _ _ now c.in_err-refusal.ensures.err
-    (seen_so _ now now c.in_err-refusal.ensures.none refl) in
+    let x = failed_at_hand c.instructions.invariant.going g.A.Audience.fails
+    c.in_err-refusal.ensures.err in
     let p = err_from_is_err_and c.from_residual.result c.from_residual.ensures.1 in
-    let right = x.right in
-    rw (p.1, p.2) (x.reports, x.failed, x.between, search (rules, right), x.told, x.left)
+    rw (p.1, p.2)
+    (stopped_as x (seen_so c.in_err-refusal.ensures.none now)).0
 
 pub returns-in_err-refusal-clause-count : goal.returns-in_err-refusal-clause-count
 returns-in_err-refusal-clause-count g c =
     let now = sight g.R.Source.left g.R.Source.failures c.hear_at_hand.new.reader.source.now in
-    let x = failed_at_hand _ _ _ _ _ _ _ _ _ _ _ _ _ _ _ _ c.instructions.invariant.going
-    g.A.Audience.fails _ _ now c.in_err-refusal.ensures.err
-    (seen_so _ now now c.in_err-refusal.ensures.none refl) in
+    let x = failed_at_hand c.instructions.invariant.going g.A.Audience.fails
+    c.in_err-refusal.ensures.err in
     let p = err_from_is_err_and c.from_residual.result c.from_residual.ensures.1 in
-    let same = x.counts in
-    if_err_count _ c.from_residual.result p.0 p.1 (search (rules, same))
+    rw p.1 (stopped_as x (seen_so c.in_err-refusal.ensures.none now)).1
 
-pub returns-in-Err-clause-answer : goal.returns-in-Err-clause-answer
-returns-in-Err-clause-answer g c =
+pub returns-in-Err : goal.returns-in-Err
+returns-in-Err g c =
     let no = (let h = rw c.in-Err.is at c.in_ok-refusal.ensures.no in h) in
     let none = (let h = rw c.in-Err.is at c.in_ok-refusal.ensures.none in h) in
     let now = sight g.R.Source.left g.R.Source.failures c.hear_at_hand.new.reader.source.now in
-    let x = refused_at_hand _ _ _ _ _ _ _ _ _ _ _ _ _ _ _ _ c.instructions.invariant.going
-    c.hear_at_hand.new.audience _ c.in-Err.refusal now no (seen_so _ now now none refl) in
     let e = c.refused.ensures in
-    let y = refused_as _ _ _ _ _ _ _ _ _ _ _ _ _ _ _ x _ _ _ _ _ _ (search rules) e.pickle
-    e.no.place e.no.why e.no.pair e.imports in
-    (y.reports, y.right, y.told)
-
-pub returns-in-Err-clause-count : goal.returns-in-Err-clause-count
-returns-in-Err-clause-count g c =
-    let no = (let h = rw c.in-Err.is at c.in_ok-refusal.ensures.no in h) in
-    let none = (let h = rw c.in-Err.is at c.in_ok-refusal.ensures.none in h) in
-    let now = sight g.R.Source.left g.R.Source.failures c.hear_at_hand.new.reader.source.now in
-    let x = refused_at_hand _ _ _ _ _ _ _ _ _ _ _ _ _ _ _ _ c.instructions.invariant.going
-    c.hear_at_hand.new.audience _ c.in-Err.refusal now no (seen_so _ now now none refl) in
-    let e = c.refused.ensures in
-    count_told _ _ _ _ _ e.no.why (search rules) x.counts
+    let a = refused_as (refused_at_hand c.instructions.invariant.going no)
+    (seen_so none now) c.refused.result e.pickle e.no e.imports in
+    record { source = search rules; answer = a.0; stopped = tt; count = a.1 }
 
 -- ---- the next one
 
 pub hear_next-requires-clause-running : goal.hear_next-requires-clause-running
 hear_next-requires-clause-running g c =
     let go = (let h = rw c.in_default.is at c.in_ok-refusal.ensures.ok in h) in
-    let w = going_along _ _ _ _ _ _ _ _ _ _ _ _ _ _ _ _ c.instructions.invariant.going _ _ go in
-    w.checked.stopped
-    ∙ ap is_ended (phase_along _ _ _ _ _ _ go.0 ∙ c.instructions.invariant.is_open)
+    (going_along c.instructions.invariant.going go).so_far.checked.stopped
+    ∙ ap is_ended (phase_along go.0 ∙ c.instructions.invariant.is_open)
 
 pub hear_next-requires-clause-well : goal.hear_next-requires-clause-well
 hear_next-requires-clause-well g c =
     let go = (let h = rw c.in_default.is at c.in_ok-refusal.ensures.ok in h) in
-    let w = going_along _ _ _ _ _ _ _ _ _ _ _ _ _ _ _ _ c.instructions.invariant.going _ _ go in
-    w.checked.refused
+    (going_along c.instructions.invariant.going go).so_far.checked.refused
 
 pub returns-in_err-turned-clause-stopped : goal.returns-in_err-turned-clause-stopped
 returns-in_err-turned-clause-stopped g c =
     let go = (let h = rw c.in_default.is at c.in_ok-refusal.ensures.ok in h) in
-    let w = going_along _ _ _ _ _ _ _ _ _ _ _ _ _ _ _ _ c.instructions.invariant.going _ _ go in
     let now = sight g.R.Source.left g.R.Source.failures c.hear_next.new.reader.source.now in
-    let x = failed_next _ _ _ _ _ _ _ _ _ _ _ _ _ _ _ _ w g.A.Audience.fails _ _ now
-    c.in_err-turned.ensures.err (seen_so _ now now c.in_err-turned.ensures.none refl) in
+    let x = failed_next (going_along c.instructions.invariant.going go) g.A.Audience.fails
+    c.in_err-turned.ensures.err in
     let from = c.from_residual-in_err-turned in
     let p = err_from_is_err_and from.result from.ensures.1 in
-    let right = x.right in
-    rw (p.1, p.2) (x.reports, x.failed, x.between, search (rules, right), x.told, x.left)
+    rw (p.1, p.2)
+    (stopped_as x (seen_so c.in_err-turned.ensures.none now)).0
 
 pub returns-in_err-turned-clause-count : goal.returns-in_err-turned-clause-count
 returns-in_err-turned-clause-count g c =
     let go = (let h = rw c.in_default.is at c.in_ok-refusal.ensures.ok in h) in
-    let w = going_along _ _ _ _ _ _ _ _ _ _ _ _ _ _ _ _ c.instructions.invariant.going _ _ go in
     let now = sight g.R.Source.left g.R.Source.failures c.hear_next.new.reader.source.now in
-    let x = failed_next _ _ _ _ _ _ _ _ _ _ _ _ _ _ _ _ w g.A.Audience.fails _ _ now
-    c.in_err-turned.ensures.err (seen_so _ now now c.in_err-turned.ensures.none refl) in
+    let x = failed_next (going_along c.instructions.invariant.going go) g.A.Audience.fails
+    c.in_err-turned.ensures.err in
     let from = c.from_residual-in_err-turned in
     let p = err_from_is_err_and from.result from.ensures.1 in
-    let same = x.counts in
-    if_err_count _ from.result p.0 p.1 (search (rules, same))
+    rw p.1 (stopped_as x (seen_so c.in_err-turned.ensures.none now)).1
 
-pub returns-in-Err-2-clause-answer : goal.returns-in-Err-2-clause-answer
-returns-in-Err-2-clause-answer g c =
+pub returns-in-Err-2 : goal.returns-in-Err-2
+returns-in-Err-2 g c =
     let go = (let h = rw c.in_default.is at c.in_ok-refusal.ensures.ok in h) in
-    let w = going_along _ _ _ _ _ _ _ _ _ _ _ _ _ _ _ _ c.instructions.invariant.going _ _ go in
     let no = (let h = rw c.in-Err-2.is at c.in_ok-turned.ensures.no in h) in
     let now = sight g.R.Source.left g.R.Source.failures c.hear_next.new.reader.source.now in
-    let x = refused_next _ _ _ _ _ _ _ _ _ _ _ _ _ _ _ _ w c.hear_next.new.audience _
-    c.in-Err-2.turned now no (seen_so _ now now c.in_ok-turned.ensures.none refl) in
     let e = c.refused-in-Err-2.ensures in
-    let y = refused_as _ _ _ _ _ _ _ _ _ _ _ _ _ _ _ x _ _ _ _ _ _ (search rules) e.pickle
-    e.no.place e.no.why e.no.pair e.imports in
-    (y.reports, y.right, y.told)
-
-pub returns-in-Err-2-clause-count : goal.returns-in-Err-2-clause-count
-returns-in-Err-2-clause-count g c =
-    let go = (let h = rw c.in_default.is at c.in_ok-refusal.ensures.ok in h) in
-    let w = going_along _ _ _ _ _ _ _ _ _ _ _ _ _ _ _ _ c.instructions.invariant.going _ _ go in
-    let no = (let h = rw c.in-Err-2.is at c.in_ok-turned.ensures.no in h) in
-    let now = sight g.R.Source.left g.R.Source.failures c.hear_next.new.reader.source.now in
-    let x = refused_next _ _ _ _ _ _ _ _ _ _ _ _ _ _ _ _ w c.hear_next.new.audience _
-    c.in-Err-2.turned now no (seen_so _ now now c.in_ok-turned.ensures.none refl) in
-    let e = c.refused-in-Err-2.ensures in
-    count_told _ _ _ _ _ e.no.why (search rules) x.counts
+    let a = refused_as (refused_next (going_along c.instructions.invariant.going go) no) (seen_so c.in_ok-turned.ensures.none now) c.refused-in-Err-2.result e.pickle e.no
+    e.imports in
+    record { source = search rules; answer = a.0; stopped = tt; count = a.1 }
 
 pub instructions-preserved : goal.instructions-preserved
 instructions-preserved g c =
     let go = (let h = rw c.in_default.is at c.in_ok-refusal.ensures.ok in h) in
-    let w = going_along _ _ _ _ _ _ _ _ _ _ _ _ _ _ _ _ c.instructions.invariant.going _ _ go in
     let step = (let h = rw c.in_default-2.is at c.in_ok-turned.ensures.ok in h) in
-    let v = going_next _ _ _ _ _ _ _ _ _ _ _ _ _ _ _ _ w _ _ step in
+    let v = going_next (going_along c.instructions.invariant.going go) step in
     record {
       memo = c.instructions.invariant.memo;
       extent = c.instructions.invariant.extent;
       same = c.hear_next.ensures.source
           ∙ (c.hear_at_hand.ensures.source ∙ c.instructions.invariant.same);
-      is_open = phase_open _ _ v.checked.reads.so_far (sym c.ended.ensures ∙ c.if-ended.false);
+      is_open = phase_open _ _ v.so_far.checked.reads.so_far
+          (sym c.ended.ensures ∙ c.if-ended.false);
       going = v;
     }
 
@@ -203,125 +168,77 @@ instructions-preserved g c =
 pub returns-in-OnePickle-clause-answer : goal.returns-in-OnePickle-clause-answer
 returns-in-OnePickle-clause-answer g c =
     let go = (let h = rw c.in_default.is at c.in_ok-refusal.ensures.ok in h) in
-    let w = going_along _ _ _ _ _ _ _ _ _ _ _ _ _ _ _ _ c.instructions.invariant.going _ _ go in
     let step = (let h = rw c.in_default-2.is at c.in_ok-turned.ensures.ok in h) in
-    let v = going_next _ _ _ _ _ _ _ _ _ _ _ _ _ _ _ _ w _ _ step in
-    let ended = sym c.ended.ensures ∙ c.if-ended.true in
+    let v = going_next (going_along c.instructions.invariant.going go) step in
     let now = sight g.R.Source.left g.R.Source.failures c.hear_next.new.reader.source.now in
-    let t = state g.R.Source.left g.R.Source.failures c.hear_next.new.reader in
-    let x = accepts_alone _ _ _ _ _ _ _ _ _ _ _ _ t _ _ _ v ended
-    (sym c.instructions.invariant.extent ∙ c.in-OnePickle.is) now
-    c.alone.result.taken
-    c.alone.result.pickles c.alone.result.imports
-    (seen_so _ now now c.in_ok-turned.ensures.none refl)
-    (c.alone.ensures.taken ∙ c.taken-taken.ensures) c.alone.ensures.imports
-    c.alone.ensures.pickles in
-    let y = accepted_as _ _ _ _ _ _ _ _ _ _ _ _ _ x _ (search rules) in
-    (y.reports, y.right, y.told)
+    let e = c.alone.ensures in
+    (accepted_as (accepts_alone v (sym c.ended.ensures ∙ c.if-ended.true)
+    (sym c.instructions.invariant.extent ∙ c.in-OnePickle.is))
+    (seen_so c.in_ok-turned.ensures.none now) c.alone.result (e.taken ∙ c.taken-taken.ensures)
+    e.pickles e.imports).0
 
 pub next-requires-clause-well : goal.next-requires-clause-well
 next-requires-clause-well g c =
     let go = (let h = rw c.in_default.is at c.in_ok-refusal.ensures.ok in h) in
-    let w = going_along _ _ _ _ _ _ _ _ _ _ _ _ _ _ _ _ c.instructions.invariant.going _ _ go in
     let step = (let h = rw c.in_default-2.is at c.in_ok-turned.ensures.ok in h) in
-    let v = going_next _ _ _ _ _ _ _ _ _ _ _ _ _ _ _ _ w _ _ step in
-    v.checked.refused
+    (going_next (going_along c.instructions.invariant.going go) step).so_far.checked.refused
 
 pub next-requires-clause-off : goal.next-requires-clause-off
 next-requires-clause-off g c =
     let go = (let h = rw c.in_default.is at c.in_ok-refusal.ensures.ok in h) in
-    let w = going_along _ _ _ _ _ _ _ _ _ _ _ _ _ _ _ _ c.instructions.invariant.going _ _ go in
     let step = (let h = rw c.in_default-2.is at c.in_ok-turned.ensures.ok in h) in
-    let v = going_next _ _ _ _ _ _ _ _ _ _ _ _ _ _ _ _ w _ _ step in
-    v.checked.off
+    (going_next (going_along c.instructions.invariant.going go) step).so_far.checked.off
 
-pub returns-in-Err-next-clause-answer : goal.returns-in-Err-next-clause-answer
-returns-in-Err-next-clause-answer g c =
+pub returns-in-Err-next : goal.returns-in-Err-next
+returns-in-Err-next g c =
     let go = (let h = rw c.in_default.is at c.in_ok-refusal.ensures.ok in h) in
-    let w = going_along _ _ _ _ _ _ _ _ _ _ _ _ _ _ _ _ c.instructions.invariant.going _ _ go in
     let step = (let h = rw c.in_default-2.is at c.in_ok-turned.ensures.ok in h) in
-    let v = going_next _ _ _ _ _ _ _ _ _ _ _ _ _ _ _ _ w _ _ step in
-    let ended = sym c.ended.ensures ∙ c.if-ended.true in
-    let counted = c.next.ensures.row in
+    let v = going_next (going_along c.instructions.invariant.going go) step in
     let looks = c.next.ensures.reader in
-    let refusal = c.in-Err-next.refusal in
     let ahead = (let b = rw c.in-Err-next.is at looks.ahead in b) in
     let off = (let b = rw c.in-Err-next.is at c.next.ensures.session.off in b) in
-    let behind = refused_from _ _ _ c.next.result refusal refl looks.refused c.in-Err-next.is in
+    let behind = refused_from _ _ _ c.next.result c.in-Err-next.refusal refl looks.refused
+    c.in-Err-next.is in
     let now = sight g.R.Source.left g.R.Source.failures c.next.new.reader.source.now in
-    let t = state g.R.Source.left g.R.Source.failures c.next.new.reader in
     let e = c.refused-in-Err-next.ensures in
-    let x = refused_again _ _ _ _ _ _ _ _ _ _ _ _ t _ _ _ v ended
-    (sym c.instructions.invariant.extent ∙ c.in-ToTheEnd.is)
-    c.next.new.self.pickles refusal now behind counted.number
-    (seen_so _ now now ahead refl) in
     let imports = c.next.new.session.machine.imports in
     let none = ap (λ n. drop n imports) c.next.ensures.earlier ∙ drop-length imports in
-    let y = refused_as _ _ _ _ _ _ _ _ _ _ _ _ _ _ _ x _ _ _ _ _ _ (search rules) e.pickle
-    e.no.place e.no.why (e.no.pair ∙ off) (e.imports ∙ none) in
-    (y.reports, y.right, y.told)
-
-pub returns-in-Err-next-clause-count : goal.returns-in-Err-next-clause-count
-returns-in-Err-next-clause-count g c =
-    let go = (let h = rw c.in_default.is at c.in_ok-refusal.ensures.ok in h) in
-    let w = going_along _ _ _ _ _ _ _ _ _ _ _ _ _ _ _ _ c.instructions.invariant.going _ _ go in
-    let step = (let h = rw c.in_default-2.is at c.in_ok-turned.ensures.ok in h) in
-    let v = going_next _ _ _ _ _ _ _ _ _ _ _ _ _ _ _ _ w _ _ step in
-    let ended = sym c.ended.ensures ∙ c.if-ended.true in
-    let counted = c.next.ensures.row in
-    let looks = c.next.ensures.reader in
-    let refusal = c.in-Err-next.refusal in
-    let ahead = (let b = rw c.in-Err-next.is at looks.ahead in b) in
-    let off = (let b = rw c.in-Err-next.is at c.next.ensures.session.off in b) in
-    let behind = refused_from _ _ _ c.next.result refusal refl looks.refused c.in-Err-next.is in
-    let now = sight g.R.Source.left g.R.Source.failures c.next.new.reader.source.now in
-    let t = state g.R.Source.left g.R.Source.failures c.next.new.reader in
-    let e = c.refused-in-Err-next.ensures in
-    let x = refused_again _ _ _ _ _ _ _ _ _ _ _ _ t _ _ _ v ended
-    (sym c.instructions.invariant.extent ∙ c.in-ToTheEnd.is)
-    c.next.new.self.pickles refusal now behind counted.number
-    (seen_so _ now now ahead refl) in
-    count_told _ _ _ _ _ e.no.why (search rules) x.counts
+    let a = refused_as (refused_again v (sym c.ended.ensures ∙ c.if-ended.true)
+    (sym c.instructions.invariant.extent ∙ c.in-ToTheEnd.is) behind c.next.ensures.row.number) (seen_so ahead now) c.refused-in-Err-next.result e.pickle
+    (record { place = e.no.place; why = e.no.why; pair = e.no.pair ∙ off }) (e.imports ∙ none) in
+    record { source = search rules; answer = a.0; stopped = tt; count = a.1 }
 
 pub instructions-preserved-in-Ok-true : goal.instructions-preserved-in-Ok-true
 instructions-preserved-in-Ok-true g c =
     let go = (let h = rw c.in_default.is at c.in_ok-refusal.ensures.ok in h) in
-    let w = going_along _ _ _ _ _ _ _ _ _ _ _ _ _ _ _ _ c.instructions.invariant.going _ _ go in
     let step = (let h = rw c.in_default-2.is at c.in_ok-turned.ensures.ok in h) in
-    let v = going_next _ _ _ _ _ _ _ _ _ _ _ _ _ _ _ _ w _ _ step in
-    let ended = sym c.ended.ensures ∙ c.if-ended.true in
+    let v = going_next (going_along c.instructions.invariant.going go) step in
     let counted = c.next.ensures.row in
     let looks = c.next.ensures.reader in
-    let t = state g.R.Source.left g.R.Source.failures c.next.new.reader in
     let h = again_true _ _ _ c.next.result refl looks.steps
     (cc (c.in-Ok-true.is, c.in-Ok-true.field-0-test)) in
     let ahead = (let b = rw (c.in-Ok-true.is, c.in-Ok-true.field-0-test) at looks.ahead in b) in
     let kept = c.instructions.invariant.memo in
     let apart = (let b = rw (c.in-Ok-true.is, kept) at counted.apart in b) in
     let machine = (let b = rw (c.in-Ok-true.is, kept) at c.next.ensures.session.ready in b) in
-    let earlier = (let b = rw machine at c.next.ensures.earlier in b) in
     record {
       memo = counted.memo ∙ kept;
       extent = counted.extent ∙ c.instructions.invariant.extent;
       same = looks.source ∙ (c.hear_next.ensures.source
           ∙ (c.hear_at_hand.ensures.source ∙ c.instructions.invariant.same));
       is_open = h.1;
-      going = rw machine (going_again _ _ _ _ _ _ _ _ _ _ _ _ t _ _ _ v ended
-          (sym c.instructions.invariant.extent ∙ c.in-ToTheEnd.is)
-          c.next.new.self.pickles c.next.new.self.apart.asked c.next.new.self.earlier _ h.0 h.1
-          h.2 h.3 (some_ahead ahead.0 _ _ ahead.1) counted.number apart refl earlier);
+      going = going_again v (sym c.ended.ensures ∙ c.if-ended.true)
+          (sym c.instructions.invariant.extent ∙ c.in-ToTheEnd.is) h.0 h.1 h.2 h.3
+          (some_ahead ahead.0 _ _ ahead.1) counted.number apart machine c.next.ensures.earlier;
     }
 
-pub returns-in-Ok-false-clause-answer : goal.returns-in-Ok-false-clause-answer
-returns-in-Ok-false-clause-answer g c =
+pub returns-in-Ok-false : goal.returns-in-Ok-false
+returns-in-Ok-false g c =
     let go = (let h = rw c.in_default.is at c.in_ok-refusal.ensures.ok in h) in
-    let w = going_along _ _ _ _ _ _ _ _ _ _ _ _ _ _ _ _ c.instructions.invariant.going _ _ go in
     let step = (let h = rw c.in_default-2.is at c.in_ok-turned.ensures.ok in h) in
-    let v = going_next _ _ _ _ _ _ _ _ _ _ _ _ _ _ _ _ w _ _ step in
-    let ended = sym c.ended.ensures ∙ c.if-ended.true in
+    let v = going_next (going_along c.instructions.invariant.going go) step in
     let counted = c.next.ensures.row in
     let looks = c.next.ensures.reader in
-    let t = state g.R.Source.left g.R.Source.failures c.next.new.reader in
     let h = again_false _ _ _ c.next.result refl looks.steps
     (cc (c.in-Ok-false.is, c.in-Ok-false.field-0-test)) in
     let ahead = (let b = rw (c.in-Ok-false.is, c.in-Ok-false.field-0-test) at looks.ahead in b) in
@@ -330,42 +247,10 @@ returns-in-Ok-false-clause-answer g c =
     let machine = (let b = rw (c.in-Ok-false.is, kept) at c.next.ensures.session.ready in b) in
     let now = sight g.R.Source.left g.R.Source.failures c.next.new.reader.source.now in
     let e = c.accepted.ensures in
-    let x = accepts_row _ _ _ _ _ _ _ _ _ _ _ _ t _ _ _ v ended
-    (sym c.instructions.invariant.extent ∙ c.in-ToTheEnd.is)
-    c.accepted.result.taken c.accepted.result.pickles c.accepted.result.imports
-    c.next.new.self.apart.asked c.next.new.session.machine now h.0 h.1 h.2
-    (e.pickles ∙ counted.number) apart (ap (λ s. s.machine) machine)
-    (e.imports ∙ ap (λ m. listed_in m c.next.new.self.apart.asked
-    c.next.new.session.machine.imports) (counted.memo ∙ kept))
-    (e.taken ∙ c.taken-taken.ensures) (seen_so _ now now ahead refl) in
-    let y = accepted_as _ _ _ _ _ _ _ _ _ _ _ _ _ x _ (search rules) in
-    (y.reports, y.right, y.told)
-
-pub returns-in-Ok-false-clause-count : goal.returns-in-Ok-false-clause-count
-returns-in-Ok-false-clause-count g c =
-    let go = (let h = rw c.in_default.is at c.in_ok-refusal.ensures.ok in h) in
-    let w = going_along _ _ _ _ _ _ _ _ _ _ _ _ _ _ _ _ c.instructions.invariant.going _ _ go in
-    let step = (let h = rw c.in_default-2.is at c.in_ok-turned.ensures.ok in h) in
-    let v = going_next _ _ _ _ _ _ _ _ _ _ _ _ _ _ _ _ w _ _ step in
-    let ended = sym c.ended.ensures ∙ c.if-ended.true in
-    let counted = c.next.ensures.row in
-    let looks = c.next.ensures.reader in
-    let t = state g.R.Source.left g.R.Source.failures c.next.new.reader in
-    let h = again_false _ _ _ c.next.result refl looks.steps
-    (cc (c.in-Ok-false.is, c.in-Ok-false.field-0-test)) in
-    let ahead = (let b = rw (c.in-Ok-false.is, c.in-Ok-false.field-0-test) at looks.ahead in b) in
-    let kept = c.instructions.invariant.memo in
-    let apart = (let b = rw (c.in-Ok-false.is, kept) at counted.apart in b) in
-    let machine = (let b = rw (c.in-Ok-false.is, kept) at c.next.ensures.session.ready in b) in
-    let now = sight g.R.Source.left g.R.Source.failures c.next.new.reader.source.now in
-    let e = c.accepted.ensures in
-    let x = accepts_row _ _ _ _ _ _ _ _ _ _ _ _ t _ _ _ v ended
-    (sym c.instructions.invariant.extent ∙ c.in-ToTheEnd.is)
-    c.accepted.result.taken c.accepted.result.pickles c.accepted.result.imports
-    c.next.new.self.apart.asked c.next.new.session.machine now h.0 h.1 h.2
-    (e.pickles ∙ counted.number) apart (ap (λ s. s.machine) machine)
-    (e.imports ∙ ap (λ m. listed_in m c.next.new.self.apart.asked
-    c.next.new.session.machine.imports) (counted.memo ∙ kept))
-    (e.taken ∙ c.taken-taken.ensures) (seen_so _ now now ahead refl) in
-    let same = x.counts in
-    search (rules, same)
+    let imports = e.imports ∙ ap (λ m. listed_in m c.next.new.self.apart.asked
+    c.next.new.session.machine.imports) (counted.memo ∙ kept) in
+    let a = accepted_as (accepts_row v (sym c.ended.ensures ∙ c.if-ended.true)
+    (sym c.instructions.invariant.extent ∙ c.in-ToTheEnd.is) h.0 h.1 h.2 counted.number apart
+    machine imports) (seen_so ahead now) c.accepted.result
+    (e.taken ∙ c.taken-taken.ensures) e.pickles refl in
+    record { source = search rules; answer = a.0; stopped = tt; count = a.1 }

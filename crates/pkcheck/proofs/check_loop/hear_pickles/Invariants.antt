@@ -18,9 +18,7 @@ invariant-instructions g l = record {
       (permit_of l.fn.policy) l.initial.session.machine.limits
       (sight g.R.Source.left g.R.Source.failures l.initial.reader.source.now)
       l.initial.row.extent g.A.Audience.hears l.initial.audience l.row.pickles l.row.apart.asked
-      l.row.earlier
-      (state g.R.Source.left g.R.Source.failures l.reader) l.session.frame l.session.machine
-      l.audience;
+      l.row.earlier (state g.R.Source.left g.R.Source.failures l.reader) l.session l.audience;
 }
 
 abbrev pub decreases-instructions : goal.decreases-instructions

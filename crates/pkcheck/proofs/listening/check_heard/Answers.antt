@@ -1,10 +1,14 @@
 -- With payloads held each report is of a whole instruction, which is what a listener hears.
-use Rattle.std.proofs.Common.{[], ◌++◌}
+use Rattle.std.proofs.Common.{[], ◌++◌, Err, IfErr, Ok, Result}
 use Rattle.pkcheck.specs.Heard.{refused_instruction}
 use Rattle.pkcheck.specs.Private.WholeReports.{wholes}
-use Rattle.pkcheck.proofs.Wholes.HeardInstructions.{if_err}
 use Rattle.pkcheck.proofs.Wholes.WholeReports.{cut_short, heard_wholes}
 use Rattle.pkcheck.proofs.listening.check_heard.Goals as goal
+
+-- whatever the error is
+if_err : {X Y : Type 0} {P : Type 0} (r : Result X Y) → P → IfErr r (λ _. P)
+if_err (Ok x) h = tt
+if_err (Err y) h = h
 
 pub returns-in_err-yes-clause-cut_short : goal.returns-in_err-yes-clause-cut_short
 returns-in_err-yes-clause-cut_short g c =

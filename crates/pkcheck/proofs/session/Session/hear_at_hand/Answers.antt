@@ -1,5 +1,5 @@
 -- The reader takes what was told: the accepted instructions, and the one that ended the check.
-use Rattle.std.proofs.Common.{◌+◌, ap, append-nil, arith, inl, inr, refl, subst, sym, ◌∙◌}
+use Rattle.std.proofs.Common.{◌+◌, rules, ap, append-nil, arith, inl, inr, refl, subst, sym, ◌∙◌}
 use Rattle.pkread.specs.AtHand.{beyond}
 use Rattle.pkread.specs.ReaderCalls.{state}
 use Rattle.pkmachine.specs.Policies.{permit_of}
@@ -20,21 +20,18 @@ hear_all_lent-requires-clause-room g c =
 
 -- ---- all that is lent is accepted
 
-pub advance-requires-clause-within : goal.advance-requires-clause-within
-advance-requires-clause-within g c =
+pub advance-requires : goal.advance-requires
+advance-requires g c =
     let ok = (let h = rw c.in-Ok-Ok.field-0-is at c.in-Ok-Ok.ensures.ok in h) in
     let few = pass_within g.A.Audience.holding (permit_of c.args.policy.now) _ c.in-Some.bytes.now
     c.args.self.now ok.0 c.hear_all_lent.new.self c.in-Ok-Ok.passed ok.1 ok.2 in
     let hand = c.in-Some.ensures.within in
-    omega (arith, few, hand)
-
-pub advance-requires-clause-room : goal.advance-requires-clause-room
-advance-requires-clause-room g c =
-    let ok = (let h = rw c.in-Ok-Ok.field-0-is at c.in-Ok-Ok.ensures.ok in h) in
-    let few = pass_within g.A.Audience.holding (permit_of c.args.policy.now) _ c.in-Some.bytes.now
-    c.args.self.now ok.0 c.hear_all_lent.new.self c.in-Ok-Ok.passed ok.1 ok.2 in
     let room = c.in-Some.ensures.next.within in
-    omega (arith, few, room)
+    record {
+      within = omega (arith, few, hand);
+      room = omega (arith, few, room);
+      none = search rules;
+    }
 
 pub returns-in-Ok-Ok-clause-ok : goal.returns-in-Ok-Ok-clause-ok
 returns-in-Ok-Ok-clause-ok g c =
@@ -56,29 +53,22 @@ returns-in-Ok-Ok-clause-ok g c =
 pub overflow_add-turned : goal.overflow_add-turned
 overflow_add-turned g c =
     let no = (let h = rw c.in-Ok-Err.field-0-is at c.in-Ok-Err.ensures.no in h) in
-    let down = no.0 in
-    let long = down.long in
-    let few = stops_within g.A.Audience.holding _ _ _ _ _ down.here in
+    let long = no.0.long in
     let room = c.in-Some.ensures.next.within in
-    omega (arith, few, room, long)
+    omega (arith, stops_within no.0.here, room, long)
 
-pub advance-requires-in-Ok-Err-clause-within : goal.advance-requires-in-Ok-Err-clause-within
-advance-requires-in-Ok-Err-clause-within g c =
+pub advance-requires-in-Ok-Err : goal.advance-requires-in-Ok-Err
+advance-requires-in-Ok-Err g c =
     let no = (let h = rw c.in-Ok-Err.field-0-is at c.in-Ok-Err.ensures.no in h) in
-    let down = no.0 in
-    let long = down.long in
-    let few = stops_within g.A.Audience.holding _ _ _ _ _ down.here in
+    let long = no.0.long in
+    let few = stops_within no.0.here in
     let hand = c.in-Some.ensures.within in
-    omega (arith, few, hand, long)
-
-pub advance-requires-in-Ok-Err-clause-room : goal.advance-requires-in-Ok-Err-clause-room
-advance-requires-in-Ok-Err-clause-room g c =
-    let no = (let h = rw c.in-Ok-Err.field-0-is at c.in-Ok-Err.ensures.no in h) in
-    let down = no.0 in
-    let long = down.long in
-    let few = stops_within g.A.Audience.holding _ _ _ _ _ down.here in
     let room = c.in-Some.ensures.next.within in
-    omega (arith, few, room, long)
+    record {
+      within = omega (arith, few, hand, long);
+      room = omega (arith, few, room, long);
+      none = search rules;
+    }
 
 pub returns-in-Ok-Err-clause-no : goal.returns-in-Ok-Err-clause-no
 returns-in-Ok-Err-clause-no g c =
@@ -96,31 +86,27 @@ returns-in-Ok-Err-clause-no g c =
       no.1,
     )
 
--- ---- the listener fails
+-- ---- the audience fails
 
 pub overflow_add-before : goal.overflow_add-before
 overflow_add-before g c =
     let err = c.in-Err.ensures.err in
     let long = err.1 in
-    let few = stops_within g.A.Audience.holding _ _ _ _ _ err.0 in
     let room = c.in-Some.ensures.next.within in
-    omega (arith, few, room, long)
+    omega (arith, stops_within err.0, room, long)
 
-pub advance-requires-in-Err-clause-within : goal.advance-requires-in-Err-clause-within
-advance-requires-in-Err-clause-within g c =
+pub advance-requires-in-Err : goal.advance-requires-in-Err
+advance-requires-in-Err g c =
     let err = c.in-Err.ensures.err in
     let long = err.1 in
-    let few = stops_within g.A.Audience.holding _ _ _ _ _ err.0 in
+    let few = stops_within err.0 in
     let hand = c.in-Some.ensures.within in
-    omega (arith, few, hand, long)
-
-pub advance-requires-in-Err-clause-room : goal.advance-requires-in-Err-clause-room
-advance-requires-in-Err-clause-room g c =
-    let err = c.in-Err.ensures.err in
-    let long = err.1 in
-    let few = stops_within g.A.Audience.holding _ _ _ _ _ err.0 in
     let room = c.in-Some.ensures.next.within in
-    omega (arith, few, room, long)
+    record {
+      within = omega (arith, few, hand, long);
+      room = omega (arith, few, room, long);
+      none = search rules;
+    }
 
 pub returns-in-Err-clause-err : goal.returns-in-Err-clause-err
 returns-in-Err-clause-err g c =
