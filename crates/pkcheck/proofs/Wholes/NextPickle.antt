@@ -98,7 +98,8 @@ module _ (setting : OldStrings) where
   last_of (q ∷ ps) p (os ∷ oss) first s e =
       let n = next_stops (run_as setting q os first) (run_row setting (ps ++ p ∷ []) oss) s e in
       let (middle, (before, comes), last) = last_of ps p oss (cleared n.state) s n.comes in
-      (middle, (os ∷ before, ap (λ x. next_from x (run_row setting ps before)) n.stops ∙ comes), last)
+      let first_runs = ap (λ x. next_from x (run_row setting ps before)) n.stops in
+      (middle, (os ∷ before, first_runs ∙ comes), last)
 
   -- joins the run of some pickles with the run of one more
   with_last : (ps : List (List Instruction)) (p : List Instruction) (oss : List (List Outcome))
@@ -168,8 +169,8 @@ module _ {setting : OldStrings} {policy : Policy} {limits : Bounds} where
 -- ---- the next pickle
 
 module _ {setting : OldStrings} {policy : Policy} where
-  kept_begins : (before : List Pickle) {k : Knowledge} → Begins setting policy (begins Kept before) k
-      → Begins setting policy (Behind before) k
+  kept_begins : (before : List Pickle) {k : Knowledge}
+      → Begins setting policy (begins Kept before) k → Begins setting policy (Behind before) k
   kept_begins [] h = begins_row h
   kept_begins (x ∷ before) h = h
 

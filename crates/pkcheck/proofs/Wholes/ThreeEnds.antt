@@ -215,8 +215,8 @@ module _ {holding : Bool} {loading : Loading} {policy : Policy} {limits : Bounds
   -- the pickle that is alone is accepted
   pub alone_told : (g.here ≡ old) × (g.before ≡ [])
       → IsSequence (payload_limit limits) g.so_far.read
-      → AcceptedAndTold holding loading policy limits old s.source OnePickle s.taken 1 v.machine.imports
-      (g.earlier ++ g.last)
+      → AcceptedAndTold holding loading policy limits old s.source OnePickle s.taken 1
+      v.machine.imports (g.earlier ++ g.last)
   alone_told alone sequence =
       let w = g.so_far in
       let at : g.origin.at ≡ 0 = g.row.from_is ∙ ap (λ b. length (bytes_of_all b)) alone.1 in

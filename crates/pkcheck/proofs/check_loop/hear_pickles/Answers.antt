@@ -144,8 +144,8 @@ returns-in-Err-2 g c =
     let no = (let h = rw c.in-Err-2.is at c.in_ok-turned.ensures.no in h) in
     let now = sight g.R.Source.left g.R.Source.failures c.hear_next.new.reader.source.now in
     let e = c.refused-in-Err-2.ensures in
-    let a = refused_as (refused_next (going_along c.instructions.invariant.going go) no) (seen_so c.in_ok-turned.ensures.none now) c.refused-in-Err-2.result e.pickle e.no
-    e.imports in
+    let a = refused_as (refused_next (going_along c.instructions.invariant.going go) no)
+    (seen_so c.in_ok-turned.ensures.none now) c.refused-in-Err-2.result e.pickle e.no e.imports in
     record { source = search rules; answer = a.0; stopped = tt; count = a.1 }
 
 pub instructions-preserved : goal.instructions-preserved
@@ -204,7 +204,8 @@ returns-in-Err-next g c =
     let imports = c.next.new.session.machine.imports in
     let none = ap (λ n. drop n imports) c.next.ensures.earlier ∙ drop-length imports in
     let a = refused_as (refused_again v (sym c.ended.ensures ∙ c.if-ended.true)
-    (sym c.instructions.invariant.extent ∙ c.in-ToTheEnd.is) behind c.next.ensures.row.number) (seen_so ahead now) c.refused-in-Err-next.result e.pickle
+    (sym c.instructions.invariant.extent ∙ c.in-ToTheEnd.is) behind c.next.ensures.row.number)
+    (seen_so ahead now) c.refused-in-Err-next.result e.pickle
     (record { place = e.no.place; why = e.no.why; pair = e.no.pair ∙ off }) (e.imports ∙ none) in
     record { source = search rules; answer = a.0; stopped = tt; count = a.1 }
 

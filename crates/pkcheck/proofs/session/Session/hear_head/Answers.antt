@@ -41,8 +41,10 @@ returns-in-Err-judge_passed-clause-no g c =
         c.in-Ok-Passed.op,
         c.in-Ok-Passed.field-0-2,
         stepped,
-        λ i l. let (k, skipped) = told i l in
-            (c.in-Err-judge_passed.ensures.err i k, rw skipped (c.in_default.ensures.ok c.requires.skips)),
+        λ i l. let (k, skipped) = told i l in (
+          c.in-Err-judge_passed.ensures.err i k,
+          rw skipped (c.in_default.ensures.ok c.requires.skips),
+        ),
       );
     })
 
