@@ -1,8 +1,8 @@
 -- What the loop answers for its reader, it answers for the source behind it.
-use Rattle.std.proofs.Common.{rules, ◌≡◌, IfErr, IfOk, MatchResult}
-use Rattle.pkread.specs.Rows.{Sight, sight}
+use Rattle.std.proofs.Common.{rules, ◌≡◌, IfErr, IfOk}
+use Rattle.pkread.specs.Rows.{Sight}
 use Rattle.pkmachine.specs.Policies.{permit_of}
-use Rattle.pkcheck.specs.ThreeEnds.{AnswersTold, CountsTold, StopsTold}
+use Rattle.pkcheck.specs.ThreeEnds.{AnswersTold, StopsTold}
 use Rattle.pkcheck.proofs.check_loop.check_pickles.Goals as goal
 
 seen_as : (P : Sight → Sight → Type 0) (a b old new : Sight) → old ≡ a → new ≡ b → P a b
@@ -24,13 +24,3 @@ returns-clause-stopped g c =
     c.args.terms.now.loading (permit_of c.args.policy.now) c.args.terms.now.limits old new
     g.A.Audience.hears g.A.Audience.fails c.args.audience.now c.hear_pickles.new.audience
     c.args.terms.now.extent)) _ _ _ _ (search rules) (search rules) told
-
-pub returns-clause-count : goal.returns-clause-count
-returns-clause-count g c =
-    seen_as (λ old new. MatchResult c.hear_pickles.result (CountsTold old.failures new.failures)
-    (λ _. new.failures ≡ old.failures))
-    (sight g.R.Source.left g.R.Source.failures c.new-reader.result.source.now)
-    (sight g.R.Source.left g.R.Source.failures c.hear_pickles.new.reader.source.now)
-    (sight g.R.Source.left g.R.Source.failures c.args.source.now)
-    (sight g.R.Source.left g.R.Source.failures _) (search rules) (search rules)
-    c.hear_pickles.ensures.count

@@ -1,7 +1,6 @@
 -- Each turn tells of one more lent instruction and judges it, up to a refusal or a failure.
 use Rattle.std.proofs.Common.{append-nil, append_assoc, arith, length, ap, subst, sym, ◌∙◌, ◌-◌}
 use Rattle.std.proofs.Common.{◌+◌, ◌++◌, ◌≡◌, ◌≤◌, ℕ, [], refl}
-use Rattle.std.proofs.lemmas.List.{length-append}
 use Rattle.pkops.specs.Inst.{instruction_of}
 use Rattle.pkcheck.proofs.Wholes.InTurn.{IsInside, all_passed, along_more, along_none, behind_slice}
 use Rattle.pkcheck.proofs.Wholes.InTurn.{is_inside, no_longer, passed, shorter, stop_here}
@@ -17,46 +16,9 @@ instructions-init g c = record {
       (sym (append-nil hs)) h;
 }
 
-pub step_on-requires-clause-running : goal.step_on-requires-clause-running
-step_on-requires-clause-running g c = c.instructions.invariant.along.stopped
-
-pub step_on-requires-clause-well : goal.step_on-requires-clause-well
-step_on-requires-clause-well g c = c.instructions.invariant.along.refused
-
 -- an offset counted back from the end
 counted_back : (at whole left : ℕ) → left ≤ whole → (at + whole) - left ≡ at + (whole - left)
 counted_back at whole left within = omega (arith, within)
-
-pub overflow_sub-here : goal.overflow_sub-here
-overflow_sub-here g c = omega (arith, no_longer c.instructions.invariant.along)
-
-pub overflow_sub-result : goal.overflow_sub-result
-overflow_sub-result g c = no_longer c.instructions.invariant.along
-
-pub overflow_sub-result-in-Err-step_on : goal.overflow_sub-result-in-Err-step_on
-overflow_sub-result-in-Err-step_on g c = no_longer c.instructions.invariant.along
-
-pub overflow_sub-count : goal.overflow_sub-count
-overflow_sub-count g c = no_longer c.instructions.invariant.along
-
-pub take_inside-requires : goal.take_inside-requires
-take_inside-requires g c some =
-    let same = c.instructions.invariant.frame in
-    let e = c.inside-inside.ensures in
-    let whole = is_inside c.self.inside.frames c.args.bytes.now c.inside-inside.result.now e.outside
-    e.inside in
-    let few = whole.few (λ none. some (same ∙ none)) in
-    omega (arith, same, few)
-
-pub overflow_add-end : goal.overflow_add-end
-overflow_add-end g c =
-    let room = c.requires.room in
-    let bytes = c.args.bytes.now in
-    let e = c.inside-inside.ensures in
-    let inside = c.inside-inside.result.now in
-    let whole = is_inside c.self.inside.frames bytes inside e.outside e.inside in
-    let all = ap length whole.all in
-    omega (arith, room, all, length-append inside whole.behind)
 
 pub returns-in-Err-clause-err : goal.returns-in-Err-clause-err
 returns-in-Err-clause-err g c =

@@ -12,12 +12,6 @@ returns-in_default-clause-ok g c = (
   λ first hs h. subst (g.A.Audience.hears first c.args.audience.now) (sym (append-nil hs)) h,
 )
 
-pub hear_all_lent-requires-clause-room : goal.hear_all_lent-requires-clause-room
-hear_all_lent-requires-clause-room g c =
-    let room = c.in-Some.ensures.next.within in
-    let taken = c.taken-taken.ensures in
-    omega (arith, room, taken)
-
 -- ---- all that is lent is accepted
 
 pub advance-requires : goal.advance-requires
