@@ -35,7 +35,7 @@ use Rattle.pkmachine.specs.RowRuns.{Afresh, Behind, next_from, run_row, sequence
 use Rattle.pkmachine.specs.WholeRuns.{AllListed, Ended, EndedBy, EndsWell, Reached, first_outcome}
 use Rattle.pkmachine.specs.WholeRuns.{go_on, outcomes_after, run_as}
 use Rattle.pkcheck.proofs.Wholes.NextPickle.{cleared}
-use Rattle.pkcheck.proofs.Wholes.RunSteps.{kept, perform_unused}
+use Rattle.pkcheck.proofs.Wholes.RunSteps.{kept, perform_unused, same_some}
 use Rattle.pkcheck.specs.EachSetting.{SoundInEach}
 
 old_answers : (o : Op) → is_old_string o ≡ true → effect_of o ≡ answers (Objects 0)
@@ -295,9 +295,6 @@ module _ (setting : OldStrings) where
   none_come : (u : State) → None ≡ Some u → ⊥
   none_come u e = cc
 
-  same_come : (s u : State) → Some s ≡ Some u → s ≡ u
-  same_come s u e = cc
-
   cleared_same : (s t : State) → Same s t → Same (cleared s) (cleared t)
   cleared_same s t w = record {
     shape = ap (λ (k : Shape ℕ). record { entries = []; memo = k.memo }) w.shape;
@@ -315,7 +312,7 @@ module _ (setting : OldStrings) where
   next_like ps like oss _ y u w e = absurd (none_come u e)
 
   rows : (ps : List (List Instruction)) → HaveRowLike ps
-  rows [] oss s t u w e = ([], t, refl, subst (λ x. Same x t) (same_come s u e) w)
+  rows [] oss s t u w e = ([], t, refl, subst (λ x. Same x t) (same_some s u e) w)
   rows (p ∷ ps) [] s t u w e = absurd (none_come u e)
   rows (p ∷ ps) (os ∷ oss) s t u w e =
       let (qs, same) = runs p os s t w in

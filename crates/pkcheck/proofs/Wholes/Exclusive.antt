@@ -128,36 +128,22 @@ side limit bytes rest after j good fits e =
           })
     ]
 
-not_more : (j : Instruction) (n : ℕ) → Whole j n ≢ More
-not_more j n = λ e. cc
-
-not_bad : (j : Instruction) (n : ℕ) (f : Fault) → Whole j n ≢ Bad f
-not_bad j n f = λ e. cc
-
-more_not_bad : (f : Fault) → More ≢ Bad f
-more_not_bad f = λ e. cc
-
-same_whole : (i j : Instruction) (m n : ℕ) → Whole i m ≡ Whole j n → i ≡ j
-same_whole i j m n e = cc
-
-no_objection : (j : Instruction) → IsTrue (is_admitted j) → objection j ≡ None
-no_objection j h = ap (λ b. cond b None (Some (unadmitted_by j.op j.arg))) h
-
 module _ (one : OneAnswer) (limit : ℕ) (bytes : List ℕ) (j : Instruction)
     (good : IsTrue (is_admitted j)) where
   no_fault : Side limit bytes j → (f : Fault) → ShowsFault limit f bytes → ⊥
-  no_fault (inl b) f h = more_not_bad f (one limit bytes More (Bad f) b.0 h)
-  no_fault (inr w) f h = not_bad j _ f (one limit bytes (Whole j (length (spelling j))) (Bad f) w h)
+  no_fault (inl b) f h = let e = one limit bytes More (Bad f) b.0 h in cc
+  no_fault (inr w) f h = let e = one limit bytes (Whole j (length (spelling j))) (Bad f) w h in cc
 
   not_begun : IsWhole limit bytes j (length (spelling j)) → Begun limit bytes → ⊥
-  not_begun w b = not_more j _ (one limit bytes (Whole j (length (spelling j))) More w b)
+  not_begun w b = let e = one limit bytes (Whole j (length (spelling j))) More w b in cc
 
   not_barred : Side limit bytes j → (r : Reason) → IsBarred limit bytes r → ⊥
-  not_barred (inl b) r (i, n, w, o) = not_more i n (one limit bytes (Whole i n) More w b.0)
+  not_barred (inl b) r (i, n, w, o) = let e = one limit bytes (Whole i n) More w b.0 in cc
   not_barred (inr w) r (i, n, v, o) =
-      let same : i ≡ j =
-      same_whole i j n _ (one limit bytes (Whole i n) (Whole j (length (spelling j))) v w) in
-      let none : Some r ≡ None = sym o ∙ ap objection same ∙ no_objection j good in
+      let e = one limit bytes (Whole i n) (Whole j (length (spelling j))) v w in
+      let same : i ≡ j = cc in
+      let none : Some r ≡ None = sym o ∙ (ap objection same
+      ∙ ap (λ b. cond b None (Some (unadmitted_by j.op j.arg))) good) in
       cc
 
   pub not_amiss : Side limit bytes j → (r : Reason) → IsAmiss limit bytes r → ⊥

@@ -77,9 +77,6 @@ both_empty : (a b : List ℕ) → [] ≡ a ++ b → (a ≡ []) × (b ≡ [])
 both_empty [] b e = (refl, sym e)
 both_empty (x ∷ a) b e = cc
 
-none_spelled : (i : Instruction) → spelling i ≡ [] → ⊥
-none_spelled i e = cc
-
 -- ---- a source without another byte
 
 module _ (one : OneAnswer) (nothing : (limit : ℕ) → Begun limit []) (here after : Sight)
@@ -113,7 +110,7 @@ module _ (one : OneAnswer) (nothing : (limit : ℕ) → Begun limit []) (here af
       none_shown (payload_limit_at limits h.bytes) h.bytes at h.taken h.shown.taken few r t n m
       h.shown.row
   none_refused setting b policy limits q at few r pair t n m (judging h) =
-      none_spelled h.instruction (empty (spelling h.instruction) h.bytes)
+      let e = empty (spelling h.instruction) h.bytes in cc
   none_refused setting b policy limits q at few r pair t n m (growing h) = m h.memory
 
 -- ---- both rows, pickle by pickle

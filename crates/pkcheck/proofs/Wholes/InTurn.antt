@@ -117,9 +117,9 @@ module _ {holding : Bool} {policy : Policy} {at : ℕ} {bytes inside : List ℕ}
         let within = h.within in
         omega (arith, within, ap length h.left, length-drop h.count inside)
 
-    -- the rest is no longer than all
-    pub no_longer : length rest ≤ length inside
-    no_longer = omega (arith, ap length h.left, length-drop h.count inside)
+    -- an offset counted back from the end
+    pub counted_back : (at + length inside) - length rest ≡ at + (length inside - length rest)
+    counted_back = omega (arith, ap length h.left, length-drop h.count inside)
 
     -- where no more is lent
     pub all_passed : PassInTurn holding policy at bytes before h.number

@@ -24,6 +24,7 @@ use Rattle.pkcheck.specs.declared.loading.Loading.{Loading}
 use Rattle.pkmachine.specs.declared.memo.Memo.{Memo}
 use Rattle.pkmachine.specs.declared.memo.Memo.TheVariants.{Fresh, Kept}
 use Rattle.pkmachine.specs.declared.old_strings.OldStrings.{OldStrings}
+use Rattle.pkcheck.proofs.Wholes.RunSteps.{same_some}
 use Rattle.pkcheck.proofs.Wholes.Past.{Comes, Past, past, stopped}
 use Rattle.pkcheck.proofs.Wholes.Stops.{StopsNowhere, last_more, sequence_last, stops_nowhere}
 use Rattle.pkcheck.proofs.Wholes.ExclusiveRows.{same_runs}
@@ -147,16 +148,13 @@ module _ (setting : OldStrings) where
       abbrev p : List Instruction
       p = is ++ last ∷ []
 
-      same_state : (s t : State) → Some s ≡ Some t → t ≡ s
-      same_state s t e = cc
-
       -- the run of the pickles before, and then that of the instructions
       joined : (before : List Pickle) (k known : Knowledge)
           (r : RunOfRow (sequences_of before) k start)
           → Past setting [] p last known r.first
           → InSomeNewRun setting (begins Kept before) p GetsPast
       joined [] k known r a =
-          let b = subst (Past setting [] p last known) (same_state start r.first r.runs) a in
+          let b = subst (Past setting [] p last known) (sym (same_some start r.first r.runs)) a in
           (b.outcomes, b.can, b.new, past_end p last known 0 start b)
       joined (x ∷ before) k known r a = (
         r.outcomes,

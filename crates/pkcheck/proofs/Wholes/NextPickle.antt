@@ -30,7 +30,7 @@ use Rattle.pkcheck.proofs.Wholes.Soundness.{sound_from}
 use Rattle.pkcheck.specs.RowOfPickles.{begins}
 use Rattle.pkmachine.specs.declared.memo.Memo.TheVariants.{Kept}
 use Rattle.pkcheck.proofs.Wholes.Origins.{Begins, StartsIn, begins_row}
-use Rattle.pkcheck.proofs.Wholes.RunSteps.{stopped_by_stop}
+use Rattle.pkcheck.proofs.Wholes.RunSteps.{same_some, stopped_by_stop}
 use Rattle.pkcheck.proofs.Wholes.Walk.{Accepts, accepts_first, accepts_none}
 
 -- a stopped state, cleared for the next pickle
@@ -63,9 +63,6 @@ next_stops (EndedBy (Stuck b)) next s e = cc
 next_stops (EndedBy (Stopped r t)) next s e =
     record { result = r; state = t; stops = refl; comes = e }
 
-same_state : (s t : State) → Some s ≡ Some t → s ≡ t
-same_state s t e = cc
-
 module _ (setting : OldStrings) where
   -- a run of this pickle stops, and the next one begins in this state
   record StopsAt (p : List Instruction) (first s : State) : Type 0 where
@@ -92,7 +89,7 @@ module _ (setting : OldStrings) where
           result = n.result;
           state = n.state;
           stops = n.stops;
-          is = same_state s (cleared n.state) (sym n.comes);
+          is = same_some s (cleared n.state) (sym n.comes);
         },
       )
   last_of (q ∷ ps) p (os ∷ oss) first s e =
@@ -110,7 +107,7 @@ module _ (setting : OldStrings) where
       (run_row setting (ps ++ p ∷ []) qss first ≡ Some (cleared t))
   with_last [] p oss first middle can e os r t all g =
       let at : run_as setting p os first ≡ EndedBy (Stopped r t) =
-      ap (run_as setting p os) (same_state first middle e) ∙ g in (
+      ap (run_as setting p os) (same_some first middle e) ∙ g in (
         os ∷ [],
         All-cons (All CanCome) os [] all (All-nil (All CanCome)),
         ap (λ x. next_from x (run_row setting [] [])) at,

@@ -13,6 +13,7 @@ use Rattle.pkmachine.specs.RowRuns.{Afresh, Arrives, Beginning, Behind, CanArriv
 use Rattle.pkmachine.specs.RowRuns.{ComesTo, InEachRunFrom, listed_before, RunsFrom}
 use Rattle.pkmachine.specs.Runs.{CanCome, Outcome, State, start}
 use Rattle.pkmachine.specs.WholeRuns.{AllListed, CanGetTo, Ended, GetsTo, run_as}
+use Rattle.pkcheck.proofs.Wholes.RunSteps.{same_some}
 use Rattle.pkcheck.proofs.Wholes.Walk.{Along}
 
 -- the empty text
@@ -72,9 +73,6 @@ module _ (setting : OldStrings) where
   in_each Afresh p Holds h = λ os. h start os refl
   in_each (Behind pickles) p Holds h = h
 
-first_state : (s : State) → Some start ≡ Some s → s ≡ start
-first_state s e = cc
-
 module _ {setting : OldStrings} {policy : Policy} where
   -- at the start, nothing is known
   pub begins_afresh : Begins setting policy Afresh nothing_known
@@ -90,10 +88,10 @@ module _ {setting : OldStrings} {policy : Policy} where
   pub begins_row : {known : Knowledge} → Begins setting policy Afresh known
       → Begins setting policy (Behind []) known
   begins_row h = record {
-    each = λ s w. h.each s (first_state s w.1);
+    each = λ s w. h.each s (sym (same_some start s w.1));
     some = λ v. let w = h.some v in (w.0, ([], All-nil (All CanCome), ap Some (sym w.1)), w.2);
-    permitted = λ s w. h.permitted s (first_state s w.1);
-    listed = λ s w. h.listed s (first_state s w.1);
+    permitted = λ s w. h.permitted s (sym (same_some start s w.1));
+    listed = λ s w. h.listed s (sym (same_some start s w.1));
   }
 
   -- what is known along instructions stands for the runs that get past them

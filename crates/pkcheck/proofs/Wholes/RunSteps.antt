@@ -1,6 +1,7 @@
 -- One step of a whole run.
 use Rattle.pkmachine.specs.declared.old_strings.OldStrings.{OldStrings}
-use Rattle.std.proofs.Common.{◌≡◌, ◌≢◌, ℕ, Bool, true, false, List, [], ◌∷◌, Result, Ok, Err, refl}
+use Rattle.std.proofs.Common.{Some, ◌≡◌, ◌≢◌, ℕ, Bool, true, false, List, [], ◌∷◌, Result, Ok, Err}
+use Rattle.std.proofs.Common.{refl}
 use Rattle.std.specs.Prelude.{All}
 use Rattle.std.proofs.lemmas.List.Elements.{All-cons}
 use Rattle.pkops.specs.Operands.{memo_number}
@@ -104,6 +105,9 @@ run_on setting i is s o os {x} can all e = by_asking (effect_asks (effect_as set
 
 pub same_reached : (s t : State) → Reached s ≡ Reached t → s ≡ t
 same_reached s t e = cc
+
+pub same_some : (s t : State) → Some s ≡ Some t → s ≡ t
+same_some s t e = cc
 
 -- a run that gets past a step goes on behind it
 pub gets_past : (q : Progress) (s : State) (st : Stepped) (f : State → Ended) (t : State)
