@@ -248,18 +248,9 @@ module _ (setting : OldStrings) where
       (os : List Outcome) → effect_asks (effect_of i.op) ≡ b
       → (qs : List Outcome)
       × (run_as Unknown (i ∷ is) qs t ≡ go_on (step_as Unknown i t q) (run_as Unknown is os))
-  begins true i is t q os e = (
-    q ∷ os,
-    ap (λ c. go_on (step_as Unknown i t q) (run_as Unknown is (outcomes_after c (q ∷ os)))) e,
-  )
-  begins false i is t q os e = (
-    os,
-    ap (λ c. go_on (step_as Unknown i t (first_outcome os))
-        (run_as Unknown is (outcomes_after c os))) e ∙ ap (λ st. go_on st
-        (run_as Unknown is (outcomes_after false os))) (perform_unused (effect_of i.op) i t
-        (first_outcome os) q e) ∙ ap (λ qs. go_on (step_as Unknown i t q) (run_as Unknown is qs))
-        (kept os),
-  )
+  begins true i is t q os e = (q ∷ os, rw e refl)
+  begins false i is t q os e =
+      (os, rw (e, kept os, perform_unused (effect_of i.op) i t (first_outcome os) q e) refl)
 
   -- every run of these instructions has one like it
   abbrev HaveLike : List Instruction → Type 0

@@ -64,9 +64,8 @@ phase_open p Ended so e = absurd cc
 phase_open p (HasRefused r) so e = absurd so
 
 pub phase_ended : (f : Phase) → is_ended f ≡ true → f ≡ Ended
-phase_ended Open e = absurd cc
 phase_ended Ended e = refl
-phase_ended (HasRefused r) e = absurd cc
+phase_ended _ e = absurd cc
 
 module _ (holding : Bool) (loading : Loading) (policy : Policy) (limits : Bounds) (old : Sight)
     (e : Extent) {A : Type 0} (hears : A → A → List Report → Type 0) (first : A) where

@@ -19,10 +19,10 @@ use Rattle.pkimport.specs.Import.{Asked}
 use Rattle.pkcheck.specs.Listing.{ImportsAreListed, imports_among, permitted_by}
 use Rattle.pkmachine.specs.RowRuns.{Behind, Pickle, imports_of_all, next_from, run_row}
 use Rattle.pkmachine.specs.RowRuns.{sequences_of}
-use Rattle.pkmachine.specs.Runs.{CanCome, Object, Outcome, State, Stepped, WentOn, Raised, Stopped}
-use Rattle.pkmachine.specs.Runs.{Stuck, start, step_as}
-use Rattle.pkmachine.specs.WholeRuns.{AllListed, Ended, EndedBy, EndsWell, Reached, first_outcome}
-use Rattle.pkmachine.specs.WholeRuns.{go_on, run_as}
+use Rattle.pkmachine.specs.Runs.{CanCome, Object, Outcome, State, Stepped, WentOn, Stopped, start}
+use Rattle.pkmachine.specs.Runs.{step_as}
+use Rattle.pkmachine.specs.WholeRuns.{AllListed, Ended, EndedBy, EndsWell, first_outcome, go_on}
+use Rattle.pkmachine.specs.WholeRuns.{run_as}
 use Rattle.pkcheck.proofs.Wholes.Past.{past, stopped}
 use Rattle.pkcheck.proofs.Wholes.Stops.{StopsLast, after_first, stops_nowhere, sequence_last}
 use Rattle.pkcheck.proofs.Wholes.Listed.{listed_from, stop_is_last}
@@ -56,12 +56,9 @@ record StoppedAt (x : Ended) (next : State → Option State) (s : State) : Type 
 
 next_stops : (x : Ended) (next : State → Option State) (s : State) → next_from x next ≡ Some s
     → StoppedAt x next s
-next_stops (Reached u) next s e = cc
-next_stops (EndedBy (WentOn u)) next s e = cc
-next_stops (EndedBy (Raised u)) next s e = cc
-next_stops (EndedBy (Stuck b)) next s e = cc
 next_stops (EndedBy (Stopped r t)) next s e =
     record { result = r; state = t; stops = refl; comes = e }
+next_stops _ next s e = cc
 
 module _ (setting : OldStrings) where
   -- a run of this pickle stops, and the next one begins in this state
@@ -139,10 +136,9 @@ stops_on : (q : Progress) (s : State) (st : Stepped) (f : State → Ended) (know
     → ((u : State) → Covers q.after u → f u ≡ EndedBy (Stopped r t) → Covers known t)
     → go_on st f ≡ EndedBy (Stopped r t) → Covers known t
 stops_on q s (WentOn u) f known r t g by on h = on u g.0 h
-stops_on q s (Raised u) f known r t g by on h = cc
-stops_on q s (Stuck b) f known r t g by on h = cc
 stops_on q s (Stopped n u) f known r t g by on h =
     subst (λ x. Covers x t) (by n u refl) (subst (Covers q.after) (same_end n r u t h) g.2)
+stops_on q s _ f known r t g by on h = cc
 
 module _ {setting : OldStrings} {policy : Policy} {limits : Bounds} where
   same_known : {is : List Instruction} {k known : Knowledge} {asked : List (Option Asked)}

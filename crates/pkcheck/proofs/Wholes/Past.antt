@@ -10,8 +10,8 @@ use Rattle.pkimport.specs.Import.{Asked}
 use Rattle.pkstack.specs.Shape.{Breach, Entry, top}
 use Rattle.pkmachine.specs.Effects.{Effect, Stops, effect_as}
 use Rattle.pkmachine.specs.Knowledge.{Knowledge, Policy}
-use Rattle.pkmachine.specs.Runs.{CanCome, Outcome, Raised, State, Stepped, Stopped, Stuck, WentOn}
-use Rattle.pkmachine.specs.Runs.{effect_asks, perform, step_as, stop_step}
+use Rattle.pkmachine.specs.Runs.{CanCome, Outcome, State, Stepped, Stopped, WentOn, effect_asks}
+use Rattle.pkmachine.specs.Runs.{perform, step_as, stop_step}
 use Rattle.pkmachine.specs.StepLaws.{StepLaws}
 use Rattle.pkmachine.specs.WholeRuns.{Ended, EndedBy, Reached, first_outcome, go_on, run_as}
 use Rattle.pkmachine.specs.Witnesses.{Answered, CoversBy, StepsPast, Word, new_text}
@@ -113,8 +113,7 @@ module _ (setting : OldStrings) (v : Word) where
       (stop_ends (effect_as setting i) i s u (new_text v.text s) (stop_stops setting i f) e))
   at_last i k s (Stopped r t) e h =
       ends i k s (Stopped r t) (EndedBy (Stopped r t)) e tt refl h (λ f. tt)
-  at_last i k s (Raised u) e h = absurd h
-  at_last i k s (Stuck b) e h = absurd h
+  at_last i k s _ e h = absurd h
 
 -- some run gets past these instructions, from any state that is covered
 pub past : StepLaws → {setting : OldStrings} {policy : Policy} {limits : Bounds} (v : Word)

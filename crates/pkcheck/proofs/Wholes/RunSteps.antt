@@ -12,8 +12,8 @@ use Rattle.pkmachine.specs.declared.effect.Gives.{Gives}
 use Rattle.pkmachine.specs.Effects.{Effect, Operates, Moves, Stops, Raises, effect_as}
 use Rattle.pkstack.specs.Shape.{Breach, Shape, Taken, moved, operands}
 use Rattle.pkmachine.specs.Runs.{Go, Raise, move_step, State, Outcome, CanCome, Stepped, WentOn}
-use Rattle.pkmachine.specs.Runs.{Raised, Stopped, Stuck, Named, NoImport, Pair, NotTexts, asks}
-use Rattle.pkmachine.specs.Runs.{come_of, operated, operate_step, perform, step_as, effect_asks}
+use Rattle.pkmachine.specs.Runs.{Stopped, Named, NoImport, Pair, NotTexts, asks, come_of, operated}
+use Rattle.pkmachine.specs.Runs.{operate_step, perform, step_as, effect_asks}
 use Rattle.pkmachine.specs.Knowledge.{Progress}
 use Rattle.pkcheck.proofs.Wholes.StopEffects.{only_stop}
 use Rattle.pkmachine.specs.Covers.{Adds, Covers, Follows}
@@ -114,14 +114,11 @@ pub gets_past : (q : Progress) (s : State) (st : Stepped) (f : State → Ended) 
     → Follows q s st → go_on st f ≡ Reached t
     → (u : State) × Covers q.after u × Adds q.import s.events u.events × (f u ≡ Reached t)
 gets_past q s (WentOn u) f t h e = (u, h.0, h.1, e)
-gets_past q s (Raised u) f t h e = cc
-gets_past q s (Stopped r u) f t h e = cc
-gets_past q s (Stuck b) f t h e = cc
+gets_past q s _ f t h e = cc
 
 -- a step that doesn't stop and gets past its instruction goes on
 pub gone : (v : List ℕ) (q : Progress) (st : Stepped) → ((r : ℕ) (u : State) → st ≡ Stopped r u
     → ⊥) → StepsPast v q.after st → (u : State) × (st ≡ WentOn u) × CoversBy (Answered v) q.after u
 gone v q (WentOn u) on h = (u, refl, h)
 gone v q (Stopped r u) on h = absurd (on r u refl)
-gone v q (Raised u) on h = absurd h
-gone v q (Stuck b) on h = absurd h
+gone v q _ on h = absurd h

@@ -17,7 +17,7 @@ use Rattle.pkmachine.specs.declared.effect.Names.TheVariants.{NoName}
 use Rattle.pkstack.specs.declared.Takes.TheVariants.{Objects}
 use Rattle.pkmachine.specs.declared.old_strings.OldStrings.{OldStrings}
 use Rattle.pkmachine.specs.declared.old_strings.OldStrings.TheVariants.{Unknown, Ascii, Bytes}
-use Rattle.pkmachine.specs.Effects.{Effect, Operates, Moves, Stops, Raises, ascii_string, effect_as}
+use Rattle.pkmachine.specs.Effects.{Effect, Operates, Stops, Raises, ascii_string, effect_as}
 use Rattle.pkmachine.specs.Effects.{effect_of, is_old_string, pushes}
 use Rattle.pkmachine.specs.View.{moved_as, stopped_by}
 
@@ -49,12 +49,8 @@ only_stop Bytes i h = neither (is_old_string i.op) (pushes class.Bytes) (effect_
 
 never_stopped : (e : Effect) (a : Option Asked) → e ≢ Stops → stopped_by (moved_as e a) ≡ false
 never_stopped Stops a h = absurd (h refl)
-never_stopped (Operates takes names gives) None h = refl
-never_stopped (Operates takes names gives) (Some a) h = refl
-never_stopped (Moves m) None h = refl
-never_stopped (Moves m) (Some a) h = refl
-never_stopped Raises None h = refl
-never_stopped Raises (Some a) h = refl
+never_stopped _ None h = refl
+never_stopped _ (Some a) h = refl
 
 -- the opcode is STOP, or the reader goes on behind it
 is_stop : (o : Op) → (o ≡ op.Stop) ⊎ ((o ≢ op.Stop) × (is_ended (phase_after o) ≡ false))

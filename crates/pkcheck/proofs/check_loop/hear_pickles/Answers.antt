@@ -77,22 +77,19 @@ instructions-init g c =
 
 -- ---- instructions at hand
 
-pub returns-in_err-refusal-clause-stopped : goal.returns-in_err-refusal-clause-stopped
-returns-in_err-refusal-clause-stopped g c =
+pub returns-in_err-refusal : goal.returns-in_err-refusal
+returns-in_err-refusal g c =
     let now = sight g.R.Source.left g.R.Source.failures c.hear_at_hand.new.reader.source.now in
     let x = failed_at_hand c.instructions.invariant.going g.A.Audience.fails
     c.in_err-refusal.ensures.err in
     let p = err_from_is_err_and c.from_residual.result c.from_residual.ensures.1 in
-    rw (p.1, p.2)
-    (stopped_as x (seen_so c.in_err-refusal.ensures.none now)).0
-
-pub returns-in_err-refusal-clause-count : goal.returns-in_err-refusal-clause-count
-returns-in_err-refusal-clause-count g c =
-    let now = sight g.R.Source.left g.R.Source.failures c.hear_at_hand.new.reader.source.now in
-    let x = failed_at_hand c.instructions.invariant.going g.A.Audience.fails
-    c.in_err-refusal.ensures.err in
-    let p = err_from_is_err_and c.from_residual.result c.from_residual.ensures.1 in
-    rw p.1 (stopped_as x (seen_so c.in_err-refusal.ensures.none now)).1
+    let a = stopped_as x (seen_so c.in_err-refusal.ensures.none now) in
+    record {
+      source = search rules;
+      answer = rw p.1 tt;
+      stopped = rw (p.1, p.2) a.0;
+      count = rw p.1 a.1;
+    }
 
 pub returns-in-Err : goal.returns-in-Err
 returns-in-Err g c =
@@ -117,26 +114,21 @@ hear_next-requires-clause-well g c =
     let go = (let h = rw c.in_default.is at c.in_ok-refusal.ensures.ok in h) in
     (going_along c.instructions.invariant.going go).so_far.checked.refused
 
-pub returns-in_err-turned-clause-stopped : goal.returns-in_err-turned-clause-stopped
-returns-in_err-turned-clause-stopped g c =
+pub returns-in_err-turned : goal.returns-in_err-turned
+returns-in_err-turned g c =
     let go = (let h = rw c.in_default.is at c.in_ok-refusal.ensures.ok in h) in
     let now = sight g.R.Source.left g.R.Source.failures c.hear_next.new.reader.source.now in
     let x = failed_next (going_along c.instructions.invariant.going go) g.A.Audience.fails
     c.in_err-turned.ensures.err in
     let from = c.from_residual-in_err-turned in
     let p = err_from_is_err_and from.result from.ensures.1 in
-    rw (p.1, p.2)
-    (stopped_as x (seen_so c.in_err-turned.ensures.none now)).0
-
-pub returns-in_err-turned-clause-count : goal.returns-in_err-turned-clause-count
-returns-in_err-turned-clause-count g c =
-    let go = (let h = rw c.in_default.is at c.in_ok-refusal.ensures.ok in h) in
-    let now = sight g.R.Source.left g.R.Source.failures c.hear_next.new.reader.source.now in
-    let x = failed_next (going_along c.instructions.invariant.going go) g.A.Audience.fails
-    c.in_err-turned.ensures.err in
-    let from = c.from_residual-in_err-turned in
-    let p = err_from_is_err_and from.result from.ensures.1 in
-    rw p.1 (stopped_as x (seen_so c.in_err-turned.ensures.none now)).1
+    let a = stopped_as x (seen_so c.in_err-turned.ensures.none now) in
+    record {
+      source = search rules;
+      answer = rw p.1 tt;
+      stopped = rw (p.1, p.2) a.0;
+      count = rw p.1 a.1;
+    }
 
 pub returns-in-Err-2 : goal.returns-in-Err-2
 returns-in-Err-2 g c =
