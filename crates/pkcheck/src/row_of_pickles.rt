@@ -184,7 +184,7 @@ impl PickleRow {
     }
 
     /// The accepted row, in which this many bytes were taken. This ends the row and the session. By
-    /// value, as in `refuse` of `Session`, they would need stack slots.
+    /// value, as in `refuse_with_imports` of `Session`, they would need stack slots.
     pub fn accepted(&mut self, taken: u64, session: &mut Session) -> YesAll
         ensures taken { result.taken ≡ taken }
         ensures pickles { result.pickles ≡ self.old.pickles }

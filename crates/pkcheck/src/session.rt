@@ -344,20 +344,9 @@ impl Session {
         Ok(())
     }
 
-    /// The refusal of a pickle at this offset, for this reason. This ends the session. By value it
-    /// would need a stack slot, which the compiler clears at the start of every check.
-    #[inline(never)]
-    pub fn refuse(&mut self, at: u64, reason: Reason) -> No
-        ensures { IsNoAt at reason self.old.machine.off result }
-    {
-        No {
-            at,
-            reason,
-            pair: self.machine.take_off_list(),
-        }
-    }
-
-    /// As `refuse`, with the imports before the offset, apart from so many earlier ones.
+    /// The refusal of a pickle at this offset, for this reason, with the imports before the offset,
+    /// apart from so many earlier ones. This ends the session. By value it would need a stack slot,
+    /// which the compiler clears at the start of every check.
     #[inline(never)]
     pub fn refuse_with_imports(&mut self, at: u64, reason: Reason, earlier: usize) -> NoWithImports
         ensures no { IsNoAt at reason self.old.machine.off result.no }
@@ -365,7 +354,11 @@ impl Session {
     {
         let mut imports = self.machine.take_imports();
         imports.skip(earlier);
-        let no = self.refuse(at, reason);
+        let no = No {
+            at,
+            reason,
+            pair: self.machine.take_off_list(),
+        };
         NoWithImports { no, imports }
     }
 
