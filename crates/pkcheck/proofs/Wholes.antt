@@ -20,7 +20,6 @@ pub mod ImportsBefore
 pub mod InTurn
 pub mod HeardInstructions
 pub mod WholeReports
-pub mod AnotherPickle
 pub mod RowOfPickles
 pub mod Going
 pub mod ThreeEnds

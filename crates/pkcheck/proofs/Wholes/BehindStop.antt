@@ -1,15 +1,13 @@
--- What is known behind the STOP of a pickle.
-use Rattle.std.proofs.Common.{◌≡◌, ◌+◌, ◌<◌, ℕ, List, [], ◌∷◌, ◌++◌, length, None, true, refl, sym}
-use Rattle.std.proofs.Common.{ap, subst, ◌∙◌, arith, Ok, append-nil}
-use Rattle.std.specs.Io.KnownBytes.{IsAtEnd}
-use Rattle.std.specs.Prelude.{Bool}
+-- What is known behind the STOP of a pickle, and whether another one follows.
+use Rattle.std.proofs.Common.{◌≡◌, ◌+◌, ℕ, List, [], ◌∷◌, ◌++◌, length, None, true, refl, sym, ap}
+use Rattle.std.proofs.Common.{subst, ◌∙◌, arith, Ok, append-nil, Bool, false, ◌≢◌, Option, Some}
+use Rattle.std.specs.Io.KnownBytes.{prepend_known}
 use Rattle.pkops.specs.Limits.{Bounds}
 use Rattle.pkops.specs.Payloads.{payload_limit}
 use Rattle.pkops.specs.declared.Refusal.{Refusal as ReadRefusal}
-use Rattle.pkread.specs.Core.{Open}
 use Rattle.pkread.specs.Heads.{StepsHeadFrom}
 use Rattle.pkread.specs.ReaderCalls.{ReaderState, has_ended}
-use Rattle.pkread.specs.Rows.{Sight, Takes, all_bytes}
+use Rattle.pkread.specs.Rows.{Sight, Takes, unread}
 use Rattle.pkread.specs.Sequence.{CountsAt, IsSequence}
 use Rattle.pkread.specs.declared.Head.TheVariants as head
 use Rattle.pkcheck.specs.Heard.{refused_instruction}
@@ -26,15 +24,34 @@ use Rattle.pkcheck.specs.WithImports.{ImportsBefore}
 use Rattle.pkcheck.specs.declared.check_loop.Extent.{Extent}
 use Rattle.pkcheck.specs.declared.check_loop.Extent.TheVariants.{OnePickle, ToTheEnd}
 use Rattle.pkcheck.specs.declared.loading.Loading.{Loading}
-use Rattle.pkcheck.proofs.Wholes.AnotherPickle.{behind_counts, behind_is_not_cut}
 use Rattle.pkcheck.specs.Private.Judgement.{SessionView}
 use Rattle.pkread.specs.Run.{Reads}
 use Rattle.pkcheck.proofs.Wholes.Checked.{IsReady, checked_none}
-use Rattle.pkcheck.proofs.Wholes.RowOfPickles.{RowSoFar, all_listed, next_ready, pickle_more}
-use Rattle.pkcheck.proofs.Wholes.RowOfPickles.{refused_behind, row_accepted, this}
+use Rattle.pkcheck.proofs.Wholes.RowOfPickles.{refuses_again, RowSoFar, all_listed, next_ready}
+use Rattle.pkcheck.proofs.Wholes.RowOfPickles.{pickle_more, refused_behind, row_accepted, this}
 use Rattle.pkcheck.proofs.Wholes.ThreeEnds.{alone_told, as_next, reports_more}
 use Rattle.pkcheck.proofs.Wholes.Going.{AcceptedNow, Going, IsAlone, RefusedNow, alone_in_row}
 use Rattle.pkcheck.proofs.Wholes.Going.{none_before_it, phase_ended}
+use Rattle.pkops.specs.declared.Reason.TheVariants.{Truncated}
+use Rattle.pkread.specs.Again.{NoByteIsRefused, StepsAgain, WhyNoByte}
+
+known_ahead : (b : ℕ) (left : Option (List ℕ)) → prepend_known (b ∷ []) left ≢ Some []
+known_ahead b None = λ e. cc
+known_ahead b (Some l) = λ e. cc
+
+-- another byte follows the pickle
+pub some_ahead : (b : ℕ) (ahead : List ℕ) (now : Sight) → ahead ≡ b ∷ []
+    → HasMore (unread ahead now)
+some_ahead b ahead now is = rw is (known_ahead b now.left)
+
+-- such a refusal does not mean that the source ended
+pub behind_is_not_cut : (s t : ReaderState) (x : ReadRefusal) → IsRefusedBehind s t x
+    → x.reason ≡ Truncated → ⊥
+behind_is_not_cut s t x h e = subst (WhyNoByte s.source t.source s.taken) e h.why
+
+pub behind_counts : (s t : ReaderState) (x : ReadRefusal) → IsRefusedBehind s t x → NoByteIsRefused
+    → CountsAt x.reason s.source.failures t.source.failures
+behind_counts s t x h law = (law 0 s _ x (refuses_again s t x h)).1
 
 module _ {holding : Bool} {loading : Loading} {policy : Policy} {limits : Bounds} {old : Sight}
     {e : Extent} {A : Type 0} {hears : A → A → List Report → Type 0} {first : A} {pickles : ℕ}
@@ -91,13 +108,12 @@ module _ {holding : Bool} {loading : Loading} {policy : Policy} {limits : Bounds
 
   -- another pickle begins
   pub going_again : e ≡ ToTheEnd → {t : ReaderState} {number : ℕ} {all : List Asked} {others : ℕ}
-      {n : SessionView} → Takes s.source t.source [] → t.phase ≡ Open → t.taken ≡ s.taken
-      → t.limits ≡ s.limits → HasMore t.source → number ≡ pickles + 1
+      {n : SessionView} → StepsAgain s (Ok true) t → HasMore t.source → number ≡ pickles + 1
       → all ≡ moved_apart loading.memo apart v.machine.imports
       → n ≡ record { frame = 0; machine = restarted loading.memo v.machine }
       → others ≡ length n.machine.imports
       → Going holding loading policy limits old e hears first number all others t n now
-  going_again is {t} {number} {all} takes is_open taken same more one_more lists restarts count =
+  going_again is {t} {number} {all} (room, takes, on) more one_more lists restarts count =
       let own = count ∙ ap length (ap (λ w. w.machine.imports) restarts ∙ ready.imports) in
       let known = (restarted loading.memo v.machine).knowledge in
       rw (one_more, restarts) (record {
@@ -119,24 +135,23 @@ module _ {holding : Bool} {loading : Loading} {policy : Policy} {limits : Bounds
           read = [];
           asked = [];
           checked = checked_none g.so_far.checked.laws
-              (subst (λ n. Reads t.source n (payload_limit limits) [] t) taken
-              (g.laws.again t (payload_limit limits) is_open)) is_open
-              (same ∙ g.so_far.checked.read_limits) ready;
+              (subst (λ n. Reads t.source n (payload_limit limits) [] t) (ap (λ u. u.taken) on)
+              (g.laws.again t (payload_limit limits) (ap (λ u. u.phase) on)))
+              (ap (λ u. u.phase) on) (ap (λ u. u.limits) on ∙ g.so_far.checked.read_limits) ready;
           told = tt;
         };
         heard = subst (hears first now) (sym (append-nil (g.earlier ++ g.last))) g.heard;
       })
 
   -- the source is at its end
-  pub accepts_row : e ≡ ToTheEnd → {new : Sight} {number : ℕ} {imports all : List Asked}
-      {n : SessionView} → Takes s.source new [] → IsAtEnd new.left → s.taken < all_bytes
-      → number ≡ pickles + 1 → all ≡ moved_apart loading.memo apart v.machine.imports
+  pub accepts_row : e ≡ ToTheEnd → (t : ReaderState) {number : ℕ} {imports all : List Asked}
+      {n : SessionView} → StepsAgain s (Ok false) t → number ≡ pickles + 1 → all ≡ moved_apart loading.memo apart v.machine.imports
       → n ≡ record { frame = 0; machine = restarted loading.memo v.machine }
       → imports ≡ listed_in loading.memo all n.machine.imports
-      → Accepted s.taken number imports new
-  accepts_row is takes ends within one_more lists restarts mine =
+      → Accepted s.taken number imports t.source
+  accepts_row is t (within, takes, ends) one_more lists restarts mine =
       let row = row_here takes nothing_known lists in
-      let a = row_accepted g.laws.taking row (omega arith) ends within
+      let a = row_accepted g.laws.taking row (omega arith) ends.0 within
       (mine ∙ all_listed loading.memo _ _ these row.listed
       (ap (λ w. w.machine.imports) restarts ∙ ready.imports)) in
       record {

@@ -12,10 +12,10 @@ use Rattle.pkcheck.proofs.Wholes.ImportsBefore.{imports_before}
 use Rattle.pkops.specs.Limits.{Bounds}
 use Rattle.pkops.specs.Payloads.{payload_limit, payload_limit_at}
 use Rattle.pkops.specs.Spelling.{Instruction, spelling}
-use Rattle.pkread.specs.Again.{NoByteIsRefused}
+use Rattle.pkread.specs.Again.{NoByteIsRefused, RefusesAgain}
 use Rattle.pkread.specs.Run.{ReadingGoesOn}
 use Rattle.pkread.specs.ReaderCalls.{ReaderState}
-use Rattle.pkread.specs.Core.{Open}
+use Rattle.pkread.specs.Core.{Open, Refused}
 use Rattle.pkread.specs.Rows.{Sight, Takes, TakingLaws, all_bytes}
 use Rattle.pkread.specs.Sequence.{IsSequence, NoStop, StopIsLast, spellings}
 use Rattle.pkcheck.specs.Private.Judgement.{SessionView}
@@ -40,7 +40,6 @@ use Rattle.pkcheck.specs.Refused.{RefusedFrom}
 use Rattle.pkcheck.specs.RowOfPickles.{AcceptedRow, AreAccepted, IsAcceptedBehind, begins}
 use Rattle.pkcheck.specs.RowOfPickles.{bytes_of_all}
 use Rattle.pkmachine.specs.RowRuns.{Beginning, Pickle, imports_of_all, listed_before, sequences_of}
-use Rattle.pkcheck.proofs.Wholes.AnotherPickle.{refuses_again}
 
 -- a sequence has at least one byte
 no_end : (front : List Instruction) (last : Instruction) → [] ≡ front ++ last ∷ [] → ⊥
@@ -311,6 +310,11 @@ module _ (taking : TakingLaws) {loading : Loading} {policy : Policy} {limits : B
   -- no read has failed so far
   pub none_failed : here.failures ≡ old.failures
   none_failed = (accepted_bytes taking loading policy limits old here [] before h.each).count
+
+-- the reader has refused, after the source was asked
+pub refuses_again : (s t : ReaderState) (x : ReadRefusal) → IsRefusedBehind s t x
+    → RefusesAgain s x (record s { source = t.source; phase = Refused x })
+refuses_again s t x h = record { place = h.place; why = h.why; after = refl }
 
 -- no byte was taken of the pickle that would begin: the reader refused after STOP, or an allocation
 -- for the imports was refused

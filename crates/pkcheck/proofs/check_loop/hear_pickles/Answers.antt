@@ -7,8 +7,8 @@ use Rattle.pkread.specs.Rows.{sight}
 use Rattle.pkmachine.specs.Knowledge.{nothing_known}
 use Rattle.pkcheck.specs.Private.NextPickle.{listed_in}
 use Rattle.pkcheck.specs.RowOfPickles.{begins}
-use Rattle.pkcheck.proofs.Wholes.AnotherPickle.{again_false, again_true, refused_from, some_ahead}
-use Rattle.pkcheck.proofs.Wholes.BehindStop.{accepts_alone, accepts_row, going_again, refused_again}
+use Rattle.pkcheck.proofs.Wholes.BehindStop.{some_ahead, accepts_alone, accepts_row, going_again}
+use Rattle.pkcheck.proofs.Wholes.BehindStop.{refused_again}
 use Rattle.pkcheck.proofs.Wholes.Checked.{checked_first}
 use Rattle.pkcheck.proofs.Wholes.Given.{seen_so}
 use Rattle.pkcheck.proofs.Wholes.Going.{accepted_as, alone_first, phase_open, refused_as}
@@ -189,8 +189,7 @@ returns-in-Err-next g c =
     let looks = c.next.ensures.reader in
     let ahead = (let b = rw c.in-Err-next.is at looks.ahead in b) in
     let off = (let b = rw c.in-Err-next.is at c.next.ensures.session.off in b) in
-    let behind = refused_from _ _ _ c.next.result c.in-Err-next.refusal refl looks.refused
-    c.in-Err-next.is in
+    let behind = (let b = rw c.in-Err-next.is at looks.refused in b) in
     let now = sight g.R.Source.left g.R.Source.failures c.next.new.reader.source.now in
     let e = c.refused-in-Err-next.ensures in
     let imports = c.next.new.session.machine.imports in
@@ -208,8 +207,7 @@ instructions-preserved-in-Ok-true g c =
     let v = going_next (going_along c.instructions.invariant.going go) step in
     let counted = c.next.ensures.row in
     let looks = c.next.ensures.reader in
-    let h = again_true _ _ _ c.next.result refl looks.steps
-    (cc (c.in-Ok-true.is, c.in-Ok-true.field-0-test)) in
+    let steps = (let b = rw (c.in-Ok-true.is, c.in-Ok-true.field-0-test) at looks.steps in b) in
     let ahead = (let b = rw (c.in-Ok-true.is, c.in-Ok-true.field-0-test) at looks.ahead in b) in
     let kept = c.instructions.invariant.memo in
     let apart = (let b = rw (c.in-Ok-true.is, kept) at counted.apart in b) in
@@ -219,9 +217,9 @@ instructions-preserved-in-Ok-true g c =
       extent = counted.extent ∙ c.instructions.invariant.extent;
       same = looks.source ∙ (c.hear_next.ensures.source
           ∙ (c.hear_at_hand.ensures.source ∙ c.instructions.invariant.same));
-      is_open = h.1;
+      is_open = ap (λ s. s.phase) steps.2;
       going = going_again v (sym c.ended.ensures ∙ c.if-ended.true)
-          (sym c.instructions.invariant.extent ∙ c.in-ToTheEnd.is) h.0 h.1 h.2 h.3
+          (sym c.instructions.invariant.extent ∙ c.in-ToTheEnd.is) steps
           (some_ahead ahead.0 _ _ ahead.1) counted.number apart machine c.next.ensures.earlier;
     }
 
@@ -232,8 +230,7 @@ returns-in-Ok-false g c =
     let v = going_next (going_along c.instructions.invariant.going go) step in
     let counted = c.next.ensures.row in
     let looks = c.next.ensures.reader in
-    let h = again_false _ _ _ c.next.result refl looks.steps
-    (cc (c.in-Ok-false.is, c.in-Ok-false.field-0-test)) in
+    let steps = (let b = rw (c.in-Ok-false.is, c.in-Ok-false.field-0-test) at looks.steps in b) in
     let ahead = (let b = rw (c.in-Ok-false.is, c.in-Ok-false.field-0-test) at looks.ahead in b) in
     let kept = c.instructions.invariant.memo in
     let apart = (let b = rw (c.in-Ok-false.is, kept) at counted.apart in b) in
@@ -243,7 +240,7 @@ returns-in-Ok-false g c =
     let imports = e.imports ∙ ap (λ m. listed_in m c.next.new.self.apart.asked
     c.next.new.session.machine.imports) (counted.memo ∙ kept) in
     let a = accepted_as (accepts_row v (sym c.ended.ensures ∙ c.if-ended.true)
-    (sym c.instructions.invariant.extent ∙ c.in-ToTheEnd.is) h.0 h.1 h.2 counted.number apart
+    (sym c.instructions.invariant.extent ∙ c.in-ToTheEnd.is) _ steps counted.number apart
     machine imports) (seen_so ahead now) c.accepted.result
     (e.taken ∙ c.taken-taken.ensures) e.pickles refl in
     record { source = search rules; answer = a.0; stopped = tt; count = a.1 }
