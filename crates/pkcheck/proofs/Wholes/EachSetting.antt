@@ -69,11 +69,10 @@ SameEnd _ _ = ⊥
 
 class_same : (xs ys : List Object) (n : ℕ) → classes xs ≡ classes ys → class_at xs n ≡ class_at ys n
 class_same [] [] n e = refl
-class_same [] (y ∷ ys) n e = cc
-class_same (x ∷ xs) [] n e = cc
 class_same (x ∷ xs) (y ∷ ys) zero e = let same : x.class_of ≡ y.class_of = cc in ap Some same
 class_same (x ∷ xs) (y ∷ ys) (suc n) e = let same : classes xs ≡ classes ys = cc in
     class_same xs ys n same
+class_same _ _ n e = cc
 
 classes_same : (xs ys : List Object) (ns : List ℕ) → classes xs ≡ classes ys
     → map (class_at xs) ns ≡ map (class_at ys) ns

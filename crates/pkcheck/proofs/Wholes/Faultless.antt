@@ -36,8 +36,7 @@ same_place : {A : Type 0} (xs ys : List A) (a b : A) (us vs : List A) → length
     → xs ++ a ∷ us ≡ ys ++ b ∷ vs → a ≡ b
 same_place [] [] a b us vs n e = cc
 same_place (x ∷ xs) (y ∷ ys) a b us vs n e = same_place xs ys a b us vs (cc) (cc)
-same_place [] (y ∷ ys) a b us vs n e = cc
-same_place (x ∷ xs) [] a b us vs n e = cc
+same_place _ _ a b us vs n e = cc
 
 -- a step that follows imports what is listed
 asks_so : (q : Progress) (s : State) (st : Stepped) → Follows q s st → Asks q.import s st

@@ -41,8 +41,7 @@ heard_more {holding} {setting} {b} {from} before (j ∷ p) (y ∷ rs) i x (f, r)
       (subst (λ c. IsReportOf holding setting b from c i x)
       (sym (append_assoc before (j ∷ []) p)) h),
 )
-heard_more before [] (y ∷ rs) i x u h = absurd u
-heard_more before (j ∷ p) [] i x u h = absurd u
+heard_more before _ _ i x u h = absurd u
 
 module _ (holding : Bool) (setting : OldStrings) (policy : Policy) (limits : Bounds) (old : Sight)
     (o : Origin) where

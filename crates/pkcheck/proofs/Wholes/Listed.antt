@@ -29,8 +29,7 @@ Pointwise-append : {A B : Type 0} (P : A → B → Type 0) (xs : List A) (ys : L
     (ws : List B) → Pointwise P xs ys → Pointwise P vs ws → Pointwise P (xs ++ vs) (ys ++ ws)
 Pointwise-append P [] [] vs ws h g = g
 Pointwise-append P (x ∷ xs) (y ∷ ys) vs ws h g = (h.0, Pointwise-append P xs ys vs ws h.1 g)
-Pointwise-append P [] (y ∷ ys) vs ws h g = absurd h
-Pointwise-append P (x ∷ xs) [] vs ws h g = absurd h
+Pointwise-append P _ _ vs ws h g = absurd h
 
 -- all of a list is a prefix of a longer one
 all_begins : (as' bs : List Asked) (ps : List (List ℕ × List ℕ)) → Pointwise StandsFor as' ps

@@ -30,8 +30,7 @@ heard_wholes before [] [] h = tt
 heard_wholes before (i ∷ is) (r ∷ rs) (one, more) =
     one_whole before i is r.at r.marks r.told (wholes rs) one.same one.place one.marks
     (heard_wholes (before ++ i ∷ []) is rs more)
-heard_wholes before [] (r ∷ rs) e = absurd e
-heard_wholes before (i ∷ is) [] e = absurd e
+heard_wholes before _ _ e = absurd e
 
 -- the listener failed
 pub cut_short : (policy : Policy) (limits : Bounds) (old new : Sight) (rs : List Report)
