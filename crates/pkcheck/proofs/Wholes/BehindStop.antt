@@ -145,7 +145,8 @@ module _ {holding : Bool} {loading : Loading} {policy : Policy} {limits : Bounds
 
   -- the source is at its end
   pub accepts_row : e ≡ ToTheEnd → (t : ReaderState) {number : ℕ} {imports all : List Asked}
-      {n : SessionView} → StepsAgain s (Ok false) t → number ≡ pickles + 1 → all ≡ moved_apart loading.memo apart v.machine.imports
+      {n : SessionView} → StepsAgain s (Ok false) t → number ≡ pickles + 1
+      → all ≡ moved_apart loading.memo apart v.machine.imports
       → n ≡ record { frame = 0; machine = restarted loading.memo v.machine }
       → imports ≡ listed_in loading.memo all n.machine.imports
       → Accepted s.taken number imports t.source

@@ -53,7 +53,8 @@ pub instructions-preserved : goal.instructions-preserved
 instructions-preserved g c =
     let h = c.instructions.invariant.along in
     let lent = (let l = rw c.limits.ensures at c.in-Some.ensures in l) in
-    let told = rw (counted_back h, ← passed h, c.marks.ensures.known) at c.in_default-tell_lent.ensures.ok in
+    let told = rw (counted_back h, ← passed h, c.marks.ensures.known) at
+    c.in_default-tell_lent.ensures.ok in
     record {
       frame = c.instructions.invariant.frame;
       whole = c.instructions.invariant.whole;
