@@ -1,44 +1,38 @@
 -- What exceeds a limit exceeds it in each run that gets there, whatever is answered.
-use Rattle.std.proofs.Common.{◌≡◌, ℕ, Bool, true, false, List, length, inl, inr, Ok, refl}
-use Rattle.std.proofs.Common.{subst, arith}
+use Rattle.std.proofs.Common.{◌≡◌, ℕ, Bool, true, false, List, inl, inr, Ok, subst, arith}
 use Rattle.pkops.specs.Spelling.{Instruction}
 use Rattle.pkmachine.specs.Effects.{effect_as}
-use Rattle.pkcheck.specs.NewRuns.{If, InEachDecodedRun}
-use Rattle.pkmachine.specs.RowRuns.{Afresh, Beginning, Behind}
-use Rattle.pkmachine.specs.Runs.{Raised, Stepped, Stopped, Stuck, WentOn, effect_asks, start}
-use Rattle.pkmachine.specs.Runs.{step_as}
+use Rattle.pkcheck.specs.NewRuns.{If, InEachDecodedRun, DecodesNew}
+use Rattle.pkmachine.specs.RowRuns.{Beginning}
+use Rattle.pkmachine.specs.Runs.{Raised, Stepped, Stopped, Stuck, WentOn, effect_asks, step_as}
 use Rattle.pkstack.specs.Shape.{and_then}
-use Rattle.pkmachine.specs.WholeRuns.{Ended, EndedBy, Reached, run_as}
+use Rattle.pkmachine.specs.WholeRuns.{Ended, EndedBy, Reached}
 use Rattle.pkmachine.specs.declared.old_strings.OldStrings.{OldStrings}
 use Rattle.pkload.proofs.AtLeast.{at_least}
 use Rattle.pkload.proofs.Steps.{IfBilled, StepBilled, step_billed}
-use Rattle.pkload.proofs.Whole.{IfEnds, each_billed}
+use Rattle.pkload.proofs.Whole.{IfEnds, each_billed, each_map, IsBilledRun}
 use Rattle.pkload.specs.Bill.{Bill, all_billed, bill_before, billed}
 use Rattle.pkload.specs.Costly.{GetsAbove, StepsAbove}
 use Rattle.pkload.specs.Tally.{Implies, IsAtMost}
 use Rattle.pkload.specs.Tolls.{IsExcess}
 use Rattle.pkload.specs.declared.tally.Tally.{Tally}
 use Rattle.pkload.specs.declared.tolls.Excess.{Excess}
-use Rattle.pkload.specs.declared.tolls.Excess.TheVariants.{BuildsImport, DeepKey, HeavyKeys}
-use Rattle.pkload.specs.declared.tolls.Excess.TheVariants.{ManyKeys, MuchMemory, OutOfMemory}
+use Rattle.pkload.specs.declared.tolls.Excess.TheVariants.{BuildsImport, HeavyKeys, OutOfMemory}
 use Rattle.pkload.specs.declared.tolls.Tolls.{Tolls}
 
 implies_is : (a b : Bool) → Implies a b → a ≡ true → b ≡ true
-implies_is true true h e = refl
-implies_is true false h e = cc
+implies_is true b h e = h
 implies_is false b h e = cc
 
 module _ (tolls : Tolls) (memory : ℕ) where
   -- what counts more exceeds the same limit
   pub excess_above : (excess : Excess) (a b : Tally) → IsAtMost a b
       → IsExcess excess tolls a memory → IsExcess excess tolls b memory
-  excess_above DeepKey a b h e = omega (arith, h.levels, e)
   excess_above HeavyKeys a b h (inl e) = inl (omega (arith, h.weight, e))
   excess_above HeavyKeys a b h (inr e) = inr (omega (arith, h.work, e))
-  excess_above ManyKeys a b h e = omega (arith, h.clash, e)
-  excess_above MuchMemory a b h e = e
   excess_above BuildsImport a b h e = (implies_is a.builds b.builds h.builds e.0, e.1)
   excess_above OutOfMemory a b h e = e
+  excess_above _ a b h e = omega arith
 
   module _ (setting : OldStrings) (last : Instruction) (excess : Excess) (earlier bill : Bill)
       (adds : billed last earlier ≡ Ok bill) (over : IsExcess excess tolls bill.tally memory) where
@@ -65,9 +59,7 @@ module _ (tolls : Tolls) (memory : ℕ) where
     pub each_above : (beginning : Beginning) (front : List Instruction)
         → and_then (bill_before beginning) (all_billed front) ≡ Ok earlier
         → InEachDecodedRun setting beginning front (GetsAbove setting last excess tolls memory)
-    each_above Afresh front e = λ os w.
-        gets_above 0 (run_as setting front os start)
-        (each_billed at_least setting front earlier Afresh e os w)
-    each_above (Behind ps) front e = λ before first os f v w.
-        gets_above (length first.events) (run_as setting front os first)
-        (each_billed at_least setting front earlier (Behind ps) e before first os f v w)
+    each_above beginning front e =
+        each_map DecodesNew (IsBilledRun at_least setting front earlier)
+        (GetsAbove setting last excess tolls memory) setting beginning front gets_above
+        (each_billed at_least setting front earlier beginning e)

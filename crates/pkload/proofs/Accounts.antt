@@ -1,14 +1,11 @@
 -- Facts about accounts, bills and tallies.
-use Rattle.std.proofs.Common.{◌≡◌, ℕ, ◌+◌, ◌<◌, ◌≤◌, Bool, true, false, cond, ◌||◌, List, []}
-use Rattle.std.proofs.Common.{◌∷◌, ◌++◌, length, map, Some, refl, sym, ap, ◌∙◌}
-use Rattle.std.proofs.Common.{arith, length-append, le-ltb}
-use Rattle.std.specs.Prelude.{slice_get, unwrap_or}
+use Rattle.std.proofs.Common.{◌≡◌, ℕ, ◌<◌, ◌≤◌, Bool, true, false, cond, ◌||◌, List, [], ◌∷◌, ◌++◌}
+use Rattle.std.proofs.Common.{length, map, Some, refl, sym, ap, ◌∙◌, arith, length-append, le-ltb}
+use Rattle.std.specs.Prelude.{slice_get, unwrap_or, drop, take}
 use Rattle.std.proofs.lemmas.Option.{slice_get_within, slice_get-get_or, get_or_from_slice_get}
 use Rattle.std.proofs.Math.ListN.{get_or-append}
-use Rattle.std.proofs.Math.Seq.{drop-length}
+use Rattle.std.proofs.Math.Seq.{drop-length, get_or-append_seam}
 use Rattle.std.proofs.lemmas.List.{drop-append-le, take-append-drop, take-append-le}
-use Rattle.std.specs.Prelude.{drop, take}
-use Rattle.std.proofs.Math.Seq.{get_or-append_seam}
 use Rattle.pkops.specs.declared.Op.{Op}
 use Rattle.pkops.specs.declared.Op.TheVariants as op
 use Rattle.pkops.specs.Spelling.{Instruction}
@@ -18,8 +15,8 @@ use Rattle.pkload.specs.Heft.{Heft, heft_of}
 use Rattle.pkload.specs.Keys.{keys_of}
 use Rattle.pkload.specs.Laws.{Costs}
 use Rattle.pkload.specs.declared.tally.Tally.{Tally}
-use Rattle.pkload.specs.Tally.{Implies, IsAtMost, builds_import, with_key, with_keys}
-use Rattle.pkload.specs.Tally.{no_tally, with_operation}
+use Rattle.pkload.specs.Tally.{Implies, IsAtMost, builds_import, with_key, with_keys, no_tally}
+use Rattle.pkload.specs.Tally.{with_operation}
 use Rattle.pkload.specs.Weighed.{Account, account_along, account_with, answered_again, heft_at}
 use Rattle.pkload.specs.Weighed.{account_of, hefts_with, no_account, no_heft, tally_since}
 
@@ -80,8 +77,7 @@ costs_are hefts [] [] h = refl
 costs_are hefts (x ∷ hs) (n ∷ ns) h =
     ap (λ o. unwrap_or o no_heft ∷ map (heft_at hefts) ns) h.0
     ∙ ap (λ l. x ∷ l) (costs_are hefts hs ns h.1)
-costs_are hefts [] (n ∷ ns) h = absurd h
-costs_are hefts (x ∷ hs) [] h = absurd h
+costs_are hefts _ _ h = absurd h
 
 pub kept_at : (hefts : List Heft) (r x : Heft) (n : ℕ) → slice_get hefts n ≡ Some x
     → slice_get (hefts ++ r ∷ []) n ≡ Some x
@@ -123,35 +119,13 @@ implies_or true b = refl
 implies_or false b = tt
 
 pub at_most_itself : (t : Tally) → IsAtMost t t
-at_most_itself t = record {
-  levels = omega arith;
-  weight = omega arith;
-  work = omega arith;
-  clash = omega arith;
-  builds = implies_itself t.builds;
-}
+at_most_itself t = search (arith, implies_itself)
 
 pub at_most_across : (a b c : Tally) → IsAtMost a b → IsAtMost b c → IsAtMost a c
-at_most_across a b c h g = record {
-  levels = omega (arith, h.levels, g.levels);
-  weight = omega (arith, h.weight, g.weight);
-  work = omega (arith, h.work, g.work);
-  clash = omega (arith, h.clash, g.clash);
-  builds = implies_across a.builds b.builds c.builds h.builds g.builds;
-}
-
-clash_grows : (b : Bool) (n m : ℕ) → n ≤ cond b n (n + m)
-clash_grows true n m = omega arith
-clash_grows false n m = omega arith
+at_most_across a b c h g = search (arith, implies_across)
 
 key_grows : (t : Tally) (h : Heft) → IsAtMost t (with_key t h)
-key_grows t h = record {
-  levels = omega arith;
-  weight = omega arith;
-  work = omega arith;
-  clash = clash_grows h.salted t.clash h.weight;
-  builds = implies_itself t.builds;
-}
+key_grows t h = search (arith, implies_itself)
 
 keys_grow : (t : Tally) (hs : List Heft) → IsAtMost t (with_keys t hs)
 keys_grow t [] = at_most_itself t
@@ -160,16 +134,7 @@ keys_grow t (h ∷ hs) = at_most_across t (with_keys t hs) (with_key (with_keys 
 
 pub operation_grows : (o : Op) (hs : List Heft) (t : Tally) → IsAtMost t (with_operation o hs t)
 operation_grows o hs t =
-    let g = keys_grow t (keys_of o hs) in
-    record {
-      levels = g.levels;
-      weight = g.weight;
-      work = g.work;
-      clash = g.clash;
-      builds = implies_across t.builds (with_keys t (keys_of o hs)).builds
-          (with_operation o hs t).builds g.builds
-          (implies_or (with_keys t (keys_of o hs)).builds (builds_import o hs));
-    }
+    let g = keys_grow t (keys_of o hs) in search (arith, implies_across, implies_or)
 
 -- ---- an instruction without operands counts nothing
 
@@ -185,14 +150,10 @@ no_receiver : (o : Op) → builds_import o [] ≡ false
 no_receiver op.Build = refl
 no_receiver _ = refl
 
-or_false : (b : Bool) → (b || false) ≡ b
-or_false true = refl
-or_false false = refl
-
 pub nothing_counted : (o : Op) (t : Tally) → with_operation o [] t ≡ t
 nothing_counted o t =
     ap (λ keys. record (with_keys t keys) {
       builds = (with_keys t keys).builds || builds_import o [];
     }) (no_keys o)
     ∙ ap (λ b. record t { builds = t.builds || b }) (no_receiver o)
-    ∙ ap (λ b. record t { builds = b }) (or_false t.builds)
+    ∙ ap (λ b. record t { builds = b }) (grind arith)

@@ -29,8 +29,7 @@ lighter_all hefts (x ∷ hs) (n ∷ ns) h = (
   subst (λ o. IsLighter x (unwrap_or o no_heft)) (sym h.0.is) h.0.lighter,
   lighter_all hefts hs ns h.1,
 )
-lighter_all hefts [] (n ∷ ns) h = absurd h
-lighter_all hefts (x ∷ hs) [] h = absurd h
+lighter_all hefts _ _ h = absurd h
 
 pub kept_least : (hefts : List Heft) (another heft : Heft) (n : ℕ) → CostsAtLeast hefts heft n
     → CostsAtLeast (hefts ++ another ∷ []) heft n
@@ -71,31 +70,18 @@ still_least zero (x ∷ hefts) heft zero h = record {
   now = record x { imported = true };
   is = refl;
   lighter =
-      let l = subst (IsLighter heft) (sym (same x h.now h.is)) h.lighter in
-      record {
-        weight = l.weight;
-        depth = l.depth;
-        salted = l.salted;
-        imported = implies_true heft.imported;
-      };
+      let same : h.now ≡ x = cc in
+      let l = subst (IsLighter heft) same h.lighter in search implies_true;
 }
-  where
-    same : (x y : Heft) → Some x ≡ Some y → x ≡ y
-    same x y e = cc
-still_least zero (x ∷ hefts) heft (suc n) h =
-    record { now = h.now; is = h.is; lighter = h.lighter }
-still_least (suc k) (x ∷ hefts) heft zero h =
-    record { now = h.now; is = h.is; lighter = h.lighter }
+still_least zero (x ∷ hefts) heft (suc n) h = search
+still_least (suc k) (x ∷ hefts) heft zero h = search
 still_least (suc k) (x ∷ hefts) heft (suc n) h =
-    let l = still_least k hefts heft n
-    (record { now = h.now; is = h.is; lighter = h.lighter }) in
-    record { now = l.now; is = l.is; lighter = l.lighter }
+    let l = still_least k hefts heft n (search) in search
 
 -- an answer weighs one, and so does each object at least
 lighter_than : (o : Op) (x : Heft) → 1 ≤ x.weight → Implies (imports_object o) x.imported
     → IsLighter (answer_heft o) x
-lighter_than o x w e =
-    record { weight = w; depth = omega arith; salted = implies_true x.salted; imported = e }
+lighter_than o x w e = search (arith, implies_true)
 
 again_least : (o : Op) (k : ℕ) (hefts : List Heft) → k < length hefts → AreSome hefts
     → imports_object o ≡ false → CostsAtLeast hefts (answer_heft o) k
@@ -106,8 +92,7 @@ again_least o zero (x ∷ hefts) l h e = record {
   lighter = lighter_than o x h.0 (subst (λ q. Implies q x.imported) (sym e) tt);
 }
 again_least o (suc k) (x ∷ hefts) l h e =
-    let m = again_least o k hefts (omega (arith, l)) h.1 e in
-    record { now = m.now; is = m.is; lighter = m.lighter }
+    let m = again_least o k hefts (omega (arith, l)) h.1 e in search
 
 import_least : (o : Op) (k : ℕ) (hefts : List Heft) → k < length hefts → AreSome hefts
     → CostsAtLeast (imported_now k hefts) (answer_heft o) k
@@ -118,8 +103,7 @@ import_least o zero (x ∷ hefts) l h = record {
   lighter = lighter_than o (record x { imported = true }) h.0 (implies_true (imports_object o));
 }
 import_least o (suc k) (x ∷ hefts) l h =
-    let m = import_least o k hefts (omega (arith, l)) h.1 in
-    record { now = m.now; is = m.is; lighter = m.lighter }
+    let m = import_least o k hefts (omega (arith, l)) h.1 in search
 
 either_kept : (q : Bool) (k : ℕ) (hefts : List Heft) (heft : Heft) (n : ℕ)
     → CostsAtLeast hefts heft n → CostsAtLeast (cond q (imported_now k hefts) hefts) heft n

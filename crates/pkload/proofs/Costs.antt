@@ -1,8 +1,8 @@
 -- A check that ends because a pickle exceeds a limit.
-use Rattle.std.proofs.Common.{◌≡◌, ◌+◌, ◌<◌, ℕ, false, List, [], ◌∷◌, ◌++◌, length}
-use Rattle.std.proofs.Common.{append-nil, append_assoc, Option, None, Some, refl, sym, ap, subst}
-use Rattle.std.proofs.Common.{Result, Ok}
-use Rattle.std.proofs.Common.{◌∙◌, arith}
+use Rattle.std.proofs.Common.{◌≡◌, ◌+◌, ◌<◌, ℕ, false, List, [], ◌∷◌, ◌++◌, length, append-nil}
+use Rattle.std.proofs.Common.{append_assoc, Option, None, Some, refl, sym, ap, subst, Result, Ok}
+use Rattle.std.proofs.Common.{◌∙◌, arith, Err}
+use Rattle.std.proofs.lemmas.Grind.{flat_map-append}
 use Rattle.std.proofs.lemmas.List.Elements.{All-head, All-tail, All-cons, All-nil}
 use Rattle.std.specs.Io.KnownBytes.{Consumes, prepend_known}
 use Rattle.std.specs.Prelude.{All, ◌≢◌}
@@ -18,23 +18,20 @@ use Rattle.pkcheck.specs.Heard.{refused_instruction}
 use Rattle.pkmachine.specs.Knowledge.{Policy}
 use Rattle.pkimport.specs.Import.{Asked}
 use Rattle.pkcheck.specs.Refused.{RefusedFrom, Why, reading, judging, growing}
-use Rattle.pkcheck.specs.NewRuns.{InEachNewRun}
+use Rattle.pkcheck.specs.NewRuns.{InEachNewRun, AnswersNew}
 use Rattle.pkcheck.specs.Reports.{AreReportsBehind, Report}
 use Rattle.pkcheck.specs.RowOfPickles.{begins, bytes_of_all}
-use Rattle.pkmachine.specs.RowRuns.{Afresh, Beginning, Behind, Pickle}
+use Rattle.pkmachine.specs.RowRuns.{Beginning, Pickle}
 use Rattle.pkcheck.specs.RunFaults.{IsFaultless}
-use Rattle.pkmachine.specs.Runs.{Raised, Stopped, Stuck, WentOn, start}
 use Rattle.pkstack.specs.Shape.{Breach, and_then}
 use Rattle.pkcheck.specs.ThreeEnds.{StoppedFrom}
-use Rattle.pkmachine.specs.WholeRuns.{Ended, EndedBy, Reached, run_as}
 use Rattle.pkcheck.specs.declared.loading.Loading.{Loading}
 use Rattle.pkmachine.specs.declared.old_strings.OldStrings.{OldStrings}
 use Rattle.pkload.proofs.Above.{each_above}
 use Rattle.pkload.proofs.Exceeding.{none_at, over_along, refused_place}
-use Rattle.pkload.proofs.Loading.{IsReady, all_good, billed_more, made_ready}
-use Rattle.pkload.proofs.Metered.{fits_ready}
+use Rattle.pkload.proofs.Loading.{IsReady, all_good, billed_more, fits_ready, made_ready}
 use Rattle.pkload.proofs.Tolds.{NoneBehindStop, none_behind}
-use Rattle.pkload.proofs.Whole.{bill_bounds_runs}
+use Rattle.pkload.proofs.Whole.{bill_bounds_runs, each_map, ends_map}
 use Rattle.pkload.specs.Bill.{Bill, all_billed, bill_before, billed}
 use Rattle.pkload.specs.Costly.{EndsAbove, ExceedsIn}
 use Rattle.pkload.specs.Laws.{EndsBilled}
@@ -69,12 +66,6 @@ takes_front : (old new : Sight) (xs ys : List ℕ) → Takes old new (xs ++ ys)
 takes_front old new xs ys h =
     record { bytes = consumes_front old.left new.left xs ys h.bytes; count = h.count }
 
-spellings_parts : (is js : List Instruction)
-    → spellings (is ++ js) ≡ spellings is ++ spellings js
-spellings_parts [] js = refl
-spellings_parts (i ∷ is) js = ap (λ bytes. spelling i ++ bytes) (spellings_parts is js)
-    ∙ sym (append_assoc (spelling i) (spellings is) (spellings js))
-
 pub all_front : (limits : Bounds) (is js : List Instruction)
     → All (IsAllowedBy (payload_limit limits)) (is ++ js)
     → All (IsAllowedBy (payload_limit limits)) is
@@ -86,34 +77,22 @@ all_front limits (i ∷ is) js h =
 
 -- ---- runs
 
-ends_above : (excess : Excess) (tolls : Tolls) (bill : Bill) (n : ℕ) (e : Ended)
-    → EndsBilled bill n e → Exceeds excess tolls bill.tally bill.memory
-    → EndsAbove excess tolls bill.memory n e
-ends_above excess tolls bill n (Reached s) h w =
-    subst (λ tally. Exceeds excess tolls tally bill.memory) (sym h.tally) w
-ends_above excess tolls bill n (EndedBy (Stopped r s)) h w =
-    subst (λ tally. Exceeds excess tolls tally bill.memory) (sym h.tally) w
-ends_above excess tolls bill n (EndedBy (Raised s)) h w = tt
-ends_above excess tolls bill n (EndedBy (WentOn s)) h w = absurd h
-ends_above excess tolls bill n (EndedBy (Stuck b)) h w = absurd h
-
 runs_above : (excess : Excess) (tolls : Tolls) (bill : Bill) (setting : OldStrings)
     (beginning : Beginning) (is : List Instruction)
     → InEachNewRun setting beginning is (EndsBilled bill)
     → Exceeds excess tolls bill.tally bill.memory
     → InEachNewRun setting beginning is (EndsAbove excess tolls bill.memory)
-runs_above excess tolls bill setting Afresh is h w = λ os v.
-    ends_above excess tolls bill 0 (run_as setting is os start) (h os v) w
-runs_above excess tolls bill setting (Behind ps) is h w = λ earlier first os f r v.
-    ends_above excess tolls bill (length first.events) (run_as setting is os first)
-    (h earlier first os f r v) w
+runs_above excess tolls bill setting beginning is h w =
+    each_map AnswersNew (EndsBilled bill) (EndsAbove excess tolls bill.memory) setting beginning is
+    (λ n e. ends_map _ _ _ _ e
+    (λ s k. subst (λ tally. Exceeds excess tolls tally bill.memory) (sym k.tally) w) (λ s k. tt)) h
 
-billed_with : (is : List Instruction) (i : Instruction) (x : Result Bill Breach)
-    (b c d : Bill) → x ≡ Ok b → all_billed is b ≡ Ok c → billed i c ≡ Ok d
-    → and_then x (all_billed (is ++ i ∷ [])) ≡ Ok d
-billed_with is i x b c d e h k = ap (λ y. and_then y (all_billed (is ++ i ∷ []))) e
-    ∙ billed_more is (i ∷ []) b ∙ ap (λ y. and_then y (all_billed (i ∷ []))) h
-    ∙ ap (λ y. and_then y (all_billed [])) k
+pub billed_with : (is : List Instruction) (i : Instruction) (x : Result Bill Breach) (b c : Bill)
+    → and_then x (all_billed is) ≡ Ok b → billed i b ≡ Ok c
+    → and_then x (all_billed (is ++ i ∷ [])) ≡ Ok c
+billed_with is i (Ok a) b c e h = billed_more is (i ∷ []) a
+    ∙ ap (λ y. and_then y (all_billed (i ∷ []))) e ∙ ap (λ y. and_then y (all_billed [])) h
+billed_with is i (Err r) b c e h = cc
 
 module _ (loading : Loading) (policy : Policy) (limits : Bounds) where
   abbrev pub AreReports : List Pickle → List Instruction → List Report → Type 0
@@ -158,7 +137,7 @@ module _ (loading : Loading) (policy : Policy) (limits : Bounds) where
     admitted = all_front limits s.instructions (s.instruction ∷ []) s.admitted;
     faultless = s.faultless;
     bytes = takes_front here new (spellings s.instructions) (spellings (s.instruction ∷ []))
-        (subst (Takes here new) (spellings_parts s.instructions (s.instruction ∷ [])) s.bytes);
+        (subst (Takes here new) (flat_map-append spelling s.instructions (s.instruction ∷ [])) s.bytes);
     none = none_at s.instructions s.goes_on;
     told = h;
   }
@@ -166,6 +145,16 @@ module _ (loading : Loading) (policy : Policy) (limits : Bounds) where
   module _ (tolls : Tolls) (excess : Excess) (at : ℕ) (n : Metering) where
     abbrev Over : List Report → Metering → Type 0
     Over = IsOver loading.memo tolls excess at n
+
+    heard_last : (before : List Pickle) (is : List Instruction) (i : Instruction)
+        (earlier rs : List Report) (m : Metering) → AreReports before (is ++ i ∷ []) rs
+        → Over (earlier ++ rs) m → at < length (bytes_of_all before) + length (spellings is) → ⊥
+    heard_last before is i earlier rs m h o below = omega (
+      arith,
+      refused_place loading.memo tolls excess at n loading.old_strings
+          (begins loading.memo before) (length (bytes_of_all before)) is i earlier rs m h o,
+      below,
+    )
 
     -- what is refused later wasn't told
     not_told : (before : List Pickle) (is : List Instruction) (here new : Sight) (place : ℕ)
@@ -177,21 +166,9 @@ module _ (loading : Loading) (policy : Policy) (limits : Bounds) where
     not_told before is here new place reason pair (reading f) earlier rs m h o below =
         subst (λ l. AreReports before l rs) (append-nil is) h
     not_told before is here new place reason pair (judging f) earlier rs m h o below =
-        absurd (omega (
-          arith,
-          refused_place loading.memo tolls excess at n loading.old_strings
-              (begins loading.memo before) (length (bytes_of_all before)) is f.instruction earlier
-              rs m h o,
-          below,
-        ))
+        absurd (heard_last before is f.instruction earlier rs m h o below)
     not_told before is here new place reason pair (growing f) earlier rs m h o below =
-        absurd (omega (
-          arith,
-          refused_place loading.memo tolls excess at n loading.old_strings
-              (begins loading.memo before) (length (bytes_of_all before)) is f.instruction earlier
-              rs m h o,
-          below,
-        ))
+        absurd (heard_last before is f.instruction earlier rs m h o below)
 
     pub part_of_refused : (before : List Pickle) (here new : Sight) (place : ℕ) (reason : Reason)
         (pair : Option Asked)
@@ -231,7 +208,9 @@ module _ (loading : Loading) (policy : Policy) (limits : Bounds) where
         let k = over_along loading.memo tolls excess at n loading.old_strings
         (begins loading.memo before) (length (bytes_of_all before)) ne [] p.instructions rs
         (ready loading.memo m) p.told (all_good limits p.instructions p.admitted) p.none r.going
-        (fits_ready tolls loading.memo m.bill.ended m w) (over_ready rs m r.going o) in (
+        (fits_ready tolls loading.memo m.bill.ended m w) (over_ready rs m r.going o) in
+        let so_far : and_then (bill_before (begins loading.memo before)) (all_billed k.front)
+        ≡ Ok k.earlier = ap (λ x. and_then x (all_billed k.front)) r.bill ∙ k.so_far in (
           k.pickle ∙ r.pickle,
           record {
             instructions = k.front;
@@ -244,19 +223,18 @@ module _ (loading : Loading) (policy : Policy) (limits : Bounds) where
             bytes = subst (λ is. Takes here p.there (spellings is)) k.parts p.bytes;
             place = k.place;
             earlier = k.earlier;
-            so_far = ap (λ x. and_then x (all_billed k.front)) r.bill ∙ k.so_far;
+            so_far = so_far;
             within = k.within;
             bill = n.bill;
             adds = k.adds;
             exceeds = k.exceeds;
             each = each_above tolls n.bill.memory loading.old_strings k.last excess k.earlier n.bill
-                k.adds k.exceeds.0 (begins loading.memo before) k.front
-                (ap (λ x. and_then x (all_billed k.front)) r.bill ∙ k.so_far);
+                k.adds k.exceeds.0 (begins loading.memo before) k.front so_far;
             runs = runs_above excess tolls n.bill loading.old_strings
                 (begins loading.memo before) (k.front ++ k.last ∷ [])
                 (bill_bounds_runs loading.old_strings (begins loading.memo before)
                 (k.front ++ k.last ∷ []) n.bill (billed_with k.front k.last
-                (bill_before (begins loading.memo before)) (ready loading.memo m).bill k.earlier
-                n.bill r.bill k.so_far k.adds)) k.exceeds;
+                (bill_before (begins loading.memo before)) k.earlier n.bill so_far k.adds))
+                k.exceeds;
           },
         )

@@ -31,7 +31,7 @@ use Rattle.pkload.specs.declared.tolls.Excess.TheVariants.{OutOfMemory}
 use Rattle.pkload.specs.declared.tolls.Tolls.{Tolls}
 
 module _ (loading : Loading) (policy : Policy) (limits : Bounds) (tolls : Tolls)
-    (excess : Excess) (at : ℕ) (n : Metering) (run : FaultlessIsRun) where
+    (excess : Excess) (ne : excess ≢ OutOfMemory) (at : ℕ) (n : Metering) (run : FaultlessIsRun) where
   abbrev Over : List Report → Metering → Type 0
   Over = IsOver loading.memo tolls excess at n
 
@@ -68,31 +68,31 @@ module _ (loading : Loading) (policy : Policy) (limits : Bounds) (tolls : Tolls)
     over = subst (IsHere here) (sym (append-nil before)) h;
   }
 
-  at_end : excess ≢ OutOfMemory → (before all : List Pickle) (old here : Sight)
+  at_end : (before all : List Pickle) (old here : Sight)
       (qs : List Report) (m : Metering) → before ≡ all
       → AreAccepted loading policy limits old here before [] → Tail all here qs
       → IsReady tolls loading before m → Fits tolls m → Over qs m → IsAmong old before
-  at_end ne before all old here [] m e a t r w o = absurd o
-  at_end ne before all old here (q ∷ qs) m e a t r w o =
+  at_end before all old here [] m e a t r w o = absurd o
+  at_end before all old here (q ∷ qs) m e a t r w o =
       at_next old here before a (over_in loading policy limits tolls excess at n ne before here
       (q ∷ qs) m (subst (λ b. Part loading policy limits b here (q ∷ qs)) (sym e) t) r w o)
 
   -- this one is, or a later one
-  among_rest : excess ≢ OutOfMemory → (p : Pickle) (before : List Pickle) (old between : Sight)
+  among_rest : (p : Pickle) (before : List Pickle) (old between : Sight)
       (first later zs : List Report) (m : Metering)
       → IsAcceptedBehind loading policy limits old between before p
       → AreReports loading policy limits before p.instructions first
       → IsReady tolls loading before m → Fits tolls m → later ≡ zs → Over (first ++ later) m
       → ((k : Metering) → IsReady tolls loading (before ++ p ∷ []) k → Fits tolls k
       → Over later k → IsAmong between (before ++ p ∷ [])) → IsAmong old before
-  among_rest ne p before old between first later [] m a h r w e o on =
+  among_rest p before old between first later [] m a h r w e o on =
       at_next old old before (takes_none old)
       (over_in loading policy limits tolls excess at n ne before old first m
       (part_of_accepted loading policy limits before old between
       (length (spellings p.instructions)) p.imports first a.0
       (subst (λ is. AreReports loading policy limits before is first) (sym a.1) h)) r w
       (subst (λ l. Over l m) (append-nil first) (subst (λ l. Over (first ++ l) m) e o)))
-  among_rest ne p before old between first later (z ∷ zs) m a h r w e o on =
+  among_rest p before old between first later (z ∷ zs) m a h r w e o on =
       let k = past loading.memo tolls excess at n first z zs m
       (subst (λ l. Over (first ++ l) m) e o) in
       let one = pickle_within tolls loading limits (length (bytes_of_all before)) before
@@ -108,18 +108,18 @@ module _ (loading : Loading) (policy : Policy) (limits : Bounds) (tolls : Tolls)
         over = subst (IsHere rest.here) (append_assoc before (p ∷ []) rest.more) rest.over;
       }
 
-  among : excess ≢ OutOfMemory → (ps before all : List Pickle) (old here : Sight)
+  among : (ps before all : List Pickle) (old here : Sight)
       (rs qs : List Report) (m : Metering) → before ++ ps ≡ all
       → AreAccepted loading policy limits old here before ps
       → AreReportsOf false loading before ps rs → Tail all here qs
       → IsReady tolls loading before m → Fits tolls m → Over (rs ++ qs) m → IsAmong old before
-  among ne [] before all old here rs qs m e a h t r w o =
-      at_end ne before all old here qs m (sym (append-nil before) ∙ e) a t r w
+  among [] before all old here rs qs m e a h t r w o =
+      at_end before all old here qs m (sym (append-nil before) ∙ e) a t r w
       (subst (λ l. Over (l ++ qs) m) h o)
-  among ne (p ∷ ps) before all old here rs qs m e a h t r w o =
-      among_rest ne p before old a.0 h.0 (h.1 ++ qs) (h.1 ++ qs) m a.1 h.3 r w refl
+  among (p ∷ ps) before all old here rs qs m e a h t r w o =
+      among_rest p before old a.0 h.0 (h.1 ++ qs) (h.1 ++ qs) m a.1 h.3 r w refl
       (subst (λ l. Over l m) (ap (λ l. l ++ qs) h.2 ∙ append_assoc h.0 h.1 qs) o)
-      (λ k ready fits over. among ne ps (before ++ p ∷ []) all a.0 here h.1 qs k
+      (λ k ready fits over. among ps (before ++ p ∷ []) all a.0 here h.1 qs k
       (append_assoc before (p ∷ []) ps ∙ e) a.2 h.4 t ready fits over)
 
   -- ---- the whole check
@@ -142,9 +142,9 @@ module _ (loading : Loading) (policy : Policy) (limits : Bounds) (tolls : Tolls)
         o.admitted o.faultless;
   }
 
-  alone : excess ≢ OutOfMemory → (old : Sight) (rs : List Report)
+  alone : (old : Sight) (rs : List Report)
       → Part loading policy limits [] old rs → Over rs at_first → IsCostly old OnePickle
-  alone ne old rs p o =
+  alone old rs p o =
       let h = over_in loading policy limits tolls excess at n ne [] old rs at_first p
       (begins_ready tolls loading) (begins_within tolls loading) o in
       record {
@@ -160,49 +160,49 @@ module _ (loading : Loading) (policy : Policy) (limits : Bounds) (tolls : Tolls)
       }
 
   -- the pickles are these, and behind them comes a part of another
-  among_all : excess ≢ OutOfMemory → (ps : List Pickle) (old here : Sight)
+  among_all : (ps : List Pickle) (old here : Sight)
       (rs qs : List Report) → AreAccepted loading policy limits old here [] ps
       → AreReportsOf false loading [] ps rs → Tail ps here qs
       → Over (rs ++ qs) at_first → IsCostly old ToTheEnd
-  among_all ne ps old here rs qs a h t o =
-      in_row old (among ne ps [] ps old here rs qs at_first refl a h t
+  among_all ps old here rs qs a h t o =
+      in_row old (among ps [] ps old here rs qs at_first refl a h t
       (begins_ready tolls loading) (begins_within tolls loading) o)
 
-  pub accepted_over : excess ≢ OutOfMemory → (old new : Sight) (extent : Extent)
+  pub accepted_over : (old new : Sight) (extent : Extent)
       (taken pickles : ℕ) (imports : List Asked) (rs : List Report)
       → AcceptedAndTold false loading policy limits old new extent taken pickles imports rs
       → Over rs at_first → IsCostly old extent
-  accepted_over ne old new ToTheEnd taken pickles imports rs h o =
-      among_all ne h.0.row old new rs [] h.0.each h.1 tt
+  accepted_over old new ToTheEnd taken pickles imports rs h o =
+      among_all h.0.row old new rs [] h.0.each h.1 tt
       (subst (λ l. Over l at_first) (sym (append-nil rs)) o)
-  accepted_over ne old new OnePickle taken pickles imports rs h o =
-      alone ne old rs
+  accepted_over old new OnePickle taken pickles imports rs h o =
+      alone old rs
       (part_of_accepted loading policy limits [] old new taken imports rs h.0 h.1) o
 
-  pub refused_over : excess ≢ OutOfMemory → (old new : Sight) (extent : Extent)
+  pub refused_over : (old new : Sight) (extent : Extent)
       (pickle place : ℕ) (reason : Reason) (pair : Option Asked) (imports : List Asked)
       (rs : List Report)
       → RefusedAndTold false loading policy limits old new extent pickle place reason pair imports
       rs → at < place → Over rs at_first → IsCostly old extent
-  refused_over ne old new ToTheEnd pickle place reason pair imports rs h below o =
+  refused_over old new ToTheEnd pickle place reason pair imports rs h below o =
       let o' : Over (h.earlier ++ h.last) at_first = subst (λ l. Over l at_first) h.all o in
-      among_all ne h.right.before old h.right.here h.earlier h.last h.right.each h.of_pickles
+      among_all h.right.before old h.right.here h.earlier h.last h.right.each h.of_pickles
       (tail_of h.right.before h.right.here h.last
       (part_of_refused loading policy limits tolls excess at n h.right.before h.right.here new
       place reason pair h.right.refused h.earlier h.last at_first h.behind o' below)) o'
-  refused_over ne old new OnePickle pickle place reason pair imports rs h below o =
-      alone ne old rs
+  refused_over old new OnePickle pickle place reason pair imports rs h below o =
+      alone old rs
       (part_of_refused loading policy limits tolls excess at n [] old new place reason pair
       h.0.refused [] rs at_first h.1 o below) o
 
-  pub stopped_over : excess ≢ OutOfMemory → (old new : Sight) (extent : Extent)
+  pub stopped_over : (old new : Sight) (extent : Extent)
       (rs : List Report) (failed : Report)
       → StoppedAndTold false loading policy limits old new extent rs failed
       → Over rs at_first → IsCostly old extent
-  stopped_over ne old new ToTheEnd rs failed h o =
-      among_all ne h.before old h.here h.earlier h.last h.each h.of_pickles
+  stopped_over old new ToTheEnd rs failed h o =
+      among_all h.before old h.here h.earlier h.last h.each h.of_pickles
       (tail_of h.before h.here h.last
       (part_of_stopped loading policy limits h.before h.here new h.last h.stopped h.behind))
       (subst (λ l. Over l at_first) h.all o)
-  stopped_over ne old new OnePickle rs failed h o =
-      alone ne old rs (part_of_stopped loading policy limits [] old new rs h.0 h.1) o
+  stopped_over old new OnePickle rs failed h o =
+      alone old rs (part_of_stopped loading policy limits [] old new rs h.0 h.1) o

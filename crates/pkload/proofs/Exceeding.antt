@@ -109,9 +109,6 @@ module _ (memo : Memo) (tolls : Tolls) (excess : Excess) (at : ℕ) (n : Meterin
         (m : Metering) → AreReports before is rs → All IsGood is → NoneBehindStop is
         → m.bill.ended ≡ false → Fits tolls m → Over rs m → EndsOver before is m
     over_along ne before is [] m h g s e f o = absurd o
-    over_along ne before [] (r ∷ rs) m h g s e f o = absurd h
-    over_along ne before (i ∷ []) (r ∷ s ∷ rs) m h g q e f o = absurd h.1
-    over_along ne before (i ∷ j ∷ is) (r ∷ []) m h g s e f o = absurd h.1
     over_along ne before (i ∷ []) (r ∷ []) m h g s e f o =
         let k = metered_is memo setting beginning from m n (billed i m.bill)
         (sym (one_told memo setting beginning from i r m h.0.same (All-head IsGood i [] g) e)
@@ -148,3 +145,4 @@ module _ (memo : Memo) (tolls : Tolls) (excess : Excess) (at : ℕ) (n : Meterin
           adds = rest.adds;
           exceeds = rest.exceeds;
         }
+    over_along ne before _ _ m h g s e f o = absurd (search)

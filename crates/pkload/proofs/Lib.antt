@@ -3,15 +3,14 @@
 pub mod Alike
 pub mod Accounts
 pub mod Readings
-pub mod Pushed
 pub mod Weights
+pub mod Grown
 pub mod Exactly
 pub mod Lighter
 pub mod AtLeast
 pub mod Steps
 pub mod Whole
 pub mod Above
-pub mod Metered
 pub mod Tolds
 pub mod Loading
 pub mod Staying

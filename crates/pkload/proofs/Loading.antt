@@ -1,10 +1,9 @@
 -- What a check with the audience that keeps the bill says.
-use Rattle.std.proofs.Common.{◌≡◌, ℕ, suc, true, false, List, [], ◌∷◌, ◌++◌, length}
-use Rattle.std.proofs.Common.{Option, None, Some, Result, Ok, Err}
-use Rattle.std.proofs.Common.{IfOk, refl, sym, ap, subst, ◌∙◌, arith}
-use Rattle.std.proofs.Common.{append-nil, append_assoc, length-append}
+use Rattle.std.proofs.Common.{◌≡◌, ℕ, suc, true, false, List, [], ◌∷◌, ◌++◌, length, Option, None}
+use Rattle.std.proofs.Common.{Some, Result, Ok, Err, IfOk, refl, sym, ap, subst, ◌∙◌, arith}
+use Rattle.std.proofs.Common.{append-nil, append_assoc, length-append, Bool}
 use Rattle.std.specs.Prelude.{All, ◌≢◌, ⊤}
-use Rattle.std.proofs.lemmas.List.Elements.{All-head, All-tail, All-cons, All-nil}
+use Rattle.std.proofs.lemmas.List.Elements.{All-weaker}
 use Rattle.pkops.specs.Contents.{IsGood}
 use Rattle.pkops.specs.Limits.{Bounds}
 use Rattle.pkops.specs.Payloads.{payload_limit}
@@ -13,14 +12,12 @@ use Rattle.pkread.specs.Admission.{IsAllowedBy}
 use Rattle.pkread.specs.Rows.{Sight}
 use Rattle.pkread.specs.Sequence.{IsSequence, StopIsLast}
 use Rattle.pkmachine.specs.Knowledge.{Policy}
-use Rattle.pkcheck.specs.NewRuns.{InEachNewRun}
+use Rattle.pkcheck.specs.NewRuns.{InEachNewRun, AnswersNew}
 use Rattle.pkcheck.specs.Reports.{AreReportsBehind, Report}
 use Rattle.pkcheck.specs.RowOfPickles.{AreAccepted, begins, bytes_of_all}
-use Rattle.pkmachine.specs.RowRuns.{Afresh, Beginning, Behind, Pickle, sequences_of}
-use Rattle.pkmachine.specs.Runs.{Raised, Stopped, Stuck, WentOn, start}
+use Rattle.pkmachine.specs.RowRuns.{Beginning, Pickle, sequences_of}
 use Rattle.pkstack.specs.Shape.{Breach, and_then}
 use Rattle.pkcheck.specs.ThreeEnds.{AreReportsOf}
-use Rattle.pkmachine.specs.WholeRuns.{Ended, EndedBy, Reached, run_as}
 use Rattle.pkcheck.specs.declared.check_loop.Extent.TheVariants.{OnePickle, ToTheEnd}
 use Rattle.pkcheck.specs.declared.loading.Loading.{Loading}
 use Rattle.pkmachine.specs.declared.memo.Memo.{Memo}
@@ -28,45 +25,30 @@ use Rattle.pkmachine.specs.declared.memo.Memo.TheVariants.{Fresh, Kept}
 use Rattle.pkmachine.specs.declared.old_strings.OldStrings.{OldStrings}
 use Rattle.pkload.proofs.Accounts.{implies_across}
 use Rattle.pkload.proofs.Tolds.{NoneBehindStop, metering_of, none_behind, stopped, told_along}
-use Rattle.pkload.proofs.Whole.{bill_bounds_runs}
+use Rattle.pkload.proofs.Whole.{bill_bounds_runs, each_map, ends_map}
 use Rattle.pkload.specs.Bill.{Bill, all_billed, bill_before, billed, next_bill, no_bill, row_billed}
 use Rattle.pkload.specs.Laws.{EndsBilled, TollsOnlyRefuse}
 use Rattle.pkload.specs.Loading.{CostsWithin, EndsWithin, KeepWithin, last_bill}
 use Rattle.pkload.specs.Private.Meter.{AllFit, Fits, metered_more, metering_in}
 use Rattle.pkload.specs.Private.Told.{Metering, all_metered, metered, next_if, next_in, ready}
 use Rattle.pkload.specs.Private.Told.{told_billed, with_bill}
-use Rattle.pkload.specs.Tally.{IsAtMost}
-use Rattle.pkload.specs.Tolls.{IsWithin}
+use Rattle.pkload.specs.Tally.{IsAtMost, no_tally}
+use Rattle.pkload.specs.Tolls.{IsWithin, KeepsWithin}
 use Rattle.pkload.specs.Weighed.{tally_since}
 use Rattle.pkload.specs.declared.tally.Tally.{Tally}
 use Rattle.pkload.specs.declared.tolls.Tolls.{Tolls}
+use Rattle.std.proofs.lemmas.List.{map-append}
 
 within_below : (tolls : Tolls) (a b : Tally) → IsAtMost a b → IsWithin tolls b → IsWithin tolls a
-within_below tolls a b h w = record {
-  levels = omega (arith, h.levels, w.levels);
-  weight = omega (arith, h.weight, w.weight);
-  work = omega (arith, h.work, w.work);
-  clash = omega (arith, h.clash, w.clash);
-  builds = implies_across a.builds b.builds tolls.builds h.builds w.builds;
-}
-
-ends_within : (tolls : Tolls) (bill : Bill) (n : ℕ) (e : Ended) → EndsBilled bill n e
-    → IsWithin tolls bill.tally → EndsWithin tolls n e
-ends_within tolls bill n (Reached s) h w = subst (IsWithin tolls) (sym h.tally) w
-ends_within tolls bill n (EndedBy (Stopped r s)) h w = subst (IsWithin tolls) (sym h.tally) w
-ends_within tolls bill n (EndedBy (Raised s)) h w =
-    within_below tolls (tally_since n s.events) bill.tally h w
-ends_within tolls bill n (EndedBy (WentOn s)) h w = absurd h
-ends_within tolls bill n (EndedBy (Stuck b)) h w = absurd h
+within_below tolls a b h w = search (arith, implies_across)
 
 runs_within : (tolls : Tolls) (bill : Bill) (setting : OldStrings) (beginning : Beginning)
     (is : List Instruction) → InEachNewRun setting beginning is (EndsBilled bill)
     → IsWithin tolls bill.tally → InEachNewRun setting beginning is (EndsWithin tolls)
-runs_within tolls bill setting Afresh is h w = λ os v.
-    ends_within tolls bill 0 (run_as setting is os start) (h os v) w
-runs_within tolls bill setting (Behind ps) is h w = λ earlier first os f r v.
-    ends_within tolls bill (length first.events) (run_as setting is os first)
-    (h earlier first os f r v) w
+runs_within tolls bill setting beginning is h w =
+    each_map AnswersNew (EndsBilled bill) (EndsWithin tolls) setting beginning is
+    (λ n e. ends_map _ _ _ _ e (λ s k. subst (IsWithin tolls) (sym k.tally) w)
+    (λ s k. within_below tolls (tally_since n s.events) bill.tally k w)) h
 
 -- ---- what was metered, in parts
 
@@ -110,10 +92,12 @@ metered_is memo setting beginning from m n (Err r) e = cc
 
 pub all_good : (limits : Bounds) (is : List Instruction)
     → All (IsAllowedBy (payload_limit limits)) is → All IsGood is
-all_good limits [] h = All-nil IsGood
-all_good limits (i ∷ is) h =
-    All-cons IsGood i is (All-head (IsAllowedBy (payload_limit limits)) i is h).good
-    (all_good limits is (All-tail (IsAllowedBy (payload_limit limits)) i is h))
+all_good limits is h = All-weaker (IsAllowedBy (payload_limit limits)) IsGood (λ i k. k.good) is h
+
+pub none_ends : (is : List Instruction) (i : Instruction) (js : List Instruction)
+    → [] ≡ is ++ i ∷ js → ⊥
+none_ends [] i js e = cc
+none_ends (x ∷ is) i js e = cc
 
 -- the last instruction is billed last
 last_billed : (front : List Instruction) (last : Instruction) (b c : Bill)
@@ -130,6 +114,20 @@ stops_ended : (is : List Instruction) (b c : Bill) → StopIsLast is → all_bil
 stops_ended is b c s e =
     let l = last_billed s.0 s.1 b c (subst (λ x. all_billed x b ≡ Ok c) s.2 e) in
     stopped s.1 l.0 c s.3 l.1
+
+pub sequences_with : (ps : List Pickle) (p : Pickle)
+    → sequences_of (ps ++ p ∷ []) ≡ sequences_of ps ++ p.instructions ∷ []
+sequences_with ps p = map-append (λ (q : Pickle). q.instructions) ps (p ∷ [])
+
+-- a pickle that begins costs nothing
+none_within : (tolls : Tolls) → KeepsWithin tolls no_tally 0
+none_within tolls = search arith
+
+pub fits_ready : (tolls : Tolls) (memo : Memo) (ended : Bool) (m : Metering) → Fits tolls m
+    → Fits tolls (next_if ended memo m)
+fits_ready tolls memo false m h = h
+fits_ready tolls Fresh true m h = none_within tolls
+fits_ready tolls Kept true m h = none_within tolls
 
 -- where a check begins
 abbrev pub at_first : Metering
@@ -165,10 +163,6 @@ module _ (tolls : Tolls) (loading : Loading) where
       (told_billed r.told (next_if q memo (ready memo m)).bill)
       (λ bill. Ok (with_bill (next_if q memo (ready memo m)) bill))) e
 
-  no_stop : (front : List Instruction) (last : Instruction) → [] ≡ front ++ last ∷ [] → ⊥
-  no_stop [] last e = cc
-  no_stop (i ∷ front) last e = cc
-
   all_ready : (beginning : Beginning) (from : ℕ) (is : List Instruction) (rs : List Report)
       (m : Metering) → StopIsLast is
       → AreReportsBehind false setting beginning from [] is rs
@@ -176,7 +170,7 @@ module _ (tolls : Tolls) (loading : Loading) where
       → all_metered memo rs (ready memo m) ≡ all_metered memo rs m
   all_ready beginning from is (r ∷ rs) m s h e =
       ap (λ x. and_then x (all_metered memo rs)) (made_ready r m e)
-  all_ready beginning from [] [] m s h e = absurd (no_stop s.0 s.1 s.2)
+  all_ready beginning from [] [] m s h e = absurd (none_ends s.0 s.1 [] s.2)
   all_ready beginning from (i ∷ is) [] m s h e = absurd h
 
   pub record IsPickleWithin (before : List Pickle) (is : List Instruction) (m n : Metering)
@@ -232,18 +226,13 @@ module _ (tolls : Tolls) (loading : Loading) where
       ap (λ x. and_then x (λ after. row_billed (ps ++ is ∷ []) (next_bill after))) s.first
       ∙ row_end ps is (next_bill s.middle) c d s.then h
 
-  sequences_end : (ps : List Pickle) (p : Pickle)
-      → sequences_of (ps ++ p ∷ []) ≡ sequences_of ps ++ p.instructions ∷ []
-  sequences_end [] p = refl
-  sequences_end (q ∷ ps) p = ap (λ l. q.instructions ∷ l) (sequences_end ps p)
-
   next_before : (k : Memo) (before : List Pickle) (p : Pickle) (b c : Bill)
       → bill_before (begins k before) ≡ Ok b → all_billed p.instructions b ≡ Ok c
       → bill_before (begins k (before ++ p ∷ [])) ≡ Ok (next_in k c)
   next_before Fresh before p b c e h = refl
   next_before Kept [] p b c e h = row_end [] p.instructions no_bill b c e h
   next_before Kept (x ∷ before) p b c e h =
-      ap (λ l. row_billed l no_bill) (sequences_end (x ∷ before) p)
+      ap (λ l. row_billed l no_bill) (sequences_with (x ∷ before) p)
       ∙ row_end (sequences_of (x ∷ before)) p.instructions no_bill b c e h
 
   next_goes : (k : Memo) (b : Bill) → (next_in k b).ended ≡ false
@@ -352,16 +341,7 @@ module _ (tolls : Tolls) (loading : Loading) where
   begins_ready = record { bill = first_ready memo; going = refl; pickle = refl }
 
   pub begins_within : Fits tolls at_first
-  begins_within = (
-    record {
-      levels = omega arith;
-      weight = omega arith;
-      work = omega arith;
-      clash = omega arith;
-      builds = tt;
-    },
-    omega arith,
-  )
+  begins_within = none_within tolls
 
 pub tolls_only_refuse : TollsOnlyRefuse
 tolls_only_refuse loading policy limits tolls old new ToTheEnd accepted h = h.0

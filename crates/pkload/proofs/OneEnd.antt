@@ -1,8 +1,7 @@
 -- Two answers to the same bytes have the same end.
-use Rattle.std.proofs.Common.{◌≡◌, ◌≢◌, ◌≤◌, ℕ, inl, inr, List, [], ◌∷◌, ◌++◌}
-use Rattle.std.proofs.Common.{length, append-nil, append_assoc, length-append, Option, Some, Ok}
-use Rattle.std.proofs.Common.{Err}
-use Rattle.std.proofs.Common.{refl, sym, ap, subst, ◌∙◌, arith}
+use Rattle.std.proofs.Common.{◌≡◌, ◌≢◌, ◌≤◌, ℕ, inl, inr, List, [], ◌∷◌, ◌++◌, length, append-nil}
+use Rattle.std.proofs.Common.{append_assoc, length-append, Option, Some, Ok, Err, refl, sym, ap}
+use Rattle.std.proofs.Common.{subst, ◌∙◌, arith}
 use Rattle.std.specs.Io.KnownBytes.{IsAtEnd}
 use Rattle.std.specs.Prelude.{option_map}
 use Rattle.pkops.specs.Limits.{Bounds}
@@ -25,12 +24,11 @@ use Rattle.pkcheck.specs.declared.check_loop.Extent.TheVariants.{OnePickle, ToTh
 use Rattle.pkcheck.specs.declared.check_loop.RefusedPickle.{RefusedPickle}
 use Rattle.pkcheck.specs.declared.loading.Loading.{Loading}
 use Rattle.pkload.proofs.Costs.{takes_none}
-use Rattle.pkload.proofs.SameBytes.{bill_alike, same_bill}
-use Rattle.pkload.proofs.SameBytes.{consumed, one_excess, one_place, refused_or_over}
-use Rattle.pkload.proofs.SameBytes.{yes_or_over, yes_or_refused}
+use Rattle.pkload.proofs.Loading.{sequences_with}
+use Rattle.pkload.proofs.SameBytes.{bill_alike, same_bill, consumed, one_excess, one_place}
+use Rattle.pkload.proofs.SameBytes.{refused_or_over, yes_or_over, yes_or_refused}
 use Rattle.pkload.proofs.SameRows.{Compared, Longer, compare, first_empty, none_left, same_bytes}
-use Rattle.pkload.proofs.SameRows.{same_count, sequences_with}
-use Rattle.pkload.proofs.SameRows.{takes_some}
+use Rattle.pkload.proofs.SameRows.{none_spelled, same_count, takes_some}
 use Rattle.pkload.specs.Bill.{Bill, all_billed, bill_before}
 use Rattle.pkload.specs.Costly.{CostsTooMuch, ExceedsIn}
 use Rattle.pkload.specs.Loading.{AcceptedWithBill, AcceptedWithin, CostsWithin, KeepWithin}
@@ -53,13 +51,6 @@ kept_there loading tolls (y ∷ front) done x more h =
     (append_assoc done (y ∷ []) front)
     (kept_there loading tolls front (done ++ y ∷ []) x more h.1)
 
-same_first : (p q : List Instruction) (ps qs : List (List Instruction)) → p ∷ ps ≡ q ∷ qs
-    → (p ≡ q) × (ps ≡ qs)
-same_first p q ps qs e = (cc, cc)
-
-not_none : (p : List Instruction) (ps : List (List Instruction)) → [] ≡ p ∷ ps → ⊥
-not_none p ps e = cc
-
 module _ (loading : Loading) (tolls : Tolls) where
   one_bill : (xs ys : List Pickle) (p q : List Instruction) → sequences_of xs ≡ sequences_of ys
       → p ≡ q → (h : CostsWithin loading.old_strings (begins loading.memo xs) tolls p)
@@ -75,24 +66,13 @@ module _ (loading : Loading) (tolls : Tolls) where
       → last_bill loading tolls done xs h ≡ last_bill loading tolls gone ys g
   last_alike [] [] done gone e f h g = refl
   last_alike (x ∷ []) (y ∷ []) done gone e f h g =
-      ap Some (one_bill done gone x.instructions y.instructions f
-      (same_first x.instructions y.instructions [] [] e).0 h.0 g.0)
+      ap Some (one_bill done gone x.instructions y.instructions f (cc) h.0 g.0)
   last_alike (x ∷ v ∷ xs) (y ∷ w ∷ ys) done gone e f h g =
-      let s = same_first x.instructions y.instructions (sequences_of (v ∷ xs))
-      (sequences_of (w ∷ ys)) e in
-      last_alike (v ∷ xs) (w ∷ ys) (done ++ x ∷ []) (gone ++ y ∷ []) s.1
+      let same : x.instructions ≡ y.instructions = cc in
+      last_alike (v ∷ xs) (w ∷ ys) (done ++ x ∷ []) (gone ++ y ∷ []) (cc)
       (sequences_with done x ∙ ap (λ l. l ++ x.instructions ∷ []) f
-      ∙ ap (λ p. sequences_of gone ++ p ∷ []) s.0 ∙ sym (sequences_with gone y)) h.1 g.1
-  last_alike [] (y ∷ ys) done gone e f h g =
-      absurd (not_none y.instructions (sequences_of ys) e)
-  last_alike (x ∷ xs) [] done gone e f h g =
-      absurd (not_none x.instructions (sequences_of xs) (sym e))
-  last_alike (x ∷ []) (y ∷ w ∷ ys) done gone e f h g =
-      absurd (not_none w.instructions (sequences_of ys)
-      (same_first x.instructions y.instructions [] (sequences_of (w ∷ ys)) e).1)
-  last_alike (x ∷ v ∷ xs) (y ∷ []) done gone e f h g =
-      absurd (not_none v.instructions (sequences_of xs)
-      (sym (same_first x.instructions y.instructions (sequences_of (v ∷ xs)) [] e).1))
+      ∙ ap (λ p. sequences_of gone ++ p ∷ []) same ∙ sym (sequences_with gone y)) h.1 g.1
+  last_alike _ _ done gone e f h g = cc
 
 module _ (front : OneFront) (goes : SequenceGoesOn) (unique : OneSequence) (begin : OneBegins)
     (behind : RefusedBehind) (excludes : YesExcludesNo) (of_row : YesOfRowExcludesNo)
@@ -269,13 +249,8 @@ module _ (front : OneFront) (goes : SequenceGoesOn) (unique : OneSequence) (begi
       → rest ≡ [] → ⊥
   over_bytes before here at excess rest is e none =
       let c = consumed here rest (spellings (e.instructions ++ e.last ∷ [])) e.there is e.bytes in
-      some_spelled e.instructions e.last
+      none_spelled e.instructions e.last
       (first_empty (spellings (e.instructions ++ e.last ∷ [])) c.0 (sym none ∙ c.2))
-    where
-      some_spelled : (is : List Instruction) (i : Instruction)
-          → spellings (is ++ i ∷ []) ≡ [] → ⊥
-      some_spelled [] i e = cc
-      some_spelled (j ∷ is) i e = cc
 
   yes_over : (extent : Extent) (old new other : Sight) (x : YesWithBill) (y : Costly)
       → old.left ≡ Some bytes → other.left ≡ Some bytes
@@ -329,15 +304,13 @@ module _ (front : OneFront) (goes : SequenceGoesOn) (unique : OneSequence) (begi
         ap Some (one_bill loading tolls [] [] a.0.instructions b.0.instructions refl u.0 a.1 b.1),
       )
 
-  same_some : (b c : Bill) → Some b ≡ Some c → b ≡ c
-  same_some b c e = cc
-
   both_yes : (extent : Extent) (old new other after : Sight) (x y : YesWithBill)
       → old.left ≡ Some bytes → other.left ≡ Some bytes → Accepted extent old new x
       → Accepted extent other after y → SameEnd (Ok (Ok x)) (Ok (Ok y))
   both_yes extent old new other after x y is also h g =
       let k = yes_yes extent old new other after x y is also h.right g.right in
-      let same = same_some h.bill g.bill (sym h.last ∙ k.2 ∙ g.last) in (
+      let bills : Some h.bill ≡ Some g.bill = sym h.last ∙ k.2 ∙ g.last in
+      let same : h.bill ≡ g.bill = cc in (
         k.0,
         k.1,
         h.tally ∙ ap (λ (b : Bill). b.tally) same ∙ sym g.tally,

@@ -1,10 +1,12 @@
 -- What precedes a refused instruction keeps within the limits.
-use Rattle.std.proofs.Common.{◌≡◌, ◌+◌, ◌≤◌, ◌<◌, ℕ, false, List, [], ◌∷◌, ◌++◌, length}
-use Rattle.std.proofs.Common.{append-nil, append_assoc, length-append, Option, None, Some, Ok}
-use Rattle.std.proofs.Common.{refl, sym, ap, subst, ◌∙◌, arith}
+use Rattle.std.proofs.Common.{◌≡◌, ◌+◌, ◌≤◌, ◌<◌, ℕ, false, List, [], ◌∷◌, ◌++◌, length, append-nil}
+use Rattle.std.proofs.Common.{append_assoc, length-append, Option, None, Some, Ok, refl, sym, ap}
+use Rattle.std.proofs.Common.{subst, ◌∙◌, arith}
 use Rattle.std.proofs.lemmas.Grind.{flat_map-append}
 use Rattle.std.proofs.lemmas.List.{map-append}
-use Rattle.std.specs.Prelude.{All, ⊤, flat_map}
+use Rattle.std.proofs.lemmas.List.Elements.{All-append, All-cons, All-head, All-nil, All-tail}
+use Rattle.std.proofs.lemmas.List.Elements.{All-weaker}
+use Rattle.std.specs.Prelude.{All, flat_map}
 use Rattle.pkops.specs.Contents.{IsGood}
 use Rattle.pkops.specs.Limits.{Bounds}
 use Rattle.pkops.specs.Spelling.{Instruction, spelling}
@@ -25,9 +27,8 @@ use Rattle.pkmachine.specs.declared.memo.Memo.{Memo}
 use Rattle.pkmachine.specs.declared.old_strings.OldStrings.{OldStrings}
 use Rattle.pkload.proofs.Exceeding.{none_at, past}
 use Rattle.pkload.proofs.Loading.{IsReady, all_good, at_first, begins_ready, begins_within}
-use Rattle.pkload.proofs.Loading.{fits_split, last_fits, made_ready, metered_is, rows_within}
-use Rattle.pkload.proofs.Loading.{split_at}
-use Rattle.pkload.proofs.Metered.{fits_ready}
+use Rattle.pkload.proofs.Loading.{fits_ready, fits_split, last_fits, made_ready, metered_is}
+use Rattle.pkload.proofs.Loading.{rows_within, split_at}
 use Rattle.pkload.proofs.Tolds.{NoneBehindStop, told_along}
 use Rattle.pkload.specs.Bill.{all_billed}
 use Rattle.pkload.specs.Loading.{KeepWithin, StaysWithin}
@@ -40,17 +41,11 @@ use Rattle.pkload.specs.declared.tolls.Tolls.{Tolls}
 
 -- what is reported stands before this place
 abbrev AreBelow : ℕ → List Report → Type 0
-AreBelow place [] = ⊤
-AreBelow place (r ∷ rs) = (r.at < place) × AreBelow place rs
-
-below_more : (place : ℕ) (rs qs : List Report) → AreBelow place rs → AreBelow place qs
-    → AreBelow place (rs ++ qs)
-below_more place [] qs h g = g
-below_more place (r ∷ rs) qs h g = (h.0, below_more place rs qs h.1 g)
+AreBelow place = All (λ r. r.at < place)
 
 below_later : (a b : ℕ) (rs : List Report) → a ≤ b → AreBelow a rs → AreBelow b rs
-below_later a b [] l h = tt
-below_later a b (r ∷ rs) l h = (omega (arith, l, h.0), below_later a b rs l h.1)
+below_later a b rs l h =
+    All-weaker (λ r. r.at < a) (λ r. r.at < b) (λ r k. omega (arith, l, k)) rs h
 
 module _ (setting : OldStrings) (beginning : Beginning) (from : ℕ) where
   abbrev AreReports : List Instruction → List Instruction → List Report → Type 0
@@ -67,14 +62,14 @@ module _ (setting : OldStrings) (beginning : Beginning) (from : ℕ) where
 
   reports_below : (before is : List Instruction) (rs : List Report) → AreReports before is rs
       → AreBelow (from + length (spellings (before ++ is))) rs
-  reports_below before is [] h = tt
+  reports_below before is [] h = All-nil _
   reports_below before [] (r ∷ rs) h = absurd h
-  reports_below before (i ∷ is) (r ∷ rs) h = (
-    subst (λ at. at < from + length (spellings (before ++ i ∷ is))) (sym h.0.place)
-        (report_below before is i),
-    subst (λ js. AreBelow (from + length (spellings js)) rs) (append_assoc before (i ∷ []) is)
-        (reports_below (before ++ i ∷ []) is rs h.1),
-  )
+  reports_below before (i ∷ is) (r ∷ rs) h =
+      All-cons (λ q. q.at < from + length (spellings (before ++ i ∷ is))) r rs
+      (subst (λ at. at < from + length (spellings (before ++ i ∷ is))) (sym h.0.place)
+      (report_below before is i))
+      (subst (λ js. AreBelow (from + length (spellings js)) rs) (append_assoc before (i ∷ []) is)
+      (reports_below (before ++ i ∷ []) is rs h.1))
 
   -- the reports of instructions in two parts
   record AreParted (before is js : List Instruction) (rs : List Report) : Type 0 where
@@ -115,10 +110,10 @@ module _ (loading : Loading) where
       → AreReportsOf false loading before ps rs
       → AreBelow (length (bytes_of_all (before ++ ps))) rs
   pickles_below before [] rs h =
-      subst (AreBelow (length (bytes_of_all (before ++ [])))) (sym h) tt
+      subst (AreBelow (length (bytes_of_all (before ++ [])))) (sym h) (All-nil _)
   pickles_below before (p ∷ ps) rs h =
       subst (AreBelow (length (bytes_of_all (before ++ p ∷ ps)))) (sym h.2)
-      (below_more (length (bytes_of_all (before ++ p ∷ ps))) h.0 h.1
+      (All-append (λ r. r.at < length (bytes_of_all (before ++ p ∷ ps))) h.0 h.1
       (below_later (length (bytes_of_all before) + length (spellings p.instructions))
       (length (bytes_of_all (before ++ p ∷ ps))) h.0 (omega (
         arith,
@@ -142,9 +137,10 @@ module _ (loading : Loading) (tolls : Tolls) where
   over_below : (excess : Excess) (at : ℕ) (n : Metering) (place : ℕ) (rs : List Report)
       (m : Metering) → Over excess at n rs m → AreBelow place rs → at < place
   over_below excess at n place [] m o h = absurd o
-  over_below excess at n place (r ∷ []) m o h = subst (λ k. k < place) (sym o.0) h.0
-  over_below excess at n place (r ∷ s ∷ rs) m o h =
-      over_below excess at n place (s ∷ rs) o.0 o.3 h.1
+  over_below excess at n place (r ∷ []) m o h =
+      subst (λ k. k < place) (sym o.0) (All-head (λ q. q.at < place) r [] h)
+  over_below excess at n place (r ∷ s ∷ rs) m o h = over_below excess at n place (s ∷ rs) o.0 o.3
+      (All-tail (λ q. q.at < place) r (s ∷ rs) h)
 
   -- no limit was exceeded before this place
   abbrev pub NoneIn : (place at : ℕ) → Metering → List Report → Option Excess → Type 0
@@ -215,7 +211,7 @@ module _ (loading : Loading) (tolls : Tolls) where
       → KeepWithin loading tolls [] before × StaysWithin loading tolls before is
   in_parts policy limits before old here is earlier next others place at n excess good stop e a h
       g none =
-      let b : AreBelow place (earlier ++ next) = below_more place earlier next
+      let b : AreBelow place (earlier ++ next) = All-append (λ r. r.at < place) earlier next
       (below_later (length (bytes_of_all before)) place earlier (omega (arith, e))
       (pickles_below loading [] before earlier h))
       (subst (λ k. AreBelow k next) (sym e) (reports_below loading.old_strings

@@ -1,7 +1,7 @@
 -- What two checks of the same bytes may say of one pickle.
 use Rattle.std.proofs.Common.{◌≡◌, ◌≢◌, ◌+◌, ◌≤◌, ℕ, ◌⊎◌, inl, inr, List, [], ◌∷◌, ◌++◌, length}
 use Rattle.std.proofs.Common.{append-nil, append_assoc, length-append, Option, Some, None, Result}
-use Rattle.std.proofs.Common.{Ok, Err, refl, sym, ap, subst, ◌∙◌, arith}
+use Rattle.std.proofs.Common.{Ok, refl, sym, ap, subst, ◌∙◌, arith}
 use Rattle.std.proofs.lemmas.Grind.{flat_map-append}
 use Rattle.std.proofs.lemmas.List.Elements.{All-head, All-tail}
 use Rattle.std.specs.Io.KnownBytes.{Consumes}
@@ -27,13 +27,13 @@ use Rattle.pkstack.specs.Shape.{Breach, and_then}
 use Rattle.pkcheck.specs.declared.loading.Loading.{Loading}
 use Rattle.pkmachine.specs.declared.memo.Memo.{Memo}
 use Rattle.pkmachine.specs.declared.memo.Memo.TheVariants.{Fresh, Kept}
-use Rattle.pkload.proofs.Costs.{all_front}
-use Rattle.pkload.proofs.Loading.{all_good, billed_more}
+use Rattle.pkload.proofs.Costs.{all_front, billed_with}
+use Rattle.pkload.proofs.Loading.{all_good, none_ends}
 use Rattle.pkload.proofs.Staying.{excess_stays}
-use Rattle.pkload.specs.Bill.{Bill, all_billed, bill_before, billed, no_bill, row_billed}
+use Rattle.pkload.specs.Bill.{Bill, all_billed, bill_before, no_bill, row_billed}
 use Rattle.pkload.specs.Costly.{ExceedsIn}
 use Rattle.pkload.specs.Loading.{CostsWithin, StaysWithin}
-use Rattle.pkload.specs.Tolls.{Exceeds, IsExcess, IsFirstExcess, KeepsWithin}
+use Rattle.pkload.specs.Tolls.{Exceeds, KeepsWithin}
 use Rattle.pkload.specs.declared.tally.Tally.{Tally}
 use Rattle.pkload.specs.declared.tolls.Excess.{Excess}
 use Rattle.pkload.specs.declared.tolls.Excess.TheVariants.{BuildsImport, DeepKey, HeavyKeys}
@@ -62,119 +62,36 @@ each_at : (P : Instruction → Type 0) (is : List Instruction) (i : Instruction)
 each_at P [] i js h = All-head P i js h
 each_at P (x ∷ is) i js h = each_at P is i js (All-tail P x (is ++ i ∷ js) h)
 
-none_ends : (is : List Instruction) (i : Instruction) (js : List Instruction)
-    → [] ≡ is ++ i ∷ js → ⊥
-none_ends [] i js e = cc
-none_ends (x ∷ is) i js e = cc
-
-same_tail : (i j : Instruction) (is js : List Instruction) → i ∷ is ≡ j ∷ js
-    → (i ≡ j) × (is ≡ js)
-same_tail i j is js e = (cc, cc)
-
 same_last : (is js : List Instruction) (i j : Instruction) → is ++ i ∷ [] ≡ js ++ j ∷ []
     → (is ≡ js) × (i ≡ j)
-same_last [] [] i j e = (refl, (same_tail i j [] [] e).0)
-same_last [] (y ∷ js) i j e =
-    absurd (none_ends js j [] (same_tail i y [] (js ++ j ∷ []) e).1)
-same_last (x ∷ is) [] i j e =
-    absurd (none_ends is i [] (sym (same_tail x j (is ++ i ∷ []) [] e).1))
-same_last (x ∷ is) (y ∷ js) i j e =
-    let t = same_tail x y (is ++ i ∷ []) (js ++ j ∷ []) e in
-    let s = same_last is js i j t.1 in
-    (ap (λ z. z ∷ is) t.0 ∙ ap (λ l. y ∷ l) s.0, s.1)
+same_last [] [] i j e = (refl, cc)
+same_last [] (y ∷ js) i j e = absurd (none_ends js j [] (cc))
+same_last (x ∷ is) [] i j e = absurd (none_ends is i [] (cc))
+same_last (x ∷ is) (y ∷ js) i j e = let s = same_last is js i j (cc) in (cc, s.1)
 
 -- what begins with more than the first list has more than it before its last
 split_last : (is js : List Instruction) (i j : Instruction) (more : List Instruction)
     → is ++ i ∷ [] ≡ js ++ j ∷ more → (between : List Instruction) × (is ≡ js ++ between)
 split_last is [] i j more e = (is, refl)
-split_last [] (y ∷ js) i j more e =
-    absurd (none_ends js j more (same_tail i y [] (js ++ j ∷ more) e).1)
+split_last [] (y ∷ js) i j more e = absurd (none_ends js j more (cc))
 split_last (x ∷ is) (y ∷ js) i j more e =
-    let t = same_tail x y (is ++ i ∷ []) (js ++ j ∷ more) e in
-    let s = split_last is js i j more t.1 in
-    (s.0, ap (λ z. z ∷ is) t.0 ∙ ap (λ l. y ∷ l) s.1)
+    let s = split_last is js i j more (cc) in (s.0, cc)
 
 -- ---- limits
 
-module _ (tolls : Tolls) (t : Tally) (m : ℕ) where
-  -- of two limits, the one that is tried earlier isn't exceeded
-  abbrev Not : Excess → Excess → Type 0
-  Not a b = IsExcess a tolls t m → IsFirstExcess b tolls t m → ⊥
-
-  deep_heavy : Not DeepKey HeavyKeys
-  deep_heavy e f = omega (arith, e, f)
-
-  deep_many : Not DeepKey ManyKeys
-  deep_many e f = omega (arith, e, f.0)
-
-  deep_much : Not DeepKey MuchMemory
-  deep_much e f = omega (arith, e, f.0)
-
-  deep_build : Not DeepKey BuildsImport
-  deep_build e f = omega (arith, e, f.0)
-
-  heavy_many : Not HeavyKeys ManyKeys
-  heavy_many (inl e) f = omega (arith, e, f.1)
-  heavy_many (inr e) f = omega (arith, e, f.2)
-
-  heavy_much : Not HeavyKeys MuchMemory
-  heavy_much (inl e) f = omega (arith, e, f.1)
-  heavy_much (inr e) f = omega (arith, e, f.2)
-
-  heavy_build : Not HeavyKeys BuildsImport
-  heavy_build (inl e) f = omega (arith, e, f.1)
-  heavy_build (inr e) f = omega (arith, e, f.2)
-
-  many_much : Not ManyKeys MuchMemory
-  many_much e f = omega (arith, e, f.3)
-
-  many_build : Not ManyKeys BuildsImport
-  many_build e f = omega (arith, e, f.3)
-
-  much_build : Not MuchMemory BuildsImport
-  much_build e f = omega (arith, e, f.4)
-
-  same_excess : (a b : Excess) → Exceeds a tolls t m → Exceeds b tolls t m → a ≡ b
-  same_excess DeepKey DeepKey h g = refl
-  same_excess DeepKey HeavyKeys h g = absurd (deep_heavy h.0 g.1)
-  same_excess DeepKey ManyKeys h g = absurd (deep_many h.0 g.1)
-  same_excess DeepKey MuchMemory h g = absurd (deep_much h.0 g.1)
-  same_excess DeepKey BuildsImport h g = absurd (deep_build h.0 g.1)
-  same_excess HeavyKeys DeepKey h g = absurd (deep_heavy g.0 h.1)
-  same_excess HeavyKeys HeavyKeys h g = refl
-  same_excess HeavyKeys ManyKeys h g = absurd (heavy_many h.0 g.1)
-  same_excess HeavyKeys MuchMemory h g = absurd (heavy_much h.0 g.1)
-  same_excess HeavyKeys BuildsImport h g = absurd (heavy_build h.0 g.1)
-  same_excess ManyKeys DeepKey h g = absurd (deep_many g.0 h.1)
-  same_excess ManyKeys HeavyKeys h g = absurd (heavy_many g.0 h.1)
-  same_excess ManyKeys ManyKeys h g = refl
-  same_excess ManyKeys MuchMemory h g = absurd (many_much h.0 g.1)
-  same_excess ManyKeys BuildsImport h g = absurd (many_build h.0 g.1)
-  same_excess MuchMemory DeepKey h g = absurd (deep_much g.0 h.1)
-  same_excess MuchMemory HeavyKeys h g = absurd (heavy_much g.0 h.1)
-  same_excess MuchMemory ManyKeys h g = absurd (many_much g.0 h.1)
-  same_excess MuchMemory MuchMemory h g = refl
-  same_excess MuchMemory BuildsImport h g = absurd (much_build h.0 g.1)
-  same_excess BuildsImport DeepKey h g = absurd (deep_build g.0 h.1)
-  same_excess BuildsImport HeavyKeys h g = absurd (heavy_build g.0 h.1)
-  same_excess BuildsImport ManyKeys h g = absurd (many_build g.0 h.1)
-  same_excess BuildsImport MuchMemory h g = absurd (much_build g.0 h.1)
-  same_excess BuildsImport BuildsImport h g = refl
-  same_excess OutOfMemory b h g = absurd h.0
-  same_excess DeepKey OutOfMemory h g = absurd g.0
-  same_excess HeavyKeys OutOfMemory h g = absurd g.0
-  same_excess ManyKeys OutOfMemory h g = absurd g.0
-  same_excess MuchMemory OutOfMemory h g = absurd g.0
-  same_excess BuildsImport OutOfMemory h g = absurd g.0
+-- of two limits, the one that is tried earlier isn't exceeded
+pub same_excess : (tolls : Tolls) (t : Tally) (m : ℕ) (a b : Excess) → Exceeds a tolls t m
+    → Exceeds b tolls t m → a ≡ b
+same_excess tolls t m DeepKey DeepKey h g = refl
+same_excess tolls t m HeavyKeys HeavyKeys h g = refl
+same_excess tolls t m ManyKeys ManyKeys h g = refl
+same_excess tolls t m MuchMemory MuchMemory h g = refl
+same_excess tolls t m BuildsImport BuildsImport h g = refl
+same_excess tolls t m OutOfMemory b h g = absurd h.0
+same_excess tolls t m a OutOfMemory h g = absurd g.0
+same_excess tolls t m _ _ h g = absurd (omega arith)
 
 -- ---- bills
-
-with_last : (is : List Instruction) (i : Instruction) (x : Result Bill Breach) (earlier bill : Bill)
-    → and_then x (all_billed is) ≡ Ok earlier → billed i earlier ≡ Ok bill
-    → and_then x (all_billed (is ++ i ∷ [])) ≡ Ok bill
-with_last is i (Ok b) earlier bill e h = billed_more is (i ∷ []) b
-    ∙ ap (λ y. and_then y (all_billed (i ∷ []))) e ∙ ap (λ y. and_then y (all_billed [])) h
-with_last is i (Err r) earlier bill e h = cc
 
 pub same_bill : (a b : Bill) → ◌≡◌ {A = Result Bill Breach} (Ok a) (Ok b) → a ≡ b
 same_bill a b e = cc
@@ -204,7 +121,7 @@ module _ (loading : Loading) (policy : Policy) (limits : Bounds) (tolls : Tolls)
   over_bill : (here : Sight) (at : ℕ) (excess : Excess) (e : Over here at excess)
       → and_then (bill_before (begins loading.memo xs)) (all_billed (e.instructions ++ e.last ∷ []))
       ≡ Ok e.bill
-  over_bill here at excess e = with_last e.instructions e.last
+  over_bill here at excess e = billed_with e.instructions e.last
       (bill_before (begins loading.memo xs)) e.earlier e.bill e.so_far e.adds
 
   -- what keeps within the limits doesn't begin with what exceeds one

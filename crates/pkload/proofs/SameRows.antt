@@ -3,7 +3,6 @@ use Rattle.std.proofs.Common.{◌≡◌, ◌+◌, ℕ, suc, ◌⊎◌, inl, inr,
 use Rattle.std.proofs.Common.{append-nil, append_assoc, length-append, Some, refl, sym, ap, subst}
 use Rattle.std.proofs.Common.{◌∙◌, arith}
 use Rattle.std.proofs.lemmas.Grind.{flat_map-append}
-use Rattle.std.proofs.lemmas.List.{map-append}
 use Rattle.std.specs.Io.KnownBytes.{IsAtEnd}
 use Rattle.std.specs.Prelude.{flat_map}
 use Rattle.pkops.specs.Limits.{Bounds}
@@ -16,6 +15,7 @@ use Rattle.pkmachine.specs.Knowledge.{Policy}
 use Rattle.pkcheck.specs.RowOfPickles.{AreAccepted, IsAcceptedBehind, bytes_of_all}
 use Rattle.pkmachine.specs.RowRuns.{Pickle, sequences_of}
 use Rattle.pkcheck.specs.declared.loading.Loading.{Loading}
+use Rattle.pkload.proofs.Loading.{sequences_with}
 use Rattle.pkload.proofs.SameBytes.{consumed}
 
 -- as many pickles with the same instructions
@@ -30,10 +30,6 @@ pub same_bytes : (xs ys : List Pickle) → sequences_of xs ≡ sequences_of ys
     → length (bytes_of_all xs) ≡ length (bytes_of_all ys)
 same_bytes xs ys e = ap (λ ps. length (flat_map spellings ps)) e
 
-pub sequences_with : (xs : List Pickle) (x : Pickle)
-    → sequences_of (xs ++ x ∷ []) ≡ sequences_of xs ++ x.instructions ∷ []
-sequences_with xs x = map-append (λ (z : Pickle). z.instructions) xs (x ∷ [])
-
 bytes_with : (xs : List Pickle) (x : Pickle)
     → length (bytes_of_all (xs ++ x ∷ []))
     ≡ length (bytes_of_all xs) + length (spellings x.instructions)
@@ -45,14 +41,14 @@ bytes_with xs x = ap (λ ps. length (flat_map spellings ps)) (sequences_with xs 
       ap length (append-nil (spellings x.instructions)),
     )
 
+pub none_spelled : (front : List Instruction) (i : Instruction)
+    → spellings (front ++ i ∷ []) ≡ [] → ⊥
+none_spelled [] i e = cc
+none_spelled (j ∷ front) i e = cc
+
 -- an accepted pickle takes bytes
 pub takes_some : (is : List Instruction) → StopIsLast is → spellings is ≡ [] → ⊥
 takes_some is s e = none_spelled s.0 s.1 (sym (ap spellings s.2) ∙ e)
-  where
-    none_spelled : (front : List Instruction) (i : Instruction)
-        → spellings (front ++ i ∷ []) ≡ [] → ⊥
-    none_spelled [] i e = cc
-    none_spelled (j ∷ front) i e = cc
 
 pub none_left : (here : Sight) (bytes : List ℕ) → here.left ≡ Some bytes → IsAtEnd here.left
     → bytes ≡ []

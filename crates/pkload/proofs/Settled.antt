@@ -1,6 +1,6 @@
 -- What the audience that keeps the bill says where a check ends.
-use Rattle.std.proofs.Common.{◌≡◌, ◌≤◌, ◌<◌, ℕ, false, List, [], Option, None, Some}
-use Rattle.std.proofs.Common.{Result, Ok, Err, IfOk, refl, sym, ap, subst}
+use Rattle.std.proofs.Common.{◌≡◌, ◌≤◌, ◌<◌, ℕ, false, List, [], Option, None, Some, Result, Ok}
+use Rattle.std.proofs.Common.{Err, IfOk, refl, sym, ap, subst}
 use Rattle.std.specs.Option.{MatchOption}
 use Rattle.std.specs.Prelude.{◌≢◌, ⊤, IfErr, MatchResult, option_map}
 use Rattle.pkops.specs.Limits.{Bounds}
@@ -24,9 +24,8 @@ use Rattle.pkload.proofs.Refusals.{NoneIn, refused_within}
 use Rattle.pkload.specs.Costly.{CostsTooMuch}
 use Rattle.pkload.specs.Loading.{AcceptedWithBill, AcceptedWithin, IsRefused, IsRightLoading}
 use Rattle.pkload.specs.Loading.{bill_of}
-use Rattle.pkload.specs.Private.Meter.{AllFit, IsOver, Meter, Meters, StopsFor}
+use Rattle.pkload.specs.Private.Meter.{Meter, Meters, StopsFor}
 use Rattle.pkload.specs.Private.Settled.{IsBilledAs, IsCostlyBy, NoneBefore}
-use Rattle.pkload.specs.Private.Told.{all_metered}
 use Rattle.pkload.specs.declared.checking.Costly.{Costly}
 use Rattle.pkload.specs.declared.checking.YesWithBill.{YesWithBill}
 use Rattle.pkload.specs.declared.tolls.Excess.{Excess}
@@ -34,32 +33,22 @@ use Rattle.pkload.specs.declared.tolls.Excess.TheVariants.{OutOfMemory}
 use Rattle.pkload.specs.declared.tolls.Tolls.{Tolls}
 
 module _ (loading : Loading) (policy : Policy) (limits : Bounds) (tolls : Tolls) (old new : Sight)
-    (x : Meter) (memo_is : x.memo ≡ loading.memo) (tolls_are : x.tolls ≡ tolls)
-    (begun : x.metering ≡ at_first) (none : x.excess ≡ None) (run : FaultlessIsRun) where
-  -- the limit that was exceeded is exceeded by what was told from the start
-  over_first : (y : Meter) (rs : List Report) (e : Excess) → Meters x y rs → y.excess ≡ Some e
-      → IsOver loading.memo tolls e y.at y.metering rs at_first
-  over_first y rs e told k =
-      subst (λ memo. IsOver memo tolls e y.at y.metering rs at_first) memo_is
-      (subst (λ t. IsOver x.memo t e y.at y.metering rs at_first) tolls_are
-      (subst (IsOver x.memo x.tolls e y.at y.metering rs) begun (told.over e none k)))
-
-  is_metered : (y : Meter) (rs : List Report) → Meters x y rs → y.excess ≡ None
-      → all_metered loading.memo rs at_first ≡ Ok y.metering
-  is_metered y rs told e = subst (λ k. all_metered k rs at_first ≡ Ok y.metering) memo_is
-      (subst (λ m. all_metered x.memo rs m ≡ Ok y.metering) begun (told.is e))
-
-  all_fit : (y : Meter) (rs : List Report) → Meters x y rs → y.excess ≡ None
-      → AllFit loading.memo tolls rs at_first
-  all_fit y rs told e = subst (λ k. AllFit k tolls rs at_first) memo_is
-      (subst (λ t. AllFit x.memo t rs at_first) tolls_are
-      (subst (AllFit x.memo x.tolls rs) begun (told.fits e)))
+    (run : FaultlessIsRun) where
+  -- the audience at the first instruction
+  abbrev begun : Meter
+  begun = record {
+    metering = at_first;
+    tolls = tolls;
+    memo = loading.memo;
+    excess = None;
+    at = 0;
+  }
 
   none_before : (y : Meter) (rs : List Report) (place : ℕ) (excess : Option Excess)
-      → Meters x y rs → y.excess ≡ excess → MatchOption excess ⊤ (λ _. place ≤ y.at)
+      → Meters begun y rs → y.excess ≡ excess → MatchOption excess ⊤ (λ _. place ≤ y.at)
       → NoneIn loading tolls place y.at y.metering rs excess
-  none_before y rs place None told e h = (is_metered y rs told e, all_fit y rs told e)
-  none_before y rs place (Some excess) told e h = (h, over_first y rs excess told e)
+  none_before y rs place None told e h = (told.is e, told.fits e)
+  none_before y rs place (Some excess) told e h = (h, told.over excess refl e)
 
   with_last : (y : Meter) (extent : Extent) (accepted : YesAll) (billed : YesWithBill)
       → IsBilledAs y (Ok accepted) (Ok billed)
@@ -110,32 +99,31 @@ module _ (loading : Loading) (policy : Policy) (limits : Bounds) (tolls : Tolls)
 
   right_loading : (y : Meter) (rs : List Report) (extent : Extent)
       (answer : Result YesAll RefusedPickle) (billed : Result YesWithBill RefusedPickle)
-      → Meters x y rs → IsToldTo extent rs answer → IsBilledAs y answer billed
+      → Meters begun y rs → IsToldTo extent rs answer → IsBilledAs y answer billed
       → IfOk billed (λ _. y.excess ≡ None)
       → IfErr billed (λ refusal. NoneBefore refusal.no.at y)
       → IsRightLoading loading policy limits tolls old new extent billed
   right_loading y rs ToTheEnd (Ok accepted) (Ok billed) told h same e q =
       let row = rows_within tolls loading policy limits h.0.row [] old new rs at_first y.metering
       h.0.each h.1 (begins_ready tolls loading) (begins_within tolls loading)
-      (is_metered y rs told e) (all_fit y rs told e) in
+      (told.is e) (told.fits e) in
       with_last y ToTheEnd accepted billed same (h.0, row.0.0)
       (last_is tolls loading h.0.row [] y.metering
       (λ none. h.0.is_row.some (ap sequences_of none)) row.0)
   right_loading y rs OnePickle (Ok accepted) (Ok billed) told h same e q =
       let one = pickle_within tolls loading limits 0 [] h.0.instructions rs at_first y.metering
       h.0.sequence h.1 (begins_ready tolls loading) (begins_within tolls loading)
-      (is_metered y rs told e) (all_fit y rs told e) in
+      (told.is e) (told.fits e) in
       with_last y OnePickle accepted billed same (h.0, one.costs, h.2) (ap Some one.same)
   right_loading y rs extent (Err refused) (Err refusal) told h same e q =
       subst (λ r. IsRefused loading policy limits tolls old new extent r) (sym same)
       (right_refusal y rs extent refused h (none_before y rs refused.no.at y.excess told refl
       (subst (λ r. NoneBefore r.no.at y) same q)))
-  right_loading y rs extent (Ok accepted) (Err refusal) told h same e q = absurd same
-  right_loading y rs extent (Err refused) (Ok billed) told h same e q = absurd same
+  right_loading y rs extent _ _ told h same e q = absurd same
 
   pub settled_loading : {E : Type 0} (y : Meter) (rs : List Report) (extent : Extent)
       (settled : Result (Result YesWithBill RefusedPickle) E)
-      (answer : Result YesAll RefusedPickle) → Meters x y rs → IsToldTo extent rs answer
+      (answer : Result YesAll RefusedPickle) → Meters begun y rs → IsToldTo extent rs answer
       → IfOk settled (IsBilledAs y answer)
       → IfOk settled (λ billed. IfOk billed (λ _. y.excess ≡ None))
       → IfOk settled (λ billed. IfErr billed (λ refusal. NoneBefore refusal.no.at y))
@@ -145,21 +133,21 @@ module _ (loading : Loading) (policy : Policy) (limits : Bounds) (tolls : Tolls)
   settled_loading y rs extent (Err costly) answer told h same e q = tt
 
   by_answer : (y : Meter) (rs : List Report) (extent : Extent)
-      (answer : Result YesAll RefusedPickle) (costly : Costly) → Meters x y rs
+      (answer : Result YesAll RefusedPickle) (costly : Costly) → Meters begun y rs
       → IsToldTo extent rs answer → IsCostlyBy y answer costly → costly.excess ≢ OutOfMemory
       → CostsTooMuch loading policy limits tolls old extent y.metering.pickle y.at costly.excess
   by_answer y rs extent (Ok accepted) costly told h k ne =
-      accepted_over loading policy limits tolls costly.excess y.at y.metering run ne old new extent
+      accepted_over loading policy limits tolls costly.excess ne y.at y.metering run old new extent
       accepted.taken accepted.pickles accepted.imports rs h
-      (over_first y rs costly.excess told k.excess)
+      (told.over costly.excess refl k.excess)
   by_answer y rs extent (Err refused) costly told h k ne =
-      refused_over loading policy limits tolls costly.excess y.at y.metering run ne old new extent
+      refused_over loading policy limits tolls costly.excess ne y.at y.metering run old new extent
       refused.pickle refused.no.at refused.no.reason (option_map asked_shown refused.no.pair)
       refused.imports rs h (subst (λ at. at < refused.no.at) k.at k.later)
-      (over_first y rs costly.excess told k.excess)
+      (told.over costly.excess refl k.excess)
 
   pub settled_over : {A : Type 0} (y : Meter) (rs : List Report) (extent : Extent)
-      (settled : Result A Costly) (answer : Result YesAll RefusedPickle) → Meters x y rs
+      (settled : Result A Costly) (answer : Result YesAll RefusedPickle) → Meters begun y rs
       → IsToldTo extent rs answer → IfErr settled (IsCostlyBy y answer)
       → IfErr settled (IsRightCostly extent)
   settled_over y rs extent (Ok a) answer told h k = tt
@@ -171,11 +159,11 @@ module _ (loading : Loading) (policy : Policy) (limits : Bounds) (tolls : Tolls)
 
   pub stopped_right : (z : Meter) (extent : Extent) (excess : Excess) (costly : Costly)
       → StopsTold false loading policy limits old new Meters
-      (λ before after told error. StopsFor before after error) x z extent excess
+      (λ before after told error. StopsFor before after error) begun z extent excess
       → costly ≡ record { pickle = z.metering.pickle; at = z.at; excess = excess }
       → IsRightCostly extent costly
   stopped_right z extent excess costly h same = subst (IsRightCostly extent) (sym same) (λ ne.
       subst (λ m. CostsTooMuch loading policy limits tolls old extent m.metering.pickle m.at
       excess) (sym h.5.same)
-      (stopped_over loading policy limits tolls excess h.2.at h.2.metering run ne old new extent h.0
-      h.1 h.3 (over_first h.2 h.0 excess h.4 h.5.named)))
+      (stopped_over loading policy limits tolls excess ne h.2.at h.2.metering run old new extent h.0
+      h.1 h.3 (h.4.over excess refl h.5.named)))

@@ -1,14 +1,14 @@
 -- How the entries of the stack change with its codes, and what the slice above its mark is.
 use Rattle.std.proofs.Common.{◌≡◌, ◌+◌, ◌-◌, ◌≤◌, ℕ, zero, suc, List, [], ◌∷◌, ◌++◌, length, take}
 use Rattle.std.proofs.Common.{Result, Ok, Err, get_or, refl, sym, ap, ◌∙◌, arith, drop, map, set}
-use Rattle.std.proofs.Common.{append-nil, length-append, reverse}
+use Rattle.std.proofs.Common.{append-nil, length-append, reverse, ◌<◌, subst}
 use Rattle.std.proofs.Math.Seq.{take-length, take-suc}
-use Rattle.std.proofs.lemmas.List.{get_or-set_same, length-drop, length-reverse, length-set}
+use Rattle.std.proofs.lemmas.List.{get_or-set_same, length-drop, length-map, length-reverse, length-set}
 use Rattle.std.proofs.lemmas.List.{length-take-le, reverse-append, take-set, take-take}
 use Rattle.std.proofs.lemmas.List.{take-append-drop}
 use Rattle.pkstack.specs.Shape.{Breach, Entry, Item, Mark, Taken, items, slice}
 use Rattle.pkload.specs.Heft.{Heft}
-use Rattle.pkload.specs.Private.Billing.{HasItems}
+use Rattle.pkload.specs.Private.Billing.{HasItems, HasReplaced, HasSlice}
 use Rattle.pkload.specs.Private.Packed.{unpacked}
 use Rattle.pkload.specs.Private.Shown.{HasObjects, entries_of, shown}
 
@@ -21,16 +21,6 @@ pushed_object fence codes code within =
     omega (arith, within, length-append codes (code ∷ [])) in
     ap (shown (length (codes ++ code ∷ []) - fence)) (reverse-append codes (code ∷ []))
     ∙ ap (λ n. shown n (code ∷ reverse codes)) more
-
-pub pushed_mark : (fence : ℕ) (codes : List ℕ)
-    → entries_of (length codes + 1) (codes ++ fence ∷ []) ≡ Mark ∷ entries_of fence codes
-pushed_mark fence codes =
-    let none : length (codes ++ fence ∷ []) - (length codes + 1) ≡ 0 =
-    omega (arith, length-append codes (fence ∷ [])) in
-    ap (shown (length (codes ++ fence ∷ []) - (length codes + 1)))
-    (reverse-append codes (fence ∷ []))
-    ∙ ap (λ n. shown n (fence ∷ reverse codes)) none
-    ∙ ap (λ n. Mark ∷ shown (n - fence) (reverse codes)) (length-reverse codes)
 
 -- above the topmost mark, the last code is that of the object on top
 pub object_on_top : (fence n : ℕ) (codes : List ℕ) (d : ℕ) → length codes ≡ suc n → fence ≤ n
@@ -156,15 +146,53 @@ sliced place codes d within =
     ∙ ap (λ n. slice (Mark ∷ shown (n - outer) (reverse (take place codes))) hefts)
     (length-reverse (take place codes))
 
+-- likewise, with the number of its objects
+pub slice_shown : (fence place : ℕ) (codes : List ℕ) → fence ≡ suc place → fence ≤ length codes
+    → HasSlice (entries_of fence codes) (entries_of (get_or codes place 0) (take place codes))
+    (length codes - fence)
+slice_shown fence place codes is within = record {
+  hefts = map unpacked (drop (suc place) codes);
+  is = ap (λ n. slice (entries_of n codes) []) is
+      ∙ sliced place codes 0 (omega (arith, is, within));
+  count_is = omega (
+    arith,
+    is,
+    length-map (drop (suc place) codes) unpacked,
+    length-drop (suc place) codes,
+  );
+}
+
+-- likewise, and an object that is put in place of the slice lies above what lies below it
+pub slice_replaced : (fence place : ℕ) (codes : List ℕ) (code : ℕ) (heft : Heft)
+    → fence ≡ suc place → fence ≤ length codes → get_or codes place 0 < fence
+    → unpacked code ≡ heft
+    → HasReplaced (entries_of fence codes)
+    (entries_of (get_or codes place 0) (take place codes ++ code ∷ [])) heft
+    (length codes - fence)
+slice_replaced fence place codes code heft is within lower shown_is = record {
+  below = entries_of (get_or codes place 0) (take place codes);
+  found = slice_shown fence place codes is within;
+  new_is = pushed_object (get_or codes place 0) (take place codes) code
+      (omega (arith, is, lower, length-take-le place codes (omega (arith, is, within))))
+      ∙ ap (λ h. Item h ∷ entries_of (get_or codes place 0) (take place codes)) shown_is;
+}
+
 abbrev taken_in : Result (Taken Heft) Breach → Taken Heft
 taken_in (Ok taken) = taken
 taken_in (Err breach) = record { operands = []; below = [] }
 
-pub objects_shown : (fence : ℕ) (codes : List ℕ) → fence ≤ length codes
+drop_shown : (fence : ℕ) (codes : List ℕ) → fence ≤ length codes
     → HasObjects (entries_of fence codes) (drop fence codes)
-objects_shown zero codes within taken is = cc (sym (all_passed zero codes within) ∙ is)
-objects_shown (suc place) codes within taken is =
+drop_shown zero codes within taken is = cc (sym (all_passed zero codes within) ∙ is)
+drop_shown (suc place) codes within taken is =
     ap (λ r. (taken_in r).operands) (sym is ∙ sliced place codes 0 within)
+
+-- the codes from the fence on are those of the objects above the topmost mark
+pub objects_shown : (fence : ℕ) (codes : List ℕ) → fence ≤ length codes
+    → HasObjects (entries_of fence codes) (take (length codes - fence) (drop fence codes))
+objects_shown fence codes within = subst (HasObjects (entries_of fence codes))
+    (sym (ap (λ n. take n (drop fence codes)) (sym (length-drop fence codes))
+    ∙ take-length (drop fence codes))) (drop_shown fence codes within)
 
 slice_grows : (entries : List (Entry Heft)) (above : List Heft) (taken : Taken Heft)
     → slice entries above ≡ Ok taken → length above ≤ length taken.operands

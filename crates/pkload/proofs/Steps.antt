@@ -1,8 +1,7 @@
 -- Each step of a run costs what the step of the bill says, as a reading of the bill means it.
-use Rattle.std.proofs.Common.{◌≡◌, ℕ, ◌+◌, ◌≤◌, Bool, true}
-use Rattle.std.proofs.Common.{false, cond, List, [], ◌∷◌, ◌++◌, length}
-use Rattle.std.proofs.Common.{map, Option, Some, None, Result, Ok, Err, refl, sym, ap, subst, ◌∙◌}
-use Rattle.std.proofs.Common.{arith, length-append, ltb}
+use Rattle.std.proofs.Common.{◌≡◌, ℕ, ◌+◌, ◌≤◌, Bool, true, false, cond, List, [], ◌∷◌, ◌++◌}
+use Rattle.std.proofs.Common.{length, map, Option, Some, None, Result, Ok, Err, refl, sym, ap}
+use Rattle.std.proofs.Common.{subst, ◌∙◌, arith, length-append, ltb}
 use Rattle.std.proofs.lemmas.Bool.{ltb-true}
 use Rattle.std.specs.Prelude.{⊤, unwrap_or}
 use Rattle.std.specs.Char.{is_ascii}
@@ -12,6 +11,7 @@ use Rattle.pkops.specs.Operands.{memo_number}
 use Rattle.pkops.specs.Spelling.{Instruction}
 use Rattle.pkmachine.specs.declared.effect.Names.{Names}
 use Rattle.pkmachine.specs.declared.effect.Gives.{Gives}
+use Rattle.pkmachine.specs.declared.effect.Wanted.{Wanted}
 use Rattle.pkstack.specs.declared.Move.{Move}
 use Rattle.pkmachine.specs.declared.effect.Gives.TheVariants.{Makes, MakesIntOrBool, MakesText}
 use Rattle.pkmachine.specs.declared.effect.Gives.TheVariants.{MayMake, Answers, Leaves}
@@ -24,18 +24,16 @@ use Rattle.pkmachine.specs.Covers.{Alike, AlikeEntry}
 use Rattle.pkmachine.specs.Effects.{Effect, Operates, Moves, Stops, Raises, answers, ascii_string}
 use Rattle.pkmachine.specs.Effects.{effect_as, effect_of, is_old_string, pushes}
 use Rattle.pkcheck.specs.NewRuns.{If}
-use Rattle.pkmachine.specs.Runs.{Did, Event, Foreign, Go, Import, Named, NoImport, NotTexts, Object}
+use Rattle.pkmachine.specs.Runs.{Did, Foreign, Go, Import, Named, NoImport, NotTexts, Object}
 use Rattle.pkmachine.specs.Runs.{ObjectClass, Outcome, Pair, Raise, Raised, State, Stepped, Stopped}
-use Rattle.pkmachine.specs.Runs.{Stuck, WentOn, asks, class_at, come_of, effect_asks}
-use Rattle.pkmachine.specs.Runs.{gone_on, move_step, named, operate_step, operated, perform}
-use Rattle.pkmachine.specs.Runs.{step_as}
+use Rattle.pkmachine.specs.Runs.{Stuck, WentOn, asks, class_at, come_of, effect_asks, gone_on}
+use Rattle.pkmachine.specs.Runs.{move_step, named, operate_step, operated, perform, step_as}
 use Rattle.pkmachine.specs.Runs.{stop_step, with_answer, with_event}
-use Rattle.pkstack.specs.Shape.{Breach, NoItem, Entry, Item, Shape}
-use Rattle.pkstack.specs.Shape.{Taken, front, moved, operands, put, top}
+use Rattle.pkstack.specs.Shape.{Breach, NoItem, Entry, Item, Shape, Taken, front, moved, operands}
+use Rattle.pkstack.specs.Shape.{put, top}
 use Rattle.pkload.proofs.Accounts.{along_end, next_is_new, nothing_counted, since_end}
 use Rattle.pkload.proofs.Alike.{Alike-map, AlikeTaken, AlikeTop, Pointwise-append, SameResult}
 use Rattle.pkload.proofs.Alike.{front_alike, moved_alike, operands_alike, top_alike}
-use Rattle.pkload.proofs.Pushed.{pushed}
 use Rattle.pkload.proofs.Weights.{again_count, again_some, answers_light, made_some}
 use Rattle.pkload.proofs.Weights.{old_string_answers, some_more}
 use Rattle.pkload.proofs.Readings.{AreSome, IsLightAnswer, IsLightGiven, IsLightIn, Reading}
@@ -48,9 +46,13 @@ use Rattle.pkload.specs.Weighed.{account_of, answered_again, heft_at, hefts_with
 use Rattle.pkload.specs.Weighed.{tally_since}
 
 module _ (r : Reading) (n : ℕ) where
+  -- what is said of an object is so in this state of the run
+  abbrev Weighs : State → Heft → ℕ → Type 0
+  Weighs s = r.Weighs (account_of s.events).hefts
+
   -- the bill is that of the run behind these events, and the account has each object of the run
   pub record Billed (b : Bill) (s : State) : Type 0 where
-    pub shape : Alike (r.Weighs (account_of s.events).hefts) b.shape s.shape
+    pub shape : Alike (Weighs s) b.shape s.shape
     pub tally : r.Counts (tally_since n s.events) b.tally
     pub count : length (account_of s.events).hefts ≡ length s.objects
     pub some : AreSome (account_of s.events).hefts
@@ -68,15 +70,12 @@ module _ (r : Reading) (n : ℕ) where
 
   -- the bill after an operation on these operands
   abbrev after : Gives → Instruction → Taken Heft → Bill → Bill
-  after gives i t b = record {
-    shape = record {
+  after gives i t b = record b {
+    shape = record b.shape {
       entries = put (heft_given gives i t.operands) t.operands ++ t.below;
-      memo = b.shape.memo;
     };
     tally = with_operation i.op t.operands b.tally;
     memory = b.memory + operation_memory i (length t.operands);
-    highest = b.highest;
-    ended = b.ended;
   }
 
   -- an answer is one that may come
@@ -85,15 +84,22 @@ module _ (r : Reading) (n : ℕ) where
   MayIfAnswer gives i s n c = ⊤
 
   module _ (i : Instruction) (t : Taken Heft) (u : Taken ℕ) (b : Bill) (s : State) (h : Billed b s)
-      (a : AlikeTaken (r.Weighs (account_of s.events).hefts) t u) where
+      (a : AlikeTaken (Weighs s) t u) where
     abbrev hefts : List Heft
     hefts = (account_of s.events).hefts
 
-    account_then : (d : Option ℕ) → account_of (s.events ++ Did i u.operands d ∷ []) ≡ record {
-      hefts = hefts_with i u.operands d hefts;
-      tally = with_operation i.op (map (heft_at hefts) u.operands) (account_of s.events).tally;
+    -- the run after it gave this, with these objects
+    abbrev state_then : Option ℕ → List Object → State
+    state_then d objects = record {
+      shape = record { entries = put d u.operands ++ u.below; memo = s.shape.memo };
+      objects = objects;
+      events = s.events ++ Did i u.operands d ∷ [];
     }
-    account_then d = along_end no_account s.events (Did i u.operands d)
+
+    hefts_then : (d : Option ℕ) (objects : List Object)
+        → (account_of (state_then d objects).events).hefts ≡ hefts_with i u.operands d hefts
+    hefts_then d objects =
+        ap (λ x. x.hefts) (along_end no_account s.events (Did i u.operands d))
 
     tally_then : (d : Option ℕ)
         → r.Counts (tally_since n (s.events ++ Did i u.operands d ∷ []))
@@ -103,124 +109,85 @@ module _ (r : Reading) (n : ℕ) where
         (r.counted i.op hefts t.operands u.operands (tally_since n s.events) b.tally a.operands
         h.tally)
 
-    further : (e : Event) → n ≤ length (s.events ++ e ∷ [])
-    further e = omega (arith, h.behind, length-append s.events (e ∷ []))
+    -- an operation that gave this is billed, if the objects cost this afterwards
+    billed_then : (gives : Gives) (d : Option ℕ) (objects : List Object) (now : List Heft)
+        → hefts_with i u.operands d hefts ≡ now
+        → Alike (r.Weighs now) (after gives i t b).shape (state_then d objects).shape
+        → length now ≡ length objects → AreSome now
+        → Billed (after gives i t b) (state_then d objects)
+    billed_then gives d objects now is shape count some =
+        let same = hefts_then d objects ∙ is in
+        record {
+          shape = subst (λ l. Alike (r.Weighs l) (after gives i t b).shape (state_then d objects).shape)
+              (sym same) shape;
+          tally = tally_then d;
+          count = ap length same ∙ count;
+          some = subst AreSome (sym same) some;
+          behind = omega (arith, h.behind, length-append s.events (Did i u.operands d ∷ []));
+        }
 
-    abbrev another : Heft
-    another = heft_of i (map (heft_at hefts) u.operands)
-
-    hefts_then : (account_of (s.events ++ Did i u.operands (Some (length s.objects)) ∷ [])).hefts
-        ≡ hefts ++ another ∷ []
-    hefts_then = ap (λ x. x.hefts) (account_then (Some (length s.objects)))
-        ∙ subst (λ n. hefts_with i u.operands (Some n) hefts ≡ hefts ++ another ∷ []) h.count
-        (next_is_new i u.operands hefts)
+    -- an object is pushed, and all others cost what was said of them
+    pushed : (now : List Heft)
+        → ((heft : Heft) (k : ℕ) → r.Weighs hefts heft k → r.Weighs now heft k)
+        → (heft : Heft) (number : ℕ) → r.Weighs now heft number
+        → Alike (r.Weighs now) (record { entries = Item heft ∷ t.below; memo = b.shape.memo })
+        (record { entries = Item number ∷ u.below; memo = s.shape.memo })
+    pushed now kept heft number w =
+        let old = Alike-map (r.Weighs hefts) (r.Weighs now) kept
+        (record { entries = t.below; memo = b.shape.memo })
+        (record { entries = u.below; memo = s.shape.memo })
+        (record { entries = a.below; memo = h.shape.memo }) in
+        record { entries = (w, old.entries); memo = old.memo }
 
     -- an operation that gives a new object
     new_result : (o : Object)
-        → Billed (record {
-          shape = record {
-            entries = Item (heft_of i t.operands) ∷ t.below;
-            memo = b.shape.memo;
-          };
-          tally = with_operation i.op t.operands b.tally;
-          memory = b.memory + operation_memory i (length t.operands);
-          highest = b.highest;
-          ended = b.ended;
-        }) (record {
-          shape = record { entries = Item (length s.objects) ∷ u.below; memo = s.shape.memo };
-          objects = s.objects ++ o ∷ [];
-          events = s.events ++ Did i u.operands (Some (length s.objects)) ∷ [];
-        })
-    new_result o = record {
-      shape = subst (λ hs. Alike (r.Weighs hs) (record {
-        entries = Item (heft_of i t.operands) ∷ t.below;
-        memo = b.shape.memo;
-      }) (record { entries = Item (length s.objects) ∷ u.below; memo = s.shape.memo }))
-          (sym hefts_then)
-          (pushed r hefts another (heft_of i t.operands) s.objects t.below u.below b.shape.memo
-          s.shape.memo h.count (r.made hefts i t.operands u.operands a.operands) a.below
-          h.shape.memo);
-      tally = tally_then (Some (length s.objects));
-      count = ap length hefts_then ∙ omega (
-        arith,
-        h.count,
-        length-append hefts (another ∷ []),
-        length-append s.objects (o ∷ []),
-      );
-      some = subst AreSome (sym hefts_then) (some_more hefts another h.some (made_some i.op
-          (argument_size i.arg) (map (heft_at hefts) u.operands)));
-      behind = further (Did i u.operands (Some (length s.objects)));
-    }
+        → Billed (after Answers i t b) (state_then (Some (length s.objects)) (s.objects ++ o ∷ []))
+    new_result o =
+        let another = heft_of i (map (heft_at hefts) u.operands) in
+        billed_then Answers (Some (length s.objects)) (s.objects ++ o ∷ []) (hefts ++ another ∷ [])
+        (subst (λ k. hefts_with i u.operands (Some k) hefts ≡ hefts ++ another ∷ []) h.count
+        (next_is_new i u.operands hefts))
+        (pushed (hefts ++ another ∷ []) (r.kept hefts another) (heft_of i t.operands)
+        (length s.objects)
+        (subst (r.Weighs (hefts ++ another ∷ []) (heft_of i t.operands)) h.count
+        (r.made hefts i t.operands u.operands a.operands)))
+        (omega (
+          arith,
+          h.count,
+          length-append hefts (another ∷ []),
+          length-append s.objects (o ∷ []),
+        ))
+        (some_more hefts another h.some (made_some i.op (argument_size i.arg)
+        (map (heft_at hefts) u.operands)))
 
     -- an operation that answers an earlier object
     earlier_result : (number : ℕ) (c : ObjectClass) → IsLightAnswer i.op
         → r.May i s (Go number c) → ltb number (length s.objects) ≡ true
-        → Billed (after Answers i t b) (record {
-          shape = record { entries = Item number ∷ u.below; memo = s.shape.memo };
-          objects = s.objects;
-          events = s.events ++ Did i u.operands (Some number) ∷ [];
-        })
+        → Billed (after Answers i t b) (state_then (Some number) s.objects)
     earlier_result number c light w e =
         let k = r.again hefts i t.operands s number c w h.count
         (ltb-true number (length s.objects) e) h.some light in
-        let old = Alike-map (r.Weighs hefts) (r.Weighs (answered_again i number hefts)) k.kept
-        (record { entries = t.below; memo = b.shape.memo })
-        (record { entries = u.below; memo = s.shape.memo })
-        (record { entries = a.below; memo = h.shape.memo }) in
-        let same : (account_of (s.events ++ Did i u.operands (Some number) ∷ [])).hefts
-        ≡ answered_again i number hefts =
-        ap (λ x. x.hefts) (account_then (Some number))
-        ∙ ap (λ q. cond q (answered_again i number hefts) (hefts ++ another ∷ []))
-        (ap (ltb number) h.count ∙ e) in
-        record {
-          shape = subst (λ hs. Alike (r.Weighs hs) (record {
-            entries = Item (heft_of i t.operands) ∷ t.below;
-            memo = b.shape.memo;
-          }) (record { entries = Item number ∷ u.below; memo = s.shape.memo }))
-              (sym same) (record { entries = (k.is, old.entries); memo = old.memo });
-          tally = tally_then (Some number);
-          count = ap length same ∙ again_count i number hefts ∙ h.count;
-          some = subst AreSome (sym same) (again_some i number hefts h.some);
-          behind = further (Did i u.operands (Some number));
-        }
+        let another = heft_of i (map (heft_at hefts) u.operands) in
+        billed_then Answers (Some number) s.objects (answered_again i number hefts)
+        (ap (λ q. cond q (answered_again i number hefts) (hefts ++ another ∷ []))
+        (ap (ltb number) h.count ∙ e))
+        (pushed (answered_again i number hefts) k.kept (heft_of i t.operands) number k.is)
+        (again_count i number hefts ∙ h.count) (again_some i number hefts h.some)
 
     -- an operation that leaves its receiver
-    leaves : Billed (record {
-      shape = record { entries = front t.operands ++ t.below; memo = b.shape.memo };
-      tally = with_operation i.op t.operands b.tally;
-      memory = b.memory + operation_memory i (length t.operands);
-      highest = b.highest;
-      ended = b.ended;
-    }) (record {
-      shape = record { entries = front u.operands ++ u.below; memo = s.shape.memo };
-      objects = s.objects;
-      events = s.events ++ Did i u.operands None ∷ [];
-    })
-    leaves = record {
-      shape = subst (λ hs. Alike (r.Weighs hs)
-          (record { entries = front t.operands ++ t.below; memo = b.shape.memo })
-          (record { entries = front u.operands ++ u.below; memo = s.shape.memo }))
-          (sym (ap (λ x. x.hefts) (account_then None)))
-          (record {
-            entries = Pointwise-append (AlikeEntry (r.Weighs hefts)) (front t.operands)
-                (front u.operands) t.below u.below
-                (front_alike (r.Weighs hefts) t.operands u.operands a.operands) a.below;
-            memo = h.shape.memo;
-          });
-      tally = tally_then None;
-      count = ap (λ x. length x.hefts) (account_then None) ∙ h.count;
-      some = subst AreSome (sym (ap (λ x. x.hefts) (account_then None))) h.some;
-      behind = further (Did i u.operands None);
-    }
+    leaves : (wanted : Wanted) → Billed (after (Leaves wanted) i t b) (state_then None s.objects)
+    leaves wanted = billed_then (Leaves wanted) None s.objects hefts refl
+        (record {
+          entries = Pointwise-append (AlikeEntry (r.Weighs hefts)) (front t.operands)
+              (front u.operands) t.below u.below
+              (front_alike (r.Weighs hefts) t.operands u.operands a.operands) a.below;
+          memo = h.shape.memo;
+        }) h.count h.some
 
     by_number : (q : Bool) (number : ℕ) (c : ObjectClass) → IsLightAnswer i.op
         → r.May i s (Go number c) → ltb number (length s.objects) ≡ q
         → StepBilled (after Answers i t b) (WentOn (let x = cond {A = Option ℕ × List Object} q
-        (Some number, s.objects) (Some (length s.objects), with_answer c s.objects) in record {
-          shape = record { entries = put x.0 u.operands ++ u.below; memo = s.shape.memo };
-          objects = x.1;
-          events = s.events ++ Did i u.operands x.0 ∷ [];
-        }))
+        (Some number, s.objects) (Some (length s.objects), with_answer c s.objects) in state_then x.0 x.1))
     by_number true number c light w e = earlier_result number c light w e
     by_number false number c light w e = new_result _
 
@@ -231,7 +198,7 @@ module _ (r : Reading) (n : ℕ) where
     went_on MakesIntOrBool number c light w = new_result _
     went_on MakesText number c light w = new_result _
     went_on (MayMake k) number c light w = new_result _
-    went_on (Leaves k) number c light w = leaves
+    went_on (Leaves k) number c light w = leaves k
     went_on Answers number c light w =
         by_number (ltb number (length s.objects)) number c light w refl
 
@@ -266,7 +233,7 @@ module _ (r : Reading) (n : ℕ) where
 
   operates : (nm : Named) (gives : Gives) (i : Instruction) (t : Taken Heft) (u : Taken ℕ)
       (b : Bill) (s : State) (o : Outcome) → IsLightGiven gives i.op → Billed b s
-      → AlikeTaken (r.Weighs (account_of s.events).hefts) t u → If (asks gives) (r.May i s o)
+      → AlikeTaken (Weighs s) t u → If (asks gives) (r.May i s o)
       → StepBilled (after gives i t b) (operated nm gives i u o s)
   operates NoImport gives i t u b s o light h a w = comes i t u b s h a gives o light w
   operates (Pair m k) gives i t u b s o light h a w =
@@ -282,7 +249,7 @@ module _ (r : Reading) (n : ℕ) where
   operate_billed : (names : Names) (gives : Gives) (i : Instruction) (b : Bill) (s : State)
       (o : Outcome) (x : Result (Taken Heft) Breach) (y : Result (Taken ℕ) Breach)
       → IsLightGiven gives i.op → Billed b s
-      → SameResult (AlikeTaken (r.Weighs (account_of s.events).hefts)) x y
+      → SameResult (AlikeTaken (Weighs s)) x y
       → If (asks gives) (r.May i s o)
       → IfBilled (operation_billed gives i b x) (operate_step names gives i o s y)
   operate_billed names gives i b s o (Ok t) (Ok u) light h a w =
@@ -291,8 +258,7 @@ module _ (r : Reading) (n : ℕ) where
   operate_billed names gives i b s o (Ok t) (Err e) light h a w = absurd a
 
   shape_billed : (m : Move) (k : ℕ) (b : Bill) (s : State) (x : Result (Shape Heft) Breach)
-      (y : Result (Shape ℕ) Breach) → Billed b s
-      → SameResult (Alike (r.Weighs (account_of s.events).hefts)) x y
+      (y : Result (Shape ℕ) Breach) → Billed b s → SameResult (Alike (Weighs s)) x y
       → IfBilled (move_billed m k b x) (move_step s y)
   shape_billed m k b s (Ok p) (Ok q) h a =
       record { shape = a; tally = h.tally; count = h.count; some = h.some; behind = h.behind }
@@ -300,8 +266,7 @@ module _ (r : Reading) (n : ℕ) where
   shape_billed m k b s (Ok p) (Err e) h a = absurd a
 
   result_billed : (b : Bill) (s : State) (x : Result (Heft × List (Entry Heft)) Breach)
-      (y : Result (ℕ × List (Entry ℕ)) Breach) → Billed b s
-      → SameResult (AlikeTop (r.Weighs (account_of s.events).hefts)) x y
+      (y : Result (ℕ × List (Entry ℕ)) Breach) → Billed b s → SameResult (AlikeTop (Weighs s)) x y
       → IfBilled (stop_billed b x) (stop_step s y)
   result_billed b s (Ok p) (Ok q) h a = (
     record {
@@ -328,17 +293,14 @@ module _ (r : Reading) (n : ℕ) where
   performed_billed (Operates takes names gives) i b s o light h w =
       operate_billed names gives i b s o (operands takes b.shape.entries)
       (operands takes s.shape.entries) light h
-      (operands_alike (r.Weighs (account_of s.events).hefts) takes b.shape.entries s.shape.entries
-      h.shape.entries) w
+      (operands_alike (Weighs s) takes b.shape.entries s.shape.entries h.shape.entries) w
   performed_billed (Moves m) i b s o light h w =
       shape_billed m (number_kept m (memo_number i) b.shape) b s
       (moved m (memo_number i) b.shape) (moved m (memo_number i) s.shape) h
-      (moved_alike (r.Weighs (account_of s.events).hefts) m (memo_number i) b.shape s.shape
-      h.shape)
+      (moved_alike (Weighs s) m (memo_number i) b.shape s.shape h.shape)
   performed_billed Stops i b s o light h w =
       result_billed b s (top b.shape.entries) (top s.shape.entries) h
-      (top_alike (r.Weighs (account_of s.events).hefts) b.shape.entries s.shape.entries
-      h.shape.entries)
+      (top_alike (Weighs s) b.shape.entries s.shape.entries h.shape.entries)
   performed_billed Raises i b s o light h w = raises_billed i b s h
 
   -- ---- the decoding of old strings

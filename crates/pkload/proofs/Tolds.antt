@@ -1,42 +1,27 @@
 -- What is told of instructions is billed as they are.
-use Rattle.std.proofs.Common.{◌≡◌, ℕ, ◌-◌, Bool, true, false, cond, List, [], ◌∷◌, ◌++◌}
-use Rattle.std.proofs.Common.{length, Result, Ok, Err, refl, sym, ap, subst, ◌∙◌, arith}
+use Rattle.std.proofs.Common.{◌≡◌, ℕ, ◌-◌, true, false, cond, List, [], ◌∷◌, ◌++◌, length, Result}
+use Rattle.std.proofs.Common.{Ok, Err, refl, ap, ◌∙◌, arith}
 use Rattle.std.specs.Prelude.{All, ◌≢◌, ⊤}
 use Rattle.std.proofs.lemmas.List.Elements.{All-head, All-tail}
 use Rattle.pkops.specs.Contents.{IsGood}
-use Rattle.pkops.specs.Spelling.{Argument, Nothing, Number, Signed, Float, Line, Pair, Counted}
-use Rattle.pkops.specs.Spelling.{Instruction, Suits, instruction, layout_at, spelling}
+use Rattle.pkops.specs.Spelling.{Argument, Counted, Instruction, Suits, instruction, layout_at}
+use Rattle.pkops.specs.Spelling.{spelling}
 use Rattle.pkops.specs.declared.Op.{Op}
 use Rattle.pkops.specs.declared.Op.TheVariants as op
 use Rattle.pkops.specs.declared.layout.Layout.TheVariants as layout
 use Rattle.pkops.specs.declared.layout.Width.{Width}
 use Rattle.pkops.specs.declared.layout.Width.TheVariants as width
 use Rattle.pkread.specs.Sequence.{NoStop}
-use Rattle.pkmachine.specs.Effects.{Effect, Operates, Moves, Stops, Raises, effect_of}
+use Rattle.pkmachine.specs.Effects.{effect_of}
 use Rattle.pkcheck.specs.Reports.{AreReportsBehind, Report, told_of}
 use Rattle.pkmachine.specs.RowRuns.{Beginning}
-use Rattle.pkstack.specs.Shape.{Breach, Entry, NoItem, Shape, Taken, and_then, moved, operands, top}
-use Rattle.pkmachine.specs.declared.effect.Gives.{Gives}
-use Rattle.pkstack.specs.declared.Move.{Move}
+use Rattle.pkstack.specs.Shape.{Breach, NoItem, and_then}
 use Rattle.pkmachine.specs.declared.memo.Memo.{Memo}
 use Rattle.pkmachine.specs.declared.old_strings.OldStrings.{OldStrings}
-use Rattle.pkops.specs.Operands.{memo_number}
-use Rattle.pkload.specs.Bill.{Bill, all_billed, billed, billed_by, move_billed}
-use Rattle.pkload.specs.Bill.{operation_billed, stop_billed}
-use Rattle.pkload.specs.Heft.{Heft}
-use Rattle.pkload.specs.Memory.{number_kept}
+use Rattle.pkload.specs.Bill.{Bill, all_billed, billed}
 use Rattle.pkload.specs.Private.Told.{Metering, all_metered, bytes_billed, metered, next_if}
 use Rattle.pkload.specs.Private.Told.{told_billed, with_bill}
-
-counted_payload : (size : Width) (signed : Bool) (a : Argument)
-    → Suits (layout.Counted size signed) a → (p : List ℕ) × (a ≡ Counted p)
-counted_payload size signed (Counted p) h = (p, refl)
-counted_payload size signed Nothing h = absurd h
-counted_payload size signed (Number w n) h = absurd h
-counted_payload size signed (Signed z) h = absurd h
-counted_payload size signed (Float b) h = absurd h
-counted_payload size signed (Line t) h = absurd h
-counted_payload size signed (Pair t u) h = absurd h
+use Rattle.pkload.proofs.Grown.{billed_ends, is_stop}
 
 abbrev IsSame : Op → Bill → Argument → Type 0
 IsSame o b a =
@@ -48,23 +33,24 @@ by_size : (o : Op) (b : Bill) (n m : ℕ) → n ≡ m
     ≡ cond b.ended (Err NoItem) (Ok (bytes_billed o m b))
 by_size o b n m e = ap (λ k. cond b.ended (Err NoItem) (Ok (bytes_billed o k b))) e
 
+by_payload : (o : Op) (size : Width) (a : Argument) (b : Bill)
+    → ((p : List ℕ) → IsSame o b (Counted p)) → Suits (layout.Counted size false) a → IsSame o b a
+by_payload o size (Counted p) b on h = on p
+by_payload o size _ b on h = absurd h
+
 same_with : (o : Op) (a : Argument) (b : Bill) → Suits (layout_at o) a → IsSame o b a
-same_with op.BinBytes a b h =
-    let c = counted_payload width.Four false a h in
-    subst (IsSame op.BinBytes b) (sym c.1) (by_size op.BinBytes b
-    (length (spelling (instruction op.BinBytes (Counted c.0))) - 5) (length c.0) (omega arith))
-same_with op.ShortBinBytes a b h =
-    let c = counted_payload width.One false a h in
-    subst (IsSame op.ShortBinBytes b) (sym c.1) (by_size op.ShortBinBytes b
-    (length (spelling (instruction op.ShortBinBytes (Counted c.0))) - 2) (length c.0) (omega arith))
-same_with op.BinBytes8 a b h =
-    let c = counted_payload width.Eight false a h in
-    subst (IsSame op.BinBytes8 b) (sym c.1) (by_size op.BinBytes8 b
-    (length (spelling (instruction op.BinBytes8 (Counted c.0))) - 9) (length c.0) (omega arith))
-same_with op.ByteArray8 a b h =
-    let c = counted_payload width.Eight false a h in
-    subst (IsSame op.ByteArray8 b) (sym c.1) (by_size op.ByteArray8 b
-    (length (spelling (instruction op.ByteArray8 (Counted c.0))) - 9) (length c.0) (omega arith))
+same_with op.BinBytes a b h = by_payload op.BinBytes width.Four a b
+    (λ p. by_size op.BinBytes b (length (spelling (instruction op.BinBytes (Counted p))) - 5)
+    (length p) (omega arith)) h
+same_with op.ShortBinBytes a b h = by_payload op.ShortBinBytes width.One a b
+    (λ p. by_size op.ShortBinBytes b
+    (length (spelling (instruction op.ShortBinBytes (Counted p))) - 2) (length p) (omega arith)) h
+same_with op.BinBytes8 a b h = by_payload op.BinBytes8 width.Eight a b
+    (λ p. by_size op.BinBytes8 b (length (spelling (instruction op.BinBytes8 (Counted p))) - 9)
+    (length p) (omega arith)) h
+same_with op.ByteArray8 a b h = by_payload op.ByteArray8 width.Eight a b
+    (λ p. by_size op.ByteArray8 b (length (spelling (instruction op.ByteArray8 (Counted p))) - 9)
+    (length p) (omega arith)) h
 same_with _ a b h = refl
 
 pub told_same : (i : Instruction) (b : Bill) → IsGood i
@@ -73,62 +59,18 @@ told_same i b h = same_with i.op i.arg b h.suits
 
 -- ---- STOP, and nothing else, ends a pickle
 
-abbrev is_stop : Effect → Bool
-is_stop Stops = true
-is_stop e = false
-
-abbrev Ends : Bool → Result Bill Breach → Type 0
-Ends q (Ok b) = b.ended ≡ q
-Ends q (Err e) = ⊤
-
-operation_ends : (gives : Gives) (i : Instruction) (b : Bill) (x : Result (Taken Heft) Breach)
-    → Ends b.ended (operation_billed gives i b x)
-operation_ends gives i b (Ok t) = refl
-operation_ends gives i b (Err e) = tt
-
-move_ends : (m : Move) (n : ℕ) (b : Bill) (x : Result (Shape Heft) Breach)
-    → Ends b.ended (move_billed m n b x)
-move_ends m n b (Ok t) = refl
-move_ends m n b (Err e) = tt
-
-stop_ends : (b : Bill) (x : Result (Heft × List (Entry Heft)) Breach)
-    → Ends true (stop_billed b x)
-stop_ends b (Ok t) = refl
-stop_ends b (Err e) = tt
-
-effect_ends : (e : Effect) (i : Instruction) (b : Bill)
-    → Ends (cond (is_stop e) true b.ended) (billed_by e i b)
-effect_ends (Operates takes names gives) i b =
-    operation_ends gives i b (operands takes b.shape.entries)
-effect_ends (Moves m) i b =
-    move_ends m (number_kept m (memo_number i) b.shape) b (moved m (memo_number i) b.shape)
-effect_ends Stops i b = stop_ends b (top b.shape.entries)
-effect_ends Raises i b = refl
-
 goes_on : (o : Op) → o ≢ op.Stop → is_stop (effect_of o) ≡ false
 goes_on op.Stop h = absurd (h refl)
 goes_on _ h = refl
 
--- what was billed ended as it should
-billed_ends : (q : Bool) (i : Instruction) (b c : Bill)
-    → cond (is_stop (effect_of i.op)) true b.ended ≡ q → billed i b ≡ Ok c → c.ended ≡ q
-billed_ends q i b c e h =
-    subst (Ends q) h
-    (unless_ended b.ended (billed_by (effect_of i.op) i b)
-    (subst (λ p. Ends p (billed_by (effect_of i.op) i b)) e (effect_ends (effect_of i.op) i b)))
-  where
-    unless_ended : (p : Bool) (x : Result Bill Breach) → Ends q x → Ends q (cond p (Err NoItem) x)
-    unless_ended true x g = tt
-    unless_ended false x g = g
-
 pub still_going : (i : Instruction) (b c : Bill) → i.op ≢ op.Stop → b.ended ≡ false
     → billed i b ≡ Ok c → c.ended ≡ false
 still_going i b c g e h =
-    billed_ends false i b c (ap (λ p. cond p true b.ended) (goes_on i.op g) ∙ e) h
+    billed_ends i b c h ∙ ap (λ p. cond p true b.ended) (goes_on i.op g) ∙ e
 
 pub stopped : (i : Instruction) (b c : Bill) → i.op ≡ op.Stop → billed i b ≡ Ok c → c.ended ≡ true
 stopped i b c g h =
-    billed_ends true i b c (ap (λ o. cond (is_stop (effect_of o)) true b.ended) g) h
+    billed_ends i b c h ∙ ap (λ o. cond (is_stop (effect_of o)) true b.ended) g
 
 -- ---- the reports of one pickle
 

@@ -1,88 +1,30 @@
 -- What the bill of a list of instructions says of its runs, and what it says of those whose answers
 -- are new.
-use Rattle.std.proofs.Common.{◌≡◌, ℕ, Bool, true, false, cond, List, [], ◌∷◌, length, Option}
-use Rattle.std.proofs.Common.{Some, None, Result, Ok, Err, refl, sym, ap, subst, arith}
+use Rattle.std.proofs.Common.{◌≡◌, ℕ, true, cond, List, [], ◌∷◌, length, Option, Some, None, Result}
+use Rattle.std.proofs.Common.{Ok, Err, refl, sym, ap, subst, arith}
 use Rattle.std.specs.Prelude.{⊤}
-use Rattle.pkops.specs.Operands.{memo_number}
 use Rattle.pkops.specs.Spelling.{Instruction}
-use Rattle.pkmachine.specs.declared.effect.Gives.{Gives}
-use Rattle.pkstack.specs.declared.Move.{Move}
 use Rattle.pkmachine.specs.declared.old_strings.OldStrings.{OldStrings}
-use Rattle.pkmachine.specs.Effects.{Effect, Operates, Moves, Stops, Raises, effect_as, effect_of}
-use Rattle.pkcheck.specs.NewRuns.{IfStopped, IfWentOn, InEachOf, Obeys, RowObeys}
+use Rattle.pkmachine.specs.Effects.{effect_as, effect_of}
+use Rattle.pkcheck.specs.NewRuns.{IfStopped, IfWentOn, InEachOf, Obeys, RowObeys, AnswersNew}
 use Rattle.pkmachine.specs.Runs.{Outcome, Raised, State, Stepped, Stopped, Stuck, WentOn}
-use Rattle.pkmachine.specs.Runs.{effect_asks}
-use Rattle.pkmachine.specs.Runs.{start, step_as}
+use Rattle.pkmachine.specs.Runs.{effect_asks, start, step_as}
 use Rattle.pkmachine.specs.RowRuns.{Afresh, Beginning, Behind, next_from, run_row, sequences_of}
-use Rattle.pkstack.specs.Shape.{Breach, NoItem, Entry, Shape, Taken, and_then, moved, operands, top}
-use Rattle.pkmachine.specs.WholeRuns.{Ended, EndedBy, Reached}
-use Rattle.pkmachine.specs.WholeRuns.{first_outcome, go_on, outcomes_after, run_as}
-use Rattle.pkload.proofs.Accounts.{at_most_across, at_most_itself, none_since, operation_grows}
+use Rattle.pkstack.specs.Shape.{Breach, NoItem, and_then}
+use Rattle.pkmachine.specs.WholeRuns.{Ended, EndedBy, Reached, first_outcome, go_on, outcomes_after}
+use Rattle.pkmachine.specs.WholeRuns.{run_as}
+use Rattle.pkload.proofs.Accounts.{none_since}
 use Rattle.pkload.proofs.Exactly.{exactly}
 use Rattle.pkload.proofs.Readings.{Reading}
 use Rattle.pkload.proofs.Steps.{Billed, IfBilled, step_billed}
-use Rattle.pkload.specs.Bill.{Bill, all_billed, bill_before, billed, billed_by, move_billed}
-use Rattle.pkload.specs.Bill.{next_bill, no_bill, operation_billed, row_billed, stop_billed}
-use Rattle.pkload.specs.Heft.{Heft}
+use Rattle.pkload.specs.Bill.{Bill, all_billed, bill_before, billed, billed_by, next_bill, no_bill}
+use Rattle.pkload.specs.Bill.{row_billed}
 use Rattle.pkload.specs.Laws.{BillBoundsRuns, EndsBilled}
-use Rattle.pkload.specs.Memory.{number_kept}
 use Rattle.pkload.specs.declared.tally.Tally.{Tally}
-use Rattle.pkload.specs.Tally.{IsAtMost, no_tally}
+use Rattle.pkload.specs.Tally.{no_tally}
 use Rattle.pkload.specs.Weighed.{tally_since}
-
--- the bill, if there is one, counts at least this
-abbrev pub AtLeast : Tally → Result Bill Breach → Type 0
-AtLeast t (Ok b) = IsAtMost t b.tally
-AtLeast t (Err r) = ⊤
-
-operation_at_least : (gives : Gives) (i : Instruction) (b : Bill) (x : Result (Taken Heft) Breach)
-    → AtLeast b.tally (operation_billed gives i b x)
-operation_at_least gives i b (Ok t) = operation_grows i.op t.operands b.tally
-operation_at_least gives i b (Err r) = tt
-
-move_at_least : (m : Move) (n : ℕ) (b : Bill) (x : Result (Shape Heft) Breach)
-    → AtLeast b.tally (move_billed m n b x)
-move_at_least m n b (Ok a) = at_most_itself b.tally
-move_at_least m n b (Err r) = tt
-
-stop_at_least : (b : Bill) (x : Result (Heft × List (Entry Heft)) Breach)
-    → AtLeast b.tally (stop_billed b x)
-stop_at_least b (Ok a) = at_most_itself b.tally
-stop_at_least b (Err r) = tt
-
-effect_at_least : (e : Effect) (i : Instruction) (b : Bill) → AtLeast b.tally (billed_by e i b)
-effect_at_least (Operates takes names gives) i b =
-    operation_at_least gives i b (operands takes b.shape.entries)
-effect_at_least (Moves m) i b =
-    move_at_least m (number_kept m (memo_number i) b.shape) b (moved m (memo_number i) b.shape)
-effect_at_least Stops i b = stop_at_least b (top b.shape.entries)
-effect_at_least Raises i b = at_most_itself b.tally
-
-billed_at_least : (i : Instruction) (b : Bill) → AtLeast b.tally (billed i b)
-billed_at_least i b =
-    unless_ended b.ended (billed_by (effect_of i.op) i b) (effect_at_least (effect_of i.op) i b)
-  where
-    unless_ended : (q : Bool) (x : Result Bill Breach) → AtLeast b.tally x
-        → AtLeast b.tally (cond q (Err NoItem) x)
-    unless_ended true x h = tt
-    unless_ended false x h = h
-
-across : (t : Tally) (b : Bill) (x : Result Bill Breach) → IsAtMost t b.tally → AtLeast b.tally x
-    → AtLeast t x
-across t b (Ok c) h g = at_most_across t b.tally c.tally h g
-across t b (Err r) h g = tt
-
-next_at_least : (is : List Instruction) (t : Tally) (x : Result Bill Breach)
-    → ((b : Bill) → AtLeast b.tally (all_billed is b)) → AtLeast t x
-    → AtLeast t (and_then x (all_billed is))
-next_at_least is t (Ok b) on h = across t b (all_billed is b) h (on b)
-next_at_least is t (Err r) on h = tt
-
--- no instruction takes back what was counted
-pub all_at_least : (is : List Instruction) (b : Bill) → AtLeast b.tally (all_billed is b)
-all_at_least [] b = at_most_itself b.tally
-all_at_least (i ∷ is) b =
-    next_at_least is b.tally (billed i b) (all_at_least is) (billed_at_least i b)
+use Rattle.pkload.proofs.Grown.{IfGrows, all_grow}
+use Rattle.pkload.specs.Loading.{EndsSo}
 
 abbrev bill_in : Result Bill Breach → Bill
 bill_in (Ok b) = b
@@ -100,10 +42,10 @@ module _ (r : Reading) where
   IfRaises run (Ok b) = r.Raises run b.tally
   IfRaises run (Err e) = ⊤
 
-  raised_since : (run said : Tally) (x : Result Bill Breach) → r.Counts run said → AtLeast said x
-      → IfRaises run x
-  raised_since run said (Ok b) h g = r.raises run said b.tally h g
-  raised_since run said (Err e) h g = tt
+  raised_since : (run : Tally) (b : Bill) (x : Result Bill Breach) → r.Counts run b.tally
+      → IfGrows b x → IfRaises run x
+  raised_since run b (Ok c) h g = r.raises run b.tally c.tally h g.tally
+  raised_since run b (Err e) h g = tt
 
   -- ---- one pickle
 
@@ -113,9 +55,8 @@ module _ (r : Reading) where
     IfEnds (Ok b) (Reached s) = Billed r n b s
     IfEnds (Ok b) (EndedBy (Stopped result s)) = Billed r n b s × (b.ended ≡ true)
     IfEnds (Ok b) (EndedBy (Raised s)) = r.Raises (tally_since n s.events) b.tally
-    IfEnds (Ok b) (EndedBy (WentOn s)) = ⊥
-    IfEnds (Ok b) (EndedBy (Stuck breach)) = ⊥
     IfEnds (Err e) ended = ⊤
+    IfEnds _ _ = ⊥
 
     raised : (x : Result Bill Breach) (s : State) → IfRaises (tally_since n s.events) x
         → IfEnds x (EndedBy (Raised s))
@@ -138,7 +79,7 @@ module _ (r : Reading) where
           → IfEnds (and_then x (all_billed is)) (go_on st (run_as setting is os))
       after_step is os (Ok b) (WentOn s) h w on = on b s h w
       after_step is os (Ok b) (Raised s) h w on = raised (all_billed is b) s
-          (raised_since (tally_since n s.events) b.tally (all_billed is b) h (all_at_least is b))
+          (raised_since (tally_since n s.events) b (all_billed is b) h (all_grow is b))
       after_step is os (Ok b) (Stopped result s) h w on = stopped is b result s h.0 h.1
       after_step is os (Ok b) (Stuck breach) h w on = absurd h
       after_step is os (Err e) st h w on = tt
@@ -180,11 +121,7 @@ module _ (r : Reading) where
     row_next n ps oss (Ok b) (EndedBy (Stopped result t)) h v e f on =
         on (next_bill b) (record t { shape = record { entries = []; memo = t.shape.memo } })
         (begun n b t h.0) v e f
-    row_next n ps oss (Ok b) (Reached t) h v e f on = cc
-    row_next n ps oss (Ok b) (EndedBy (Raised t)) h v e f on = cc
-    row_next n ps oss (Ok b) (EndedBy (WentOn t)) h v e f on = cc
-    row_next n ps oss (Ok b) (EndedBy (Stuck breach)) h v e f on = cc
-    row_next n ps oss (Err error) t h v e f on = cc
+    row_next n ps oss x ended h v e f on = absurd (cc)
 
     row_along : (ps : List (List Instruction)) (oss : List (List Outcome)) (b : Bill) (s : State)
         → Billed r (length s.events) b s → RowObeys r.May setting ps oss s
@@ -238,19 +175,33 @@ module _ (r : Reading) where
     each_billed (Behind ps) e =
         behind (sequences_of ps) (row_billed (sequences_of ps) no_bill) refl e
 
+-- ---- properties of the ends of runs
+
+pub ends_map : (P Q R S : State → Type 0) (e : Ended) → ((s : State) → P s → Q s)
+    → ((s : State) → R s → S s) → EndsSo P R e → EndsSo Q S e
+ends_map P Q R S (Reached s) f g h = f s h
+ends_map P Q R S (EndedBy (Stopped result s)) f g h = f s h
+ends_map P Q R S (EndedBy (Raised s)) f g h = g s h
+ends_map P Q R S _ f g h = absurd h
+
+pub each_map : (May : Instruction → State → Outcome → Type 0) (P Q : ℕ → Ended → Type 0)
+    (setting : OldStrings) (beginning : Beginning) (is : List Instruction)
+    → ((n : ℕ) (e : Ended) → P n e → Q n e) → InEachOf May setting beginning is P
+    → InEachOf May setting beginning is Q
+each_map May P Q setting Afresh is f h = λ os w. f 0 (run_as setting is os start) (h os w)
+each_map May P Q setting (Behind ps) is f h = λ earlier first os r v w.
+    f (length first.events) (run_as setting is os first) (h earlier first os r v w)
+
 -- ---- runs whose answers are new
 
-ends_billed : (n : ℕ) (b : Bill) (e : Ended) → IfEnds exactly n (Ok b) e → EndsBilled b n e
-ends_billed n b (Reached s) h = record { shape = h.shape; tally = h.tally }
-ends_billed n b (EndedBy (Stopped r s)) h = record { shape = h.0.shape; tally = h.0.tally }
-ends_billed n b (EndedBy (Raised s)) h = h
-ends_billed n b (EndedBy (WentOn s)) h = absurd h
-ends_billed n b (EndedBy (Stuck r)) h = absurd h
+ends_billed : (bill : Bill) (n : ℕ) (e : Ended) → IfEnds exactly n (Ok bill) e
+    → EndsBilled bill n e
+ends_billed bill n (Reached s) h = record { shape = h.shape; tally = h.tally }
+ends_billed bill n (EndedBy (Stopped r s)) h = record { shape = h.0.shape; tally = h.0.tally }
+ends_billed bill n (EndedBy (Raised s)) h = h
+ends_billed bill n _ h = absurd h
 
 pub bill_bounds_runs : BillBoundsRuns
-bill_bounds_runs setting Afresh is bill e = λ os w.
-    ends_billed 0 bill (run_as setting is os start)
-    (each_billed exactly setting is bill Afresh e os w)
-bill_bounds_runs setting (Behind ps) is bill e = λ earlier first os f v w.
-    ends_billed (length first.events) bill (run_as setting is os first)
-    (each_billed exactly setting is bill (Behind ps) e earlier first os f v w)
+bill_bounds_runs setting beginning is bill e =
+    each_map AnswersNew (IsBilledRun exactly setting is bill) (EndsBilled bill) setting beginning is
+    (ends_billed bill) (each_billed exactly setting is bill beginning e)

@@ -35,27 +35,27 @@ heft_given gives instruction operands = Some (heft_of instruction operands)
 abbrev pub operation_billed : Gives → Instruction → Bill → Result (Taken Heft) Breach
     → Result Bill Breach
 operation_billed gives instruction bill found =
-    and_then found (λ taken. Ok (record {
-      shape = record {
+    and_then found (λ taken. Ok (record bill {
+      shape = record bill.shape {
         entries = put (heft_given gives instruction taken.operands) taken.operands ++ taken.below;
-        memo = bill.shape.memo;
       };
       tally = with_operation instruction.op taken.operands bill.tally;
       memory = bill.memory + operation_memory instruction (length taken.operands);
-      highest = bill.highest;
-      ended = bill.ended;
     }))
 
 -- the bill after a move that stores under this number, if it stores
 abbrev pub move_billed : Move → ℕ → Bill → Result (Shape Heft) Breach → Result Bill Breach
 move_billed move number bill found =
-    and_then found (λ shape. Ok (record {
+    and_then found (λ shape. Ok (record bill {
       shape = shape;
-      tally = bill.tally;
       memory = bill.memory + move_memory move (max bill.highest number - bill.highest);
       highest = max bill.highest number;
-      ended = bill.ended;
     }))
+
+-- the bill after a move with this number
+abbrev pub moved_by : Move → ℕ → Bill → Result Bill Breach
+moved_by move number bill =
+    move_billed move (number_kept move number bill.shape) bill (moved move number bill.shape)
 
 -- the bill after STOP, which takes the result
 abbrev pub stop_billed : Bill → Result (Heft × List (Entry Heft)) Breach → Result Bill Breach
@@ -71,9 +71,7 @@ stop_billed bill found =
 abbrev pub billed_by : Effect → Instruction → Bill → Result Bill Breach
 billed_by (Operates takes names gives) instruction bill =
     operation_billed gives instruction bill (operands takes bill.shape.entries)
-billed_by (Moves move) instruction bill =
-    move_billed move (number_kept move (memo_number instruction) bill.shape) bill
-    (moved move (memo_number instruction) bill.shape)
+billed_by (Moves move) instruction bill = moved_by move (memo_number instruction) bill
 billed_by Stops instruction bill = stop_billed bill (top bill.shape.entries)
 billed_by Raises instruction bill = Ok bill
 

@@ -20,7 +20,7 @@ use Rattle.pkcheck.specs.declared.check_loop.Extent.TheVariants.{OnePickle}
 use Rattle.pkcheck.specs.declared.loading.Loading.{Loading}
 use Rattle.pkmachine.specs.declared.old_strings.OldStrings.{OldStrings}
 use Rattle.pkload.specs.Bill.{Bill, all_billed, bill_before, billed}
-use Rattle.pkload.specs.Loading.{KeepWithin}
+use Rattle.pkload.specs.Loading.{EndsSo, KeepWithin}
 use Rattle.pkload.specs.Tolls.{Exceeds, IsExcess, KeepsWithin}
 use Rattle.pkload.specs.Weighed.{tally_since}
 use Rattle.pkload.specs.declared.tolls.Excess.{Excess}
@@ -28,13 +28,8 @@ use Rattle.pkload.specs.declared.tolls.Tolls.{Tolls}
 
 -- a run that gets past the instruction counts what the reason says, behind earlier pickles
 abbrev pub EndsAbove : Excess → Tolls → (memory earlier : ℕ) → Ended → Type 0
-EndsAbove excess tolls memory earlier (Reached state) =
-    Exceeds excess tolls (tally_since earlier state.events) memory
-EndsAbove excess tolls memory earlier (EndedBy (Stopped result state)) =
-    Exceeds excess tolls (tally_since earlier state.events) memory
-EndsAbove excess tolls memory earlier (EndedBy (Raised state)) = ⊤
-EndsAbove excess tolls memory earlier (EndedBy (WentOn state)) = ⊥
-EndsAbove excess tolls memory earlier (EndedBy (Stuck breach)) = ⊥
+EndsAbove excess tolls memory earlier =
+    EndsSo (λ state. Exceeds excess tolls (tally_since earlier state.events) memory) (λ state. ⊤)
 
 -- the events behind a step count what the reason says, behind earlier pickles
 abbrev pub StepsAbove : Excess → Tolls → (memory earlier : ℕ) → Stepped → Type 0

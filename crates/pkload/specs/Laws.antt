@@ -11,15 +11,15 @@ use Rattle.pkcheck.specs.declared.check_loop.Extent.TheVariants.{OnePickle, ToTh
 use Rattle.pkcheck.specs.declared.loading.Loading.{Loading}
 use Rattle.pkmachine.specs.declared.old_strings.OldStrings.{OldStrings}
 use Rattle.pkcheck.specs.declared.row_of_pickles.YesAll.{YesAll}
-use Rattle.pkload.specs.Loading.{AcceptedWithin}
+use Rattle.pkload.specs.Loading.{AcceptedWithin, EndsSo}
 use Rattle.pkload.specs.declared.tolls.Excess.{Excess}
 use Rattle.pkload.specs.declared.tolls.Tolls.{Tolls}
 use Rattle.pkmachine.specs.Covers.{Alike}
 use Rattle.pkcheck.specs.NewRuns.{InEachNewRun}
 use Rattle.pkmachine.specs.RowRuns.{Beginning}
-use Rattle.pkmachine.specs.Runs.{State, WentOn, Raised, Stopped, Stuck}
+use Rattle.pkmachine.specs.Runs.{State}
 use Rattle.pkstack.specs.Shape.{and_then}
-use Rattle.pkmachine.specs.WholeRuns.{Ended, Reached, EndedBy}
+use Rattle.pkmachine.specs.WholeRuns.{Ended}
 use Rattle.pkload.specs.Bill.{Bill, all_billed, bill_before}
 use Rattle.pkload.specs.Heft.{Heft}
 use Rattle.pkload.specs.Tally.{IsAtMost}
@@ -39,12 +39,8 @@ pub record IsBillOf (bill : Bill) (earlier : ℕ) (state : State) : Type 0 where
 -- the run isn't stuck. If it got to the end, the bill is that of the run; if it raised, its keys
 -- cost at most what the bill says
 abbrev pub EndsBilled : Bill → ℕ → Ended → Type 0
-EndsBilled bill earlier (Reached state) = IsBillOf bill earlier state
-EndsBilled bill earlier (EndedBy (Stopped result state)) = IsBillOf bill earlier state
-EndsBilled bill earlier (EndedBy (Raised state)) =
-    IsAtMost (tally_since earlier state.events) bill.tally
-EndsBilled bill earlier (EndedBy (WentOn state)) = ⊥
-EndsBilled bill earlier (EndedBy (Stuck breach)) = ⊥
+EndsBilled bill earlier = EndsSo (IsBillOf bill earlier)
+    (λ state. IsAtMost (tally_since earlier state.events) bill.tally)
 
 -- a bill of instructions bounds each of their runs whose answers are new objects, wherever they
 -- begin and however old strings are decoded

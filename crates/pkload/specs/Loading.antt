@@ -10,7 +10,7 @@ use Rattle.pkmachine.specs.Knowledge.{Policy}
 use Rattle.pkcheck.specs.NewRuns.{InEachNewRun}
 use Rattle.pkcheck.specs.RowOfPickles.{AcceptedRow, RefusedInRow, begins}
 use Rattle.pkmachine.specs.RowRuns.{Beginning, Pickle}
-use Rattle.pkmachine.specs.Runs.{Raised, Stopped, Stuck, WentOn}
+use Rattle.pkmachine.specs.Runs.{Raised, State, Stopped, Stuck, WentOn}
 use Rattle.pkstack.specs.Shape.{and_then}
 use Rattle.pkmachine.specs.WholeRuns.{Ended, EndedBy, Reached}
 use Rattle.pkcheck.specs.WithImports.{RefusedWithImports}
@@ -26,15 +26,20 @@ use Rattle.pkload.specs.Weighed.{tally_since}
 use Rattle.pkload.specs.declared.checking.YesWithBill.{YesWithBill}
 use Rattle.pkload.specs.declared.tolls.Tolls.{Tolls}
 
+-- the run isn't stuck. If it got to the end, its state has the one property; if it raised, the
+-- other
+abbrev pub EndsSo : (State → Type 0) → (State → Type 0) → Ended → Type 0
+EndsSo Past Raising (Reached state) = Past state
+EndsSo Past Raising (EndedBy (Stopped result state)) = Past state
+EndsSo Past Raising (EndedBy (Raised state)) = Raising state
+EndsSo Past Raising (EndedBy (WentOn state)) = ⊥
+EndsSo Past Raising (EndedBy (Stuck breach)) = ⊥
+
 -- what the events of a run count, behind those of earlier pickles, is within the limits
 abbrev pub EndsWithin : Tolls → ℕ → Ended → Type 0
-EndsWithin tolls earlier (Reached state) = IsWithin tolls (tally_since earlier state.events)
-EndsWithin tolls earlier (EndedBy (Stopped result state)) =
-    IsWithin tolls (tally_since earlier state.events)
-EndsWithin tolls earlier (EndedBy (Raised state)) =
-    IsWithin tolls (tally_since earlier state.events)
-EndsWithin tolls earlier (EndedBy (WentOn state)) = ⊥
-EndsWithin tolls earlier (EndedBy (Stuck breach)) = ⊥
+EndsWithin tolls earlier =
+    EndsSo (λ state. IsWithin tolls (tally_since earlier state.events))
+    (λ state. IsWithin tolls (tally_since earlier state.events))
 
 -- the bill of the instructions of a pickle that begins like this is within the limits, and so is
 -- each of its runs whose answers are new objects

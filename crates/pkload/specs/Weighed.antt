@@ -1,7 +1,6 @@
 -- What the objects of a run cost, read off its events.
-use Rattle.std.specs.Prelude.{ℕ, if◌then◌else◌, ltb, List, [], ◌∷◌, ◌++◌}
-use Rattle.std.specs.Prelude.{drop, length, map, set, take, Option, Some, None, slice_get}
-use Rattle.std.specs.Prelude.{false, true, unwrap_or}
+use Rattle.std.specs.Prelude.{ℕ, if◌then◌else◌, ltb, List, [], ◌∷◌, ◌++◌, drop, length, map, set}
+use Rattle.std.specs.Prelude.{take, Option, Some, None, slice_get, false, true, unwrap_or}
 use Rattle.pkops.specs.Spelling.{Instruction}
 use Rattle.pkmachine.specs.Runs.{Event, Import, Did}
 use Rattle.pkload.specs.Heft.{Heft, heft_of, imports_object}

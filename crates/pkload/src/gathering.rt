@@ -40,6 +40,7 @@ fn count_items(codes: &[u32], tally: &mut Tally) -> Result<(), Halt>
 }
 
 /// Counts the first, the third and so on of an even number of objects as keys.
+#[tactic(auto, using(crate::proofs::Lights::even_more, crate::proofs::Lights::key_more))]
 fn count_pairs(codes: &[u32], tally: &mut Tally) -> Result<(), Halt>
     ensures even { OnOk result (is_even (map unpacked codes.now) ≡ true) }
     ensures counted { OnOk result (tally.new
@@ -71,6 +72,7 @@ fn count_pairs(codes: &[u32], tally: &mut Tally) -> Result<(), Halt>
 /// Takes the objects above the topmost mark, and the mark, and counts them as keys. Returns their
 /// number.
 #[inline(always)]
+#[tactic(auto, using(crate::proofs::Lights::keys_counted))]
 pub fn take_items(stack: &mut Stack, tally: &mut Tally) -> Result<u64, Halt>
     ensures { IfOk result (HasKeys stack.old stack.new tally.old tally.new) }
 {
@@ -81,6 +83,7 @@ pub fn take_items(stack: &mut Stack, tally: &mut Tally) -> Result<u64, Halt>
 /// Takes the keys and values above the topmost mark, and the mark, and counts the keys. Returns
 /// the number of keys and values.
 #[inline(always)]
+#[tactic(auto, using(crate::proofs::Lights::pairs_counted))]
 pub fn take_pairs(stack: &mut Stack, tally: &mut Tally) -> Result<u64, Halt>
     ensures { IfOk result (HasPairs stack.old stack.new tally.old tally.new) }
 {

@@ -8,16 +8,19 @@ use pkread::laws::one_sequence;
 
 /// In every run whose answers are new objects, the keys cost what the bill says, and at most that
 /// if the run raises.
+#[tactic(auto, using(crate::proofs::Whole::bill_bounds_runs))]
 pub fn bill_bounds_runs()
     ensures { BillBoundsRuns }
 {}
 
 /// What is accepted within limits on what loading costs is accepted without them.
+#[tactic(auto, using(crate::proofs::Loading::tolls_only_refuse))]
 pub fn tolls_only_refuse()
     ensures { TollsOnlyRefuse }
 {}
 
 /// What exceeds a limit exceeds it however the pickle goes on.
+#[tactic(auto, using(crate::proofs::Staying::excess_stays))]
 pub fn excess_stays()
     ensures { ExcessStays }
 {}
@@ -25,6 +28,7 @@ pub fn excess_stays()
 /// Two answers to the same bytes under the same settings are both yes with the same bill, both a
 /// refusal of the same instruction, or both the same limit at the same instruction, except for a
 /// refused allocation or a failed read.
+#[tactic(auto, using(crate::proofs::OneEnd::one_end))]
 pub fn one_end()
     ensures { OneEndFits }
 {

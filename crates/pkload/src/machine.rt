@@ -2,12 +2,11 @@
 
 ghost use Rattle.std.specs.Prelude.{◌≡◌, IfOk, Ok, OnOk, false, true};
 ghost use Rattle.pkops.specs.Inst.{instruction_of};
-ghost use Rattle.pkmachine.specs.Effects.{effect_of};
+ghost use Rattle.pkops.specs.Operands.{memo_number};
 ghost use Rattle.pkcheck.specs.Reports.{Skipped};
 ghost use Rattle.pkstack.specs.Shape.{top};
-ghost use Rattle.pkload.specs.Bill.{billed, no_bill, stop_billed};
-ghost use Rattle.pkload.specs.Private.Billing.{IfBilled, IsQuiet, by_move, moved_by};
-ghost use Rattle.pkload.specs.Private.Billing.{moved_in, pushed};
+ghost use Rattle.pkload.specs.Bill.{billed, moved_by, no_bill, stop_billed};
+ghost use Rattle.pkload.specs.Private.Billing.{IfBilled, IsQuiet, op_billed, pushed};
 ghost use Rattle.pkload.specs.Private.Told.{next_in, told_billed};
 
 mod answering;
@@ -164,7 +163,7 @@ impl Machine {
     /// Executes a move that names a number. Returns false.
     #[inline(always)]
     fn go_to(&mut self, what: Move, inst: &Inst<'_>) -> Result<bool, Halt>
-        ensures billed { OnOk result (by_move what (instruction_of inst.now) self.old
+        ensures billed { OnOk result (moved_by what (memo_number (instruction_of inst.now)) self.old
             ≡ Ok self.new) }
         ensures quiet { OnOk result (IsQuiet self.old self.new) }
     {
@@ -174,7 +173,7 @@ impl Machine {
     /// Executes the move of an opcode that is rare. Returns false.
     #[inline(never)]
     fn go_rarely(&mut self, op: Op) -> Result<bool, Halt>
-        ensures billed { OnOk result (moved_in (effect_of op) self.old ≡ Ok self.new) }
+        ensures billed { OnOk result (op_billed op self.old ≡ Ok self.new) }
         ensures quiet { OnOk result (IsQuiet self.old self.new) }
     {
         match op {

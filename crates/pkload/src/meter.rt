@@ -69,10 +69,13 @@ impl Model for Meter {
 impl Meter {
     /// An audience at the first instruction.
     pub fn new(alloc: Global, tolls: &Tolls, memo: Memo) -> Meter
-        ensures metering { result.metering ≡ record { pickle = 0; bill = no_bill } }
-        ensures tolls { result.tolls ≡ tolls.now }
-        ensures memo { result.memo ≡ memo }
-        ensures none { result.excess ≡ None }
+        ensures { result ≡ record {
+          metering = record { pickle = 0; bill = no_bill };
+          tolls = tolls.now;
+          memo = memo;
+          excess = None;
+          at = 0;
+        } }
     {
         Meter {
             metering: Metering::new(alloc),

@@ -104,6 +104,7 @@ impl Stack {
 
     /// Puts an object in place of the topmost entry, which must be an object.
     #[inline(always)]
+    #[tactic(auto, using(crate::proofs::Slots::replaced))]
     pub fn replace(&mut self, heft: Packed) -> Result<(), Halt>
         ensures { OnOk result ((entry : Entry Heft) (below : List (Entry Heft))
             → self.old ≡ entry ∷ below → self.new ≡ Item heft ∷ below) }
@@ -131,6 +132,7 @@ impl Stack {
     }
 
     /// Removes the topmost entry.
+    #[tactic(auto, using(crate::proofs::Slots::mark_on_top))]
     pub fn pop(&mut self) -> Result<(), Halt>
         ensures { OnOk result ((entry : Entry Heft) × (self.old ≡ entry ∷ self.new)) }
     {
@@ -145,6 +147,7 @@ impl Stack {
 
     /// Removes so many of the topmost entries, which must be objects.
     #[inline(always)]
+    #[tactic(auto, using(crate::proofs::Slots::objects_dropped))]
     pub fn drop_objects(&mut self, count: usize) -> Result<(), Halt>
         ensures { OnOk result (HasItems count self.old self.new) }
     {
@@ -158,6 +161,7 @@ impl Stack {
 
     /// The codes of the objects above the topmost mark.
     #[inline(always)]
+    #[tactic(auto, using(crate::proofs::Slots::objects_shown))]
     pub fn objects(&self) -> &[u32]
         ensures { HasObjects self.now result.now }
     {
@@ -166,6 +170,7 @@ impl Stack {
 
     /// Removes the objects above the topmost mark, and the mark. Returns the number of the objects.
     #[inline(always)]
+    #[tactic(auto, using(crate::proofs::Slots::slice_shown))]
     pub fn drop_slice(&mut self) -> Result<u64, Halt>
         ensures { IfOk result (HasSlice self.old self.new) }
     {
@@ -186,6 +191,7 @@ impl Stack {
     /// Puts an object in place of the objects above the topmost mark, and the mark. Returns their
     /// number.
     #[inline(always)]
+    #[tactic(auto, using(crate::proofs::Slots::slice_replaced))]
     pub fn replace_slice(&mut self, heft: Packed) -> Result<u64, Halt>
         ensures { IfOk result (HasReplaced self.old self.new heft) }
     {

@@ -1,23 +1,20 @@
 -- What the machine does at an opcode.
-use Rattle.std.specs.Prelude.{◌≡◌, ◌+◌, ◌/◌, ◌∷◌, ◌++◌, ℕ, Bool, true, false, List, [], length}
-use Rattle.std.specs.Prelude.{⊤, min, Option, Some, None, Result, Ok, zero}
+use Rattle.std.specs.Prelude.{◌≡◌, ◌+◌, ◌/◌, ◌∷◌, ℕ, Bool, true, false, List, [], length, ⊤, min}
+use Rattle.std.specs.Prelude.{Result, Ok, zero}
+use Rattle.pkops.specs.Spelling.{Nothing, instruction}
 use Rattle.pkops.specs.declared.Op.{Op}
 use Rattle.pkops.specs.declared.Op.TheVariants as op
-use Rattle.pkops.specs.Operands.{memo_number}
-use Rattle.pkops.specs.Spelling.{Instruction}
 use Rattle.pkmachine.specs.declared.effect.Gives.TheVariants.{Leaves}
-use Rattle.pkstack.specs.declared.Move.{Move}
 use Rattle.pkstack.specs.declared.Move.TheVariants.{PushesMark, Stores, StoresNext, Fetches}
 use Rattle.pkstack.specs.declared.Takes.{Takes}
 use Rattle.pkstack.specs.declared.Takes.TheVariants.{Objects}
 use Rattle.pkmachine.specs.Effects.{Effect, Operates, Moves, Stops, Raises, effect_of}
-use Rattle.pkstack.specs.Shape.{Breach, Entry, Item, Taken, and_then, is_even, items, moved}
-use Rattle.pkstack.specs.Shape.{operands, put, slice}
-use Rattle.pkload.specs.Bill.{Bill, move_billed}
-use Rattle.pkload.specs.Heft.{Heft, heft_made, most_weight, weights_of}
-use Rattle.pkload.specs.Memory.{held_memory, number_kept, plain_memory, written_memory}
+use Rattle.pkstack.specs.Shape.{Breach, Entry, Item, Taken, is_even, items, slice}
+use Rattle.pkload.specs.Bill.{Bill, billed_by}
+use Rattle.pkload.specs.Heft.{Heft, most_weight, weights_of}
+use Rattle.pkload.specs.Memory.{held_memory, plain_memory, written_memory}
 use Rattle.pkload.specs.Keys.{every_other}
-use Rattle.pkload.specs.Tally.{with_keys, with_operation}
+use Rattle.pkload.specs.Tally.{with_keys}
 use Rattle.pkload.specs.declared.action.Action.{Action}
 use Rattle.pkload.specs.declared.action.Action.TheVariants as action
 use Rattle.pkload.specs.declared.halt.Billing.{Billing}
@@ -73,12 +70,9 @@ action_of o = action_in (effect_of o)
 
 -- the bill after a new object is pushed
 abbrev pub pushed : Heft → ℕ → Bill → Bill
-pushed heft more bill = record {
-  shape = record { entries = Item heft ∷ bill.shape.entries; memo = bill.shape.memo };
-  tally = bill.tally;
+pushed heft more bill = record bill {
+  shape = record bill.shape { entries = Item heft ∷ bill.shape.entries };
   memory = bill.memory + more;
-  highest = bill.highest;
-  ended = bill.ended;
 }
 
 -- an object that weighs one
@@ -94,55 +88,14 @@ string_heft size = record {
   imported = false;
 }
 
--- the object that an operation on objects pushes; None if it leaves its receiver
-abbrev pub heft_pushed : Bool → Op → List Heft → Option Heft
-heft_pushed true o operands = None
-heft_pushed false o operands = Some (heft_made o 0 operands)
-
--- the memory that an operation on so many objects takes
-abbrev pub bare_memory : Op → ℕ → ℕ
-bare_memory o count = 16 + (plain_memory o 0 + held_memory o count)
-
 -- the memory that an instruction takes which makes an object of these bytes
 abbrev pub reading_memory : Op → List ℕ → ℕ
 reading_memory o bytes =
     16 + (plain_memory o (length bytes) + (held_memory o 0 + written_memory o bytes))
 
--- the bill after an operation that leaves its receiver, or pushes a new object
-abbrev pub operated_on : Bool → Op → Bill → Result (Taken Heft) Breach → Result Bill Breach
-operated_on leaves o bill found =
-    and_then found (λ taken. Ok (record {
-      shape = record {
-        entries = put (heft_pushed leaves o taken.operands) taken.operands ++ taken.below;
-        memo = bill.shape.memo;
-      };
-      tally = with_operation o taken.operands bill.tally;
-      memory = bill.memory + bare_memory o (length taken.operands);
-      highest = bill.highest;
-      ended = bill.ended;
-    }))
-
--- the bill after what an opcode with this effect does, if it takes objects
-abbrev pub operated_in : Effect → Op → Bill → Result Bill Breach
-operated_in (Operates takes names (Leaves wanted)) o bill =
-    operated_on true o bill (operands takes bill.shape.entries)
-operated_in (Operates takes names gives) o bill =
-    operated_on false o bill (operands takes bill.shape.entries)
-operated_in effect o bill = Ok bill
-
--- the bill after a move with this number
-abbrev pub moved_by : Move → ℕ → Bill → Result Bill Breach
-moved_by move number bill =
-    move_billed move (number_kept move number bill.shape) bill (moved move number bill.shape)
-
--- the bill after a move
-abbrev pub by_move : Move → Instruction → Bill → Result Bill Breach
-by_move move i bill = moved_by move (memo_number i) bill
-
--- the bill after what an opcode with this effect does, if it moves and names no number
-abbrev pub moved_in : Effect → Bill → Result Bill Breach
-moved_in (Moves move) bill = moved_by move 0 bill
-moved_in effect bill = Ok bill
+-- the bill after an instruction of which the opcode says all: it reads no bytes, and no number
+abbrev pub op_billed : Op → Bill → Result Bill Breach
+op_billed o bill = billed_by (effect_of o) (instruction o Nothing) bill
 
 -- no key was counted, and the pickle hasn't ended since
 pub record IsQuiet (old new : Bill) : Type 0 where
@@ -167,7 +120,7 @@ pub record IsAnswered (found : Result (Taken Heft) Breach) (heft : Heft) (more :
   pub below : List (Entry Heft)
   pub is : found ≡ Ok (record { operands = hefts; below = below })
   pub new_is : new ≡ pushed heft more (record old {
-    shape = record { entries = below; memo = old.shape.memo };
+    shape = record old.shape { entries = below };
   })
 
 -- the slice was found, with these entries below it and so many objects in it
@@ -179,28 +132,22 @@ pub record HasSlice (entries below : List (Entry Heft)) (count : ℕ) : Type 0 w
 -- the slice was found, with so many objects in it, and an object that costs this was put in its
 -- place
 pub record HasReplaced (entries new : List (Entry Heft)) (heft : Heft) (count : ℕ) : Type 0 where
-  pub hefts : List Heft
   pub below : List (Entry Heft)
-  pub is : slice entries [] ≡ Ok (record { operands = hefts; below = below })
-  pub count_is : length hefts ≡ count
+  pub found : HasSlice entries below count
   pub new_is : new ≡ Item heft ∷ below
 
 -- the slice was found, with these entries below it and so many keys and values in it, and the keys
 -- were counted
 pub record HasPairs (entries below : List (Entry Heft)) (tally counted : Tally) (count : ℕ)
     : Type 0 where
-  pub hefts : List Heft
-  pub is : slice entries [] ≡ Ok (record { operands = hefts; below = below })
-  pub count_is : length hefts ≡ count
-  pub even : is_even hefts ≡ true
-  pub counted_is : counted ≡ with_keys tally (every_other hefts)
+  pub found : HasSlice entries below count
+  pub even : is_even found.hefts ≡ true
+  pub counted_is : counted ≡ with_keys tally (every_other found.hefts)
 
 -- the slice was found, with these entries below it and so many objects in it, and all were counted
 -- as keys
 pub record HasKeys (entries below : List (Entry Heft)) (tally counted : Tally) (count : ℕ)
     : Type 0 where
-  pub hefts : List Heft
-  pub is : slice entries [] ≡ Ok (record { operands = hefts; below = below })
-  pub count_is : length hefts ≡ count
-  pub counted_is : counted ≡ with_keys tally hefts
-  pub work_is : counted.work ≡ tally.work + weights_of hefts
+  pub found : HasSlice entries below count
+  pub counted_is : counted ≡ with_keys tally found.hefts
+  pub work_is : counted.work ≡ tally.work + weights_of found.hefts

@@ -1,6 +1,5 @@
 -- What the codes on the stack stand for.
-use Rattle.std.specs.Prelude.{◌≡◌, ℕ, zero, suc, ◌-◌, List, [], ◌∷◌, length, map, reverse}
-use Rattle.std.specs.Prelude.{Ok}
+use Rattle.std.specs.Prelude.{◌≡◌, ℕ, zero, suc, ◌-◌, List, [], ◌∷◌, length, map, reverse, Ok}
 use Rattle.pkstack.specs.Shape.{Entry, Mark, Item, Taken, slice}
 use Rattle.pkload.specs.Heft.{Heft}
 use Rattle.pkload.specs.Private.Packed.{unpacked}

@@ -4,12 +4,13 @@ use Rattle.std.specs.Prelude.{Result, Ok, Err}
 use Rattle.pkops.specs.declared.Op.{Op}
 use Rattle.pkops.specs.declared.Op.TheVariants as op
 use Rattle.pkcheck.specs.Reports.{Report, Skipped, Told, Whole}
-use Rattle.pkstack.specs.Shape.{Breach, Item, NoItem, and_then}
+use Rattle.pkstack.specs.Shape.{Breach, NoItem, and_then}
 use Rattle.pkmachine.specs.declared.memo.Memo.{Memo}
 use Rattle.pkmachine.specs.declared.memo.Memo.TheVariants.{Fresh, Kept}
 use Rattle.pkload.specs.Bill.{Bill, billed, next_bill, no_bill}
 use Rattle.pkload.specs.Heft.{heft_made}
 use Rattle.pkload.specs.Memory.{held_memory, plain_memory}
+use Rattle.pkload.specs.Private.Billing.{pushed}
 use Rattle.pkload.specs.Tally.{with_operation}
 
 -- the bytes of an instruction with a payload that may be skipped, before its payload
@@ -24,15 +25,8 @@ skipped_memory o size = 16 + (plain_memory o size + (held_memory o 0 + 0))
 
 -- the bill after an instruction that makes an object of a payload of this size
 abbrev pub bytes_billed : Op → ℕ → Bill → Bill
-bytes_billed o size bill = record {
-  shape = record {
-    entries = Item (heft_made o size []) ∷ bill.shape.entries;
-    memo = bill.shape.memo;
-  };
+bytes_billed o size bill = record (pushed (heft_made o size []) (skipped_memory o size) bill) {
   tally = with_operation o [] bill.tally;
-  memory = bill.memory + skipped_memory o size;
-  highest = bill.highest;
-  ended = bill.ended;
 }
 
 -- the bill after what was told
@@ -61,7 +55,7 @@ ready memo m = next_if m.bill.ended memo m
 
 -- the same pickle with another bill
 abbrev pub with_bill : Metering → Bill → Metering
-with_bill m bill = record { pickle = m.pickle; bill = bill }
+with_bill m bill = record m { bill = bill }
 
 -- after something is told
 abbrev pub metered_told : Memo → Told → Metering → Result Metering Breach

@@ -1,23 +1,21 @@
 //! Operations whose answer costs the same, whatever they take.
 
 ghost use Rattle.std.specs.Prelude.{◌≡◌, [], IfOk, Ok, OnOk, false, true};
-ghost use Rattle.pkmachine.specs.Effects.{effect_of};
-ghost use Rattle.pkstack.specs.Shape.{items, operands};
-ghost use Rattle.pkload.specs.Private.Billing.{IsAnswered, IsQuiet, operated_in, operated_on};
+ghost use Rattle.pkstack.specs.Shape.{items};
+ghost use Rattle.pkload.specs.Private.Billing.{IsAnswered, IsQuiet, op_billed};
 
 use super::Machine;
 use crate::halt::Halt;
 use crate::memory::plus;
 use crate::packed::Packed;
 use pkops::Op;
-use pkstack::{SliceRule, Takes};
 
 impl Machine {
     /// Does what an opcode says that takes objects and has no action of its own. Returns whether it
     /// may have counted keys.
     #[inline(never)]
     pub(super) fn operate(&mut self, op: Op) -> Result<bool, Halt>
-        ensures billed { OnOk result (operated_in (effect_of op) op self.old ≡ Ok self.new) }
+        ensures billed { OnOk result (op_billed op self.old ≡ Ok self.new) }
         ensures quiet { IfOk result (λ noted. noted ≡ false → IsQuiet self.old self.new) }
     {
         match op {
@@ -49,10 +47,8 @@ impl Machine {
     /// INST, or OBJ, which takes one object at least. Returns false.
     #[inline(never)]
     fn answer_slice(&mut self, wants_some: bool) -> Result<bool, Halt>
-        ensures inst { OnOk result (operated_on false Op.Inst self.old
-            (operands (Takes.Slice SliceRule.AnySlice) self.old.shape.entries) ≡ Ok self.new) }
-        ensures obj { wants_some ≡ true → OnOk result (operated_on false Op.Obj self.old
-            (operands (Takes.Slice SliceRule.FullSlice) self.old.shape.entries) ≡ Ok self.new) }
+        ensures inst { OnOk result (op_billed Op.Inst self.old ≡ Ok self.new) }
+        ensures obj { wants_some ≡ true → OnOk result (op_billed Op.Obj self.old ≡ Ok self.new) }
         ensures quiet { OnOk result (IsQuiet self.old self.new) }
     {
         let count = self.stack.drop_slice()?;
@@ -65,8 +61,7 @@ impl Machine {
     /// BUILD, which leaves the object. Returns true, since that may be imported.
     #[inline(always)]
     fn build(&mut self) -> Result<bool, Halt>
-        ensures billed { OnOk result (operated_on true Op.Build self.old
-            (operands (Takes.Objects 2) self.old.shape.entries) ≡ Ok self.new) }
+        ensures billed { OnOk result (op_billed Op.Build self.old ≡ Ok self.new) }
         ensures counted { IfOk result (λ counted. counted ≡ true) }
     {
         let Some(_state) = self.stack.pop_object() else {

@@ -1,22 +1,19 @@
 //! Operations on so many of the topmost objects.
 
 ghost use Rattle.std.specs.Prelude.{◌≡◌, IfOk, Ok, OnOk, false, true};
-ghost use Rattle.pkstack.specs.Shape.{operands};
-ghost use Rattle.pkload.specs.Private.Billing.{IsQuiet, operated_on};
+ghost use Rattle.pkload.specs.Private.Billing.{IsQuiet, op_billed};
 
 use super::Machine;
 use crate::halt::Halt;
 use crate::making::tied;
 use crate::memory::after_operation;
 use pkops::Op;
-use pkstack::Takes;
 
 impl Machine {
     /// TUPLE1. Returns false, as do the next ones.
     #[inline(never)]
     pub(super) fn tie_one(&mut self) -> Result<bool, Halt>
-        ensures billed { OnOk result (operated_on false Op.Tuple1 self.old
-            (operands (Takes.Objects 1) self.old.shape.entries) ≡ Ok self.new) }
+        ensures billed { OnOk result (op_billed Op.Tuple1 self.old ≡ Ok self.new) }
         ensures quiet { OnOk result (IsQuiet self.old self.new) }
     {
         let Some(item) = self.stack.top() else {
@@ -30,8 +27,7 @@ impl Machine {
     /// TUPLE2.
     #[inline(never)]
     pub(super) fn tie_two(&mut self) -> Result<bool, Halt>
-        ensures billed { OnOk result (operated_on false Op.Tuple2 self.old
-            (operands (Takes.Objects 2) self.old.shape.entries) ≡ Ok self.new) }
+        ensures billed { OnOk result (op_billed Op.Tuple2 self.old ≡ Ok self.new) }
         ensures quiet { OnOk result (IsQuiet self.old self.new) }
     {
         let Some(second) = self.stack.pop_object() else {
@@ -50,8 +46,7 @@ impl Machine {
     /// TUPLE3.
     #[inline(never)]
     pub(super) fn tie_three(&mut self) -> Result<bool, Halt>
-        ensures billed { OnOk result (operated_on false Op.Tuple3 self.old
-            (operands (Takes.Objects 3) self.old.shape.entries) ≡ Ok self.new) }
+        ensures billed { OnOk result (op_billed Op.Tuple3 self.old ≡ Ok self.new) }
         ensures quiet { OnOk result (IsQuiet self.old self.new) }
     {
         let Some(third) = self.stack.pop_object() else {
@@ -73,8 +68,7 @@ impl Machine {
     /// APPEND, which leaves the list.
     #[inline(always)]
     pub(super) fn append(&mut self) -> Result<bool, Halt>
-        ensures billed { OnOk result (operated_on true Op.Append self.old
-            (operands (Takes.Objects 2) self.old.shape.entries) ≡ Ok self.new) }
+        ensures billed { OnOk result (op_billed Op.Append self.old ≡ Ok self.new) }
         ensures quiet { OnOk result (IsQuiet self.old self.new) }
     {
         let Some(_item) = self.stack.pop_object() else {
@@ -90,8 +84,7 @@ impl Machine {
     /// SETITEM, which leaves the dict. Returns true, since it counts a key.
     #[inline(never)]
     pub(super) fn set(&mut self) -> Result<bool, Halt>
-        ensures billed { OnOk result (operated_on true Op.SetItem self.old
-            (operands (Takes.Objects 3) self.old.shape.entries) ≡ Ok self.new) }
+        ensures billed { OnOk result (op_billed Op.SetItem self.old ≡ Ok self.new) }
         ensures counted { IfOk result (λ counted. counted ≡ true) }
     {
         let Some(_value) = self.stack.pop_object() else {

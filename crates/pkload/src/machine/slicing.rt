@@ -1,8 +1,7 @@
 //! Operations on the objects above the topmost mark.
 
 ghost use Rattle.std.specs.Prelude.{◌≡◌, IfOk, Ok, OnOk, false, true};
-ghost use Rattle.pkstack.specs.Shape.{operands};
-ghost use Rattle.pkload.specs.Private.Billing.{IsQuiet, operated_on};
+ghost use Rattle.pkload.specs.Private.Billing.{IsQuiet, op_billed};
 
 use super::Machine;
 use crate::gathering::{take_items, take_pairs, tied_all, with_receiver};
@@ -11,15 +10,12 @@ use crate::making::frozen;
 use crate::memory::after_operation;
 use crate::packed::Packed;
 use pkops::Op;
-use pkstack::{SliceRule, Takes};
 
 impl Machine {
     /// APPENDS, which leaves the list. Returns false, since it counts no key.
     #[inline(never)]
     pub(super) fn append_slice(&mut self) -> Result<bool, Halt>
-        ensures billed { OnOk result (operated_on true Op.Appends self.old
-            (operands (Takes.SliceAndReceiver SliceRule.AnySlice) self.old.shape.entries)
-            ≡ Ok self.new) }
+        ensures billed { OnOk result (op_billed Op.Appends self.old ≡ Ok self.new) }
         ensures quiet { OnOk result (IsQuiet self.old self.new) }
     {
         let count = self.stack.drop_slice()?;
@@ -33,9 +29,7 @@ impl Machine {
     /// SETITEMS, which leaves the dict. Returns true, since it counts keys.
     #[inline(never)]
     pub(super) fn set_slice(&mut self) -> Result<bool, Halt>
-        ensures billed { OnOk result (operated_on true Op.SetItems self.old
-            (operands (Takes.SliceAndReceiver SliceRule.EvenSlice) self.old.shape.entries)
-            ≡ Ok self.new) }
+        ensures billed { OnOk result (op_billed Op.SetItems self.old ≡ Ok self.new) }
         ensures counted { IfOk result (λ counted. counted ≡ true) }
     {
         let count = take_pairs(&mut self.stack, &mut self.tally)?;
@@ -49,9 +43,7 @@ impl Machine {
     /// ADDITEMS, which leaves the set. Returns true.
     #[inline(never)]
     pub(super) fn add_slice(&mut self) -> Result<bool, Halt>
-        ensures billed { OnOk result (operated_on true Op.AddItems self.old
-            (operands (Takes.SliceAndReceiver SliceRule.AnySlice) self.old.shape.entries)
-            ≡ Ok self.new) }
+        ensures billed { OnOk result (op_billed Op.AddItems self.old ≡ Ok self.new) }
         ensures counted { IfOk result (λ counted. counted ≡ true) }
     {
         let count = take_items(&mut self.stack, &mut self.tally)?;
@@ -65,8 +57,7 @@ impl Machine {
     /// FROZENSET. Returns true. All items are keys, so what the keys weigh more is their weight.
     #[inline(never)]
     pub(super) fn freeze_slice(&mut self) -> Result<bool, Halt>
-        ensures billed { OnOk result (operated_on false Op.FrozenSet self.old
-            (operands (Takes.Slice SliceRule.AnySlice) self.old.shape.entries) ≡ Ok self.new) }
+        ensures billed { OnOk result (op_billed Op.FrozenSet self.old ≡ Ok self.new) }
         ensures counted { IfOk result (λ counted. counted ≡ true) }
     {
         let before = self.tally.work;
@@ -80,8 +71,7 @@ impl Machine {
     /// DICT. Returns true.
     #[inline(always)]
     pub(super) fn dict_slice(&mut self) -> Result<bool, Halt>
-        ensures billed { OnOk result (operated_on false Op.Dict self.old
-            (operands (Takes.Slice SliceRule.EvenSlice) self.old.shape.entries) ≡ Ok self.new) }
+        ensures billed { OnOk result (op_billed Op.Dict self.old ≡ Ok self.new) }
         ensures counted { IfOk result (λ counted. counted ≡ true) }
     {
         let count = take_pairs(&mut self.stack, &mut self.tally)?;
@@ -93,8 +83,7 @@ impl Machine {
     /// LIST. Returns false, as does the next one.
     #[inline(always)]
     pub(super) fn list_slice(&mut self) -> Result<bool, Halt>
-        ensures billed { OnOk result (operated_on false Op.List self.old
-            (operands (Takes.Slice SliceRule.AnySlice) self.old.shape.entries) ≡ Ok self.new) }
+        ensures billed { OnOk result (op_billed Op.List self.old ≡ Ok self.new) }
         ensures quiet { OnOk result (IsQuiet self.old self.new) }
     {
         let count = self.stack.drop_slice()?;
@@ -106,8 +95,7 @@ impl Machine {
     /// TUPLE.
     #[inline(never)]
     pub(super) fn tie_slice(&mut self) -> Result<bool, Halt>
-        ensures billed { OnOk result (operated_on false Op.Tuple self.old
-            (operands (Takes.Slice SliceRule.AnySlice) self.old.shape.entries) ≡ Ok self.new) }
+        ensures billed { OnOk result (op_billed Op.Tuple self.old ≡ Ok self.new) }
         ensures quiet { OnOk result (IsQuiet self.old self.new) }
     {
         let heft = tied_all(self.stack.objects())?;

@@ -4,28 +4,24 @@ use Rattle.pkload.proofs.Settled.{settled_loading, settled_over, stopped_right}
 use Rattle.pkload.proofs.checking.check_loading.Goals as goal
 
 pub returns-in-Ok-clause-answer : goal.returns-in-Ok-clause-answer
-returns-in-Ok-clause-answer g c = let h = c.in-Ok.ensures.answer in
+returns-in-Ok-clause-answer g c =
+    let h = rw c.new-meter.ensures at c.in-Ok.ensures.answer in
     settled_loading c.args.terms.now.loading (permit_of c.args.permit.now)
-    c.args.terms.now.limits c.args.tolls.now _ _ c.new-meter.result c.new-meter.ensures.memo
-    c.new-meter.ensures.tolls c.new-meter.ensures.metering c.new-meter.ensures.none
-    c.faultless_is_run.ensures
+    c.args.terms.now.limits c.args.tolls.now _ _ c.faultless_is_run.ensures
     c.check_pickles.new.audience h.0 c.args.terms.now.extent c.settled.result c.in-Ok.answer h.2
     h.1 c.settled.ensures.same c.settled.ensures.none c.settled.ensures.refused
 
 pub returns-in-Ok-clause-costly : goal.returns-in-Ok-clause-costly
-returns-in-Ok-clause-costly g c = let h = c.in-Ok.ensures.answer in
+returns-in-Ok-clause-costly g c =
+    let h = rw c.new-meter.ensures at c.in-Ok.ensures.answer in
     settled_over c.args.terms.now.loading (permit_of c.args.permit.now)
-    c.args.terms.now.limits c.args.tolls.now _ _ c.new-meter.result c.new-meter.ensures.memo
-    c.new-meter.ensures.tolls c.new-meter.ensures.metering c.new-meter.ensures.none
-    c.faultless_is_run.ensures
+    c.args.terms.now.limits c.args.tolls.now _ _ c.faultless_is_run.ensures
     c.check_pickles.new.audience h.0 c.args.terms.now.extent c.settled.result c.in-Ok.answer h.2
     h.1 c.settled.ensures.costly
 
 pub returns-clause-costly : goal.returns-clause-costly
 returns-clause-costly g c =
     stopped_right c.args.terms.now.loading (permit_of c.args.permit.now)
-    c.args.terms.now.limits c.args.tolls.now _ _ c.new-meter.result c.new-meter.ensures.memo
-    c.new-meter.ensures.tolls c.new-meter.ensures.metering c.new-meter.ensures.none
-    c.faultless_is_run.ensures
+    c.args.terms.now.limits c.args.tolls.now _ _ c.faultless_is_run.ensures
     c.check_pickles.new.audience c.args.terms.now.extent c.in-Err.excess c.costly_at.result
-    c.in-Err.ensures.stopped c.costly_at.ensures
+    (rw c.new-meter.ensures at c.in-Err.ensures.stopped) c.costly_at.ensures
