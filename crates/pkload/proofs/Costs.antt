@@ -137,7 +137,8 @@ module _ (loading : Loading) (policy : Policy) (limits : Bounds) where
     admitted = all_front limits s.instructions (s.instruction ∷ []) s.admitted;
     faultless = s.faultless;
     bytes = takes_front here new (spellings s.instructions) (spellings (s.instruction ∷ []))
-        (subst (Takes here new) (flat_map-append spelling s.instructions (s.instruction ∷ [])) s.bytes);
+        (subst (Takes here new)
+        (flat_map-append spelling s.instructions (s.instruction ∷ [])) s.bytes);
     none = none_at s.instructions s.goes_on;
     told = h;
   }

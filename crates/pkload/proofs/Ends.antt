@@ -30,8 +30,8 @@ use Rattle.pkload.specs.declared.tolls.Excess.{Excess}
 use Rattle.pkload.specs.declared.tolls.Excess.TheVariants.{OutOfMemory}
 use Rattle.pkload.specs.declared.tolls.Tolls.{Tolls}
 
-module _ (loading : Loading) (policy : Policy) (limits : Bounds) (tolls : Tolls)
-    (excess : Excess) (ne : excess ≢ OutOfMemory) (at : ℕ) (n : Metering) (run : FaultlessIsRun) where
+module _ (loading : Loading) (policy : Policy) (limits : Bounds) (tolls : Tolls) (excess : Excess)
+    (at : ℕ) (n : Metering) (run : FaultlessIsRun) (ne : excess ≢ OutOfMemory) where
   abbrev Over : List Report → Metering → Type 0
   Over = IsOver loading.memo tolls excess at n
 

@@ -70,7 +70,8 @@ module _ (codes : List ℕ) (place : ℕ) (two : 1 < place) (within : place ≤ 
 
   pub even_more : is_even (map unpacked (drop (place - 2) codes))
       ≡ is_even (map unpacked (drop place codes))
-  even_more = ap (λ l. is_even (map unpacked l)) two_more ∙ twice (is_even (map unpacked (drop place codes)))
+  even_more = ap (λ l. is_even (map unpacked l)) two_more
+      ∙ twice (is_even (map unpacked (drop place codes)))
     where
       twice : (b : Bool) → not (not b) ≡ b
       twice true = refl

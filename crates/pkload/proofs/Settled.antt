@@ -137,11 +137,11 @@ module _ (loading : Loading) (policy : Policy) (limits : Bounds) (tolls : Tolls)
       → IsToldTo extent rs answer → IsCostlyBy y answer costly → costly.excess ≢ OutOfMemory
       → CostsTooMuch loading policy limits tolls old extent y.metering.pickle y.at costly.excess
   by_answer y rs extent (Ok accepted) costly told h k ne =
-      accepted_over loading policy limits tolls costly.excess ne y.at y.metering run old new extent
+      accepted_over loading policy limits tolls costly.excess y.at y.metering run ne old new extent
       accepted.taken accepted.pickles accepted.imports rs h
       (told.over costly.excess refl k.excess)
   by_answer y rs extent (Err refused) costly told h k ne =
-      refused_over loading policy limits tolls costly.excess ne y.at y.metering run old new extent
+      refused_over loading policy limits tolls costly.excess y.at y.metering run ne old new extent
       refused.pickle refused.no.at refused.no.reason (option_map asked_shown refused.no.pair)
       refused.imports rs h (subst (λ at. at < refused.no.at) k.at k.later)
       (told.over costly.excess refl k.excess)
@@ -165,5 +165,5 @@ module _ (loading : Loading) (policy : Policy) (limits : Bounds) (tolls : Tolls)
   stopped_right z extent excess costly h same = subst (IsRightCostly extent) (sym same) (λ ne.
       subst (λ m. CostsTooMuch loading policy limits tolls old extent m.metering.pickle m.at
       excess) (sym h.5.same)
-      (stopped_over loading policy limits tolls excess ne h.2.at h.2.metering run old new extent h.0
+      (stopped_over loading policy limits tolls excess h.2.at h.2.metering run ne old new extent h.0
       h.1 h.3 (h.4.over excess refl h.5.named)))

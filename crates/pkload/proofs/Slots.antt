@@ -3,8 +3,8 @@ use Rattle.std.proofs.Common.{◌≡◌, ◌+◌, ◌-◌, ◌≤◌, ℕ, zero,
 use Rattle.std.proofs.Common.{Result, Ok, Err, get_or, refl, sym, ap, ◌∙◌, arith, drop, map, set}
 use Rattle.std.proofs.Common.{append-nil, length-append, reverse, ◌<◌, subst}
 use Rattle.std.proofs.Math.Seq.{take-length, take-suc}
-use Rattle.std.proofs.lemmas.List.{get_or-set_same, length-drop, length-map, length-reverse, length-set}
-use Rattle.std.proofs.lemmas.List.{length-take-le, reverse-append, take-set, take-take}
+use Rattle.std.proofs.lemmas.List.{get_or-set_same, length-drop, length-map, length-reverse}
+use Rattle.std.proofs.lemmas.List.{length-set, length-take-le, reverse-append, take-set, take-take}
 use Rattle.std.proofs.lemmas.List.{take-append-drop}
 use Rattle.pkstack.specs.Shape.{Breach, Entry, Item, Mark, Taken, items, slice}
 use Rattle.pkload.specs.Heft.{Heft}

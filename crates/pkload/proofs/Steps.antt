@@ -118,7 +118,8 @@ module _ (r : Reading) (n : ℕ) where
     billed_then gives d objects now is shape count some =
         let same = hefts_then d objects ∙ is in
         record {
-          shape = subst (λ l. Alike (r.Weighs l) (after gives i t b).shape (state_then d objects).shape)
+          shape = subst
+              (λ l. Alike (r.Weighs l) (after gives i t b).shape (state_then d objects).shape)
               (sym same) shape;
           tally = tally_then d;
           count = ap length same ∙ count;
@@ -187,7 +188,8 @@ module _ (r : Reading) (n : ℕ) where
     by_number : (q : Bool) (number : ℕ) (c : ObjectClass) → IsLightAnswer i.op
         → r.May i s (Go number c) → ltb number (length s.objects) ≡ q
         → StepBilled (after Answers i t b) (WentOn (let x = cond {A = Option ℕ × List Object} q
-        (Some number, s.objects) (Some (length s.objects), with_answer c s.objects) in state_then x.0 x.1))
+        (Some number, s.objects) (Some (length s.objects), with_answer c s.objects) in
+        state_then x.0 x.1))
     by_number true number c light w e = earlier_result number c light w e
     by_number false number c light w e = new_result _
 
