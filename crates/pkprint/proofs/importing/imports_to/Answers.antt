@@ -5,11 +5,11 @@ use Rattle.pkprint.proofs.importing.imports_to.Goals as goal
 
 pub returns-in-Ok : goal.returns-in-Ok
 returns-in-Ok g c =
-    let text = appends_then _ _ _ _ _ c.in_ok-write_imports.ensures
-    c.in_ok-write_verdict.ensures in (
+    let imports = c.in_ok-write_imports.ensures in
+    let verdict = c.in_ok-write_verdict.ensures in (
       c.check-answer.result,
       c.check-answer.ensures.answer,
       c.check-answer.ensures.count,
-      text,
+      search appends_then,
       search rules,
     )

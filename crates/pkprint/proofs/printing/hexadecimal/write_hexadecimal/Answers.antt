@@ -16,5 +16,5 @@ loop-rest-preserved g c =
       done ++ chunk,
       cut ∙ ap (λ (xs : List ℕ). done ++ xs) c.split_at.ensures.by_index.0
           ∙ sym (append_assoc done chunk _),
-      rw encode_with-append (appends_then _ _ _ _ _ so_far c.in_ok-write_chunk.ensures),
+      rw encode_with-append (search (appends_then, so_far, c.in_ok-write_chunk.ensures)),
     )

@@ -10,6 +10,7 @@ loop-number-init g c = appends_none (g.W.Write.contents c.args.out.now)
 
 pub loop-number-preserved : goal.loop-number-preserved
 loop-number-preserved g c =
+    let before = c.loop-number.invariant in
+    let line = c.in_ok-write_import.ensures in
     rw (flat_map_next import_line c.args.imports.now c.loop-number.number
-    (import_shown c.in-Some.import) c.in-Some.ensures)
-    (appends_then _ _ _ _ _ c.loop-number.invariant c.in_ok-write_import.ensures)
+    (import_shown c.in-Some.import) c.in-Some.ensures) (search appends_then)

@@ -10,4 +10,5 @@ loop-mark-init g c = appends_none (g.W.Write.contents c.args.out.now)
 
 pub loop-mark-preserved : goal.loop-mark-preserved
 loop-mark-preserved g c =
-    rw indent_more (appends_then _ _ _ _ _ c.loop-mark.invariant c.in_ok-write_all.ensures.bytes)
+    let before = c.loop-mark.invariant in
+    let mark = c.in_ok-write_all.ensures.bytes in rw indent_more (search appends_then)
