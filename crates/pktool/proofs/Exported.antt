@@ -7,8 +7,7 @@ use Rattle.pkops.specs.Limits.{standard}
 use Rattle.pkread.specs.Rows.{Sight}
 use Rattle.pkjson.specs.Export.{IsNotExported}
 use Rattle.pkjson.specs.declared.ExportError.{ExportError}
-use Rattle.pkjson.specs.declared.ExportError.TheVariants.{Check, NotPlain, Key, Number, TooDeep}
-use Rattle.pkjson.specs.declared.ExportError.TheVariants.{TooMany, OutOfMemory}
+use Rattle.pkjson.specs.declared.ExportError.TheVariants.{OutOfMemory}
 use Rattle.pkprint.specs.declared.Outcome.{Outcome}
 use Rattle.pkprint.specs.declared.Outcome.TheVariants.{Done, Refused, Unread}
 use Rattle.pktool.specs.Answers.{HasContent, IsExport, opened}
@@ -33,14 +32,9 @@ some_content (Some xs) = (xs, refl)
 not_exported : (content : Option (List ℕ)) (new : Sight) (error : ExportError)
     → IsErrorFor standard (opened content) new error
     → (bytes : List ℕ) × HasContent content bytes × IsNotExported standard bytes error
-not_exported content new (Check r) h = (h.0, has_content content new h.0 h.1, h.2)
-not_exported content new (NotPlain at op) h = (h.0, has_content content new h.0 h.1, h.2)
-not_exported content new (Key at) h = (h.0, has_content content new h.0 h.1, h.2)
-not_exported content new (Number at) h = (h.0, has_content content new h.0 h.1, h.2)
-not_exported content new TooDeep h = (h.0, has_content content new h.0 h.1, h.2)
-not_exported content new TooMany h = (h.0, has_content content new h.0 h.1, h.2)
 not_exported content new OutOfMemory h =
     let some = some_content content in (some.0, some.1, tt)
+not_exported content new _ h = (h.0, has_content content new h.0 h.1, h.2)
 
 ended : (content : Option (List ℕ)) (new : Sight) (before after : Option (List ℕ))
     (outcome : Outcome) → HasAnswer outcome

@@ -6,8 +6,7 @@ use Rattle.pkops.specs.Limits.{Bounds}
 use Rattle.pkread.specs.Rows.{Sight, Takes}
 use Rattle.pkjson.specs.Export.{AppendsText, IsNotExported}
 use Rattle.pkjson.specs.declared.ExportError.{ExportError}
-use Rattle.pkjson.specs.declared.ExportError.TheVariants.{Check, NotPlain, Key, Number, TooDeep}
-use Rattle.pkjson.specs.declared.ExportError.TheVariants.{TooMany, OutOfMemory}
+use Rattle.pkjson.specs.declared.ExportError.TheVariants.{OutOfMemory}
 use Rattle.pkprint.specs.Appended.{appends_then}
 use Rattle.pkprint.specs.declared.Outcome.TheVariants.{Done}
 use Rattle.pktool.specs.Json.{EndsWith, IsErrorFor, ReadsWhole}
@@ -27,23 +26,17 @@ consumes_then (Some x) (Some y) (Some z) xs ys p q = p ∙ ap (λ (l : List ℕ)
 pub takes_none : (a : Sight) → Takes a a []
 takes_none a = record { bytes = consumes_none a.left; count = refl }
 
-pub takes_then : (a b c : Sight) (xs ys : List ℕ) → Takes a b xs → Takes b c ys
+pub takes_then : {a b c : Sight} {xs ys : List ℕ} → Takes a b xs → Takes b c ys
     → Takes a c (xs ++ ys)
-takes_then a b c xs ys p q =
-    record {
-      bytes = consumes_then a.left b.left c.left xs ys p.bytes q.bytes;
-      count = q.count ∙ p.count;
-    }
+takes_then {a} {b} {c} {xs} {ys} p q = record {
+  bytes = consumes_then a.left b.left c.left xs ys p.bytes q.bytes;
+  count = q.count ∙ p.count;
+}
 
 pub error_for : (limits : Bounds) (old new : Sight) (bytes : List ℕ) (e : ExportError)
     → ReadsWhole old new bytes → IsNotExported limits bytes e → IsErrorFor limits old new e
-error_for limits old new bytes (Check r) t h = (bytes, t, h)
-error_for limits old new bytes (NotPlain at op) t h = (bytes, t, h)
-error_for limits old new bytes (Key at) t h = (bytes, t, h)
-error_for limits old new bytes (Number at) t h = (bytes, t, h)
-error_for limits old new bytes TooDeep t h = (bytes, t, h)
-error_for limits old new bytes TooMany t h = (bytes, t, h)
 error_for limits old new bytes OutOfMemory t h = (bytes, t.0)
+error_for limits old new bytes _ t h = (bytes, t, h)
 
 -- the text and then a line end
 pub ends_done : (limits : Bounds) (old new : Sight) (a b c : Option (List ℕ)) (bytes : List ℕ)

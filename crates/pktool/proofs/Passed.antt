@@ -1,7 +1,6 @@
 -- Bytes that are passed over.
-use Rattle.std.proofs.Common.{ℕ, zero, suc, ◌+◌, ◌≤◌, List, [], ◌∷◌, ◌++◌, length}
-use Rattle.std.proofs.Common.{Option, None, Some, ap, ◌∙◌, sym, arith, length-append}
-use Rattle.std.proofs.Common.{append_assoc}
+use Rattle.std.proofs.Common.{ℕ, zero, suc, ◌+◌, ◌≤◌, List, [], ◌∷◌, ◌++◌, length, Option, None}
+use Rattle.std.proofs.Common.{Some, ap, ◌∙◌, sym, arith, length-append, append_assoc}
 use Rattle.std.specs.Prelude.{replicate}
 use Rattle.std.proofs.lemmas.List.{length-replicate}
 use Rattle.std.specs.Io.KnownBytes.{Consumes, prepend_known}
@@ -36,16 +35,13 @@ gone_behind held bytes (Some xs) (Some ys) h =
     ap (λ (l : List ℕ). held ++ l) h ∙ sym (append_assoc held bytes ys)
 
 -- what is held, and then some of what is behind it
-pub passed_behind : (wanted n rest : ℕ) (held : List ℕ) (old new : Option (List ℕ)) →
+pub passed_behind : {wanted n rest : ℕ} (held : List ℕ) {old new : Option (List ℕ)} →
     AreAllBytes held → length held + rest ≤ wanted → PassedOver rest old new n →
     PassedOver wanted (prepend_known held old) (prepend_known [] new) (length held + n)
-passed_behind wanted n rest held old new fit within p =
-    let count = p.count in
-    let less = p.within in
-    record {
-      bytes = held ++ p.bytes;
-      fit = both_bytes held p.bytes fit p.fit;
-      gone = gone_behind held p.bytes old new p.gone;
-      within = omega (arith, within, less);
-      count = omega (arith, length-append held p.bytes, count);
-    }
+passed_behind held {old} {new} fit within p = record {
+  bytes = held ++ p.bytes;
+  fit = both_bytes held p.bytes fit p.fit;
+  gone = gone_behind held p.bytes old new p.gone;
+  within = omega (arith, within, p.within);
+  count = omega (arith, length-append held p.bytes, p.count);
+}

@@ -1,6 +1,6 @@
 -- What was written by a command, and what its status says of it.
-use Rattle.std.proofs.Common.{◌≡◌, ℕ, List, Option, Some, None, Result, Ok, Err, refl, ◌∙◌}
-use Rattle.std.proofs.Common.{inl, inr, subst, Bool}
+use Rattle.std.proofs.Common.{◌≡◌, ℕ, List, Option, Some, None, Result, Ok, Err, refl, ◌∙◌, inl}
+use Rattle.std.proofs.Common.{inr, subst, Bool}
 use Rattle.std.specs.Prelude.{◌⊎◌, length, IfOk}
 use Rattle.std.specs.Io.KnownBytes.{Appends, Keeps}
 use Rattle.pkops.specs.Limits.{standard}
@@ -11,12 +11,12 @@ use Rattle.pkargs.specs.Command.{AsksForJob, AsksForNone}
 use Rattle.pkargs.specs.declared.Job.{Job}
 use Rattle.pkargs.specs.declared.Pickles.{Pickles}
 use Rattle.pkargs.specs.declared.Usage.{Usage}
-use Rattle.pkargs.specs.declared.Usage.TheVariants.{Asked, Invalid, OutOfMemory}
+use Rattle.pkargs.specs.declared.Usage.TheVariants.{Asked, OutOfMemory}
 use Rattle.pkprint.specs.Verdict.{no_line}
 use Rattle.pkprint.specs.declared.Outcome.{Outcome}
 use Rattle.pkprint.specs.declared.Outcome.TheVariants.{Done, Refused, Unread}
-use Rattle.pktool.specs.Answers.{HasContent, IsAnswer, IsAnswerTo, IsCheck, IsListIn}
-use Rattle.pktool.specs.Answers.{IsCheckOf, IsOptimization, IsShown, asks_costs}
+use Rattle.pktool.specs.Answers.{HasContent, IsAnswer, IsAnswerTo, IsCheck, IsListIn, IsCheckOf}
+use Rattle.pktool.specs.Answers.{IsOptimization, IsShown, asks_costs}
 use Rattle.pktool.specs.Ends.{Reports, Stays, Writes}
 use Rattle.pktool.specs.Optimized.{EndsIn, sizes_line}
 
@@ -86,10 +86,7 @@ shown_for_none : (words : List (List ℕ)) (usage : Usage) (text : List ℕ) (ou
     → AsksForNone words × (outcome ≡ Done)
 shown_for_none words (Asked shown) text Done (inl e) s = cc
 shown_for_none words (Asked shown) text Done (inr none) s = (none, refl)
-shown_for_none words (Asked shown) text Refused why s = absurd s
-shown_for_none words (Asked shown) text Unread why s = absurd s
-shown_for_none words (Invalid shown) text outcome why s = absurd s
-shown_for_none words OutOfMemory text outcome why s = absurd s
+shown_for_none words _ text _ why s = absurd s
 
 -- the text of the help or the version
 pub text_reported : {E : Type 0} (content : List ℕ → Option (List ℕ)) (words : List (List ℕ))

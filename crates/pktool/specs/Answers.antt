@@ -1,8 +1,7 @@
 -- What each command answers about the files that it reads: the text for standard output, and the
 -- outcome. A host reveals the bytes of a file, as `Some`, or it doesn't.
-use Rattle.std.specs.Prelude.{◌≡◌, ℕ, ◌⊎◌, ◌||◌, Bool, true, false, not, List, length}
-use Rattle.std.specs.Prelude.{string_bytes, IfSome}
-use Rattle.std.specs.Prelude.{Option, Some, None, Result, Ok}
+use Rattle.std.specs.Prelude.{◌≡◌, ℕ, ◌⊎◌, ◌||◌, Bool, true, false, not, List, length, string_bytes}
+use Rattle.std.specs.Prelude.{IfSome, Option, Some, None, Result, Ok}
 use Rattle.serde_json.specs.Data.{Data}
 use Rattle.pkops.specs.Limits.{holding_all, standard}
 use Rattle.pkops.specs.Printed.{refusal_text}

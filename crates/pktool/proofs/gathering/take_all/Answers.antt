@@ -6,6 +6,6 @@ pub returns-in_default-extend_from_slice-clause-some
     : goal.returns-in_default-extend_from_slice-clause-some
 returns-in_default-extend_from_slice-clause-some g c = (
   _,
-  takes_then _ _ _ _ _ c.blocks-2.invariant
+  takes_then c.blocks-2.invariant
       (record { bytes = c.in-Ok.ensures.bytes.1; count = c.in-Ok.ensures.count }),
 )

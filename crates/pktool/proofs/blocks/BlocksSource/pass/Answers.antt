@@ -8,5 +8,5 @@ returns-clause-bytes g c =
     let held = c.len-held.ensures in
     let behind = c.saturating_sub.ensures in
     let many = c.if-saturating_sub-lt-SIZE.false in
-    rw (c.clear.ensures.none, c.clear.ensures.count) (passed_behind c.args.wanted _ _ _ _ _
+    rw (c.clear.ensures.none, c.clear.ensures.count) (passed_behind _
     c.clear.ensures.fit (omega (arith, held, behind, many)) c.pass_over-behind.ensures)
