@@ -9,8 +9,7 @@ use Rattle.pkload.specs.declared.Excess.TheVariants.{BuildsImport, HeavyKeys, Ou
 use Rattle.pkguard.specs.Encoding.{encoded_all, wanted_by}
 use Rattle.pkguard.specs.Guard.{placed}
 use Rattle.pkguard.specs.Listed.{pairs_at}
-use Rattle.pkguard.specs.Loading.{bill_of, extent_by, old_strings_with, tolls_by}
-use Rattle.pkguard.specs.Loading.{verdict_of_excess}
+use Rattle.pkguard.specs.Loading.{bill_of, extent_by, old_strings_with, tolls_by, verdict_of_excess}
 use Rattle.pkguard.specs.declared.costs.Costs.{Costs}
 use Rattle.pkguard.specs.declared.settings.Settings.{Settings}
 

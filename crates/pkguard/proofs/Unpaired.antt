@@ -21,24 +21,7 @@ none_off : (here : Arrivals) (i : Instruction) (r : Reason) (pair : Option Asked
 none_off here i reason.ImportOffList None h = refl
 none_off here i reason.ImportOffList (Some (AskedPair m n)) h = absurd h.1
 none_off here i reason.ImportOffList (Some AskedUnknown) h = absurd h
-none_off here i reason.Source pair h = h
-none_off here i reason.Truncated pair h = h
-none_off here i (reason.UnknownOpcode b) pair h = h
-none_off here i reason.BadArgument pair h = h
-none_off here i reason.TooLarge pair h = h
-none_off here i reason.ExtensionCode pair h = h
-none_off here i (reason.UnsupportedProtocol n) pair h = h
-none_off here i reason.BrokenFrame pair h = h
-none_off here i reason.MissingMark pair h = h
-none_off here i reason.MissingItem pair h = h
-none_off here i (reason.MissingMemo n) pair h = h
-none_off here i reason.OddItems pair h = h
-none_off here i reason.WrongClass pair h = h
-none_off here i reason.NotText pair h = h
-none_off here i reason.UnknownImport pair h = h
-none_off here i reason.LeftOver pair h = h
-none_off here i reason.NotAscii pair h = h
-none_off here i reason.OutOfMemory pair h = h
+none_off here i _ pair h = h
 
 without_pair : (setting : OldStrings) (b : Beginning) (limits : Bounds)
     (before : List Instruction) (here new : Sight) (at : ℕ) (r : Reason) (pair : Option Asked)
@@ -49,15 +32,15 @@ without_pair setting b limits before here new at r pair (judging h) =
 without_pair setting b limits before here new at r pair (growing h) = h.none
 
 -- the verdict for C, given the answer of the check, whose source held the pickle
-pub told_before : (old : OldStrings) (policy : Policy) (limits : Bounds)
-    (held pickle rest before after : List ℕ) (wanted : ℕ) (verdict : Verdict) (at : ℕ)
-    (why : Reason) (pair : Option Asked) (imports : List Asked) → policy ≡ None → held ≡ pickle
+pub told_before : {old : OldStrings} {policy : Policy} {limits : Bounds}
+    {held pickle rest before after : List ℕ} {wanted : ℕ} {verdict : Verdict} {at : ℕ}
+    {why : Reason} {pair : Option Asked} {imports : List Asked} → policy ≡ None → held ≡ pickle
     → RefusedWithImports 0 old Afresh policy limits (memory held) (memory rest) at why pair imports
     → verdict ≡ verdict_behind at why (length imports) → verdict.at ≡ at
     → wanted ≡ wanted_by imports → after ≡ placed (encoded_all imports) before
     → IsImportsBefore old limits pickle before after wanted verdict
-told_before old policy limits held pickle rest before after wanted verdict at why pair imports any
-    same refused told place asks room =
+told_before {old} {limits = limits} {held} {rest = rest} {verdict = verdict} {at} {why} {pair}
+    {imports} any same refused told place asks room =
     let r = subst (λ p. RefusedWithImports 0 old Afresh p limits (memory held) (memory rest) at
     why pair imports) any refused in
     let none = without_pair old Afresh limits r.refused.instructions r.refused.here (memory rest)
