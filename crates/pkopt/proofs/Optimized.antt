@@ -1,7 +1,7 @@
 -- What the answers of `optimize` rest on.
 use Rattle.std.proofs.Common.{◌≡◌, ℕ, zero, suc, ◌<◌, ◌≤◌, ◌^◌, Bool, true, false, List, [], ◌∷◌}
-use Rattle.std.proofs.Common.{◌++◌, length, Option, None, Some, Result, cond, Ok}
-use Rattle.std.proofs.Common.{inl, inr, refl, sym, ap, subst, ◌∙◌, arith}
+use Rattle.std.proofs.Common.{◌++◌, length, Option, None, Some, Result, cond, Ok, inl, inr, refl}
+use Rattle.std.proofs.Common.{sym, ap, subst, ◌∙◌, arith}
 use Rattle.std.proofs.lemmas.Bool.{cond_both}
 use Rattle.std.specs.Prelude.{◌≢◌, All, slice_index_or}
 use Rattle.pkops.specs.Limits.{Bounds, holding_all}
@@ -28,13 +28,13 @@ use Rattle.pkopt.specs.Private.Passes.{IsNewTrace, Hears}
 use Rattle.pkopt.specs.Private.TracedCheck.{IsTraced}
 use Rattle.pkopt.specs.Answer.{Checks, pickle, Optimizes, IsNotOptimized}
 use Rattle.pkread.specs.Rows.{in_memory}
-use Rattle.pkopt.specs.Private.Fates.{Aims, IsSlim, IsPlanFor}
+use Rattle.pkopt.specs.Private.Fates.{IsPlanFor}
+use Rattle.pkopt.proofs.SlimForm.Written.{Aims, IsSlim}
 use Rattle.pkopt.specs.Private.FrameBytes.{framed_bytes}
 use Rattle.pkopt.specs.Private.Outputs.{output, slim_bytes}
-use Rattle.pkopt.specs.Private.Places.{has_frames}
-use Rattle.pkopt.specs.Private.Places.{places_behind}
+use Rattle.pkopt.specs.Private.Places.{has_frames, places_behind}
 use Rattle.pkopt.specs.Private.Produced.{first_past}
-use Rattle.pkopt.specs.Private.Fronts.{EndsInStop}
+use Rattle.pkopt.proofs.SlimForm.Allowed.{EndsInStop}
 use Rattle.pkopt.specs.Limit.{IsPastLimit}
 use Rattle.pkopt.specs.OneFrame.{has_frame, optimized}
 use Rattle.pkopt.specs.RunsAlike.{RunsAlike}
@@ -51,7 +51,8 @@ use Rattle.pkopt.proofs.SlimForm.Unchanged.{framed_places}
 use Rattle.pkopt.proofs.SlimForm.Whole.{past_found, produced_slim}
 use Rattle.pkopt.specs.declared.place.Place.{Place}
 use Rattle.std.specs.List.{list_any}
-use Rattle.pkopt.proofs.SlimForm.WritesRead.{all_read, after_all-append}
+use Rattle.pkopt.proofs.SlimForm.WritesRead.{all_read}
+use Rattle.pkopt.specs.Private.HeardParts.{after_all-append}
 use Rattle.pkopt.proofs.OneFrame.OneSequence.{optimized_sequence}
 use Rattle.pkopt.proofs.BothRuns.SlimRuns.{AreSmall, slim_alike}
 
@@ -153,32 +154,24 @@ optimizes exact well_free carries limits bytes c limit out has result lt short s
     }
 
 -- the check was heard
-traced_memory : (limits : Bounds) (bytes rest : List ℕ) (accepted : Yes) (hs : List Heard)
-    (x y : Trace) → IsRightAndHeard None (holding_all limits) (in_memory bytes) (in_memory rest)
-    (Ok accepted) hs → IsNewTrace x → Hears x y hs → IsTraced limits bytes
-    (record { taken = accepted.taken; trace = y })
-traced_memory limits bytes rest accepted hs x y h first heard = record {
-  checks = record {
-    rest = rest;
-    taken = accepted.taken;
-    imports = accepted.imports;
-    accepted = h.right;
-  };
-  tracks = heard_tracks x y h.right.instructions hs first h.each heard;
-  count = h.right.count;
-}
-
 pub is_traced : (limits : Bounds) (bytes left rest : List ℕ) (answer : Result Yes No)
     (accepted : Yes) (hs : List Heard) (x y : Trace) → left ≡ bytes → answer ≡ Ok accepted
     → IsRightAndHeard None (holding_all limits) (in_memory left) (in_memory rest) answer hs
     → IsNewTrace x → Hears x y hs → IsTraced limits bytes (record
     { taken = accepted.taken; trace = y })
-is_traced limits bytes left rest answer accepted hs x y e is h first heard =
-    subst (λ b. IsTraced limits b (record { taken = accepted.taken; trace = y })) e
-    (traced_memory limits left rest accepted hs x y
-    (subst
-    (λ a. IsRightAndHeard None (holding_all limits) (in_memory left) (in_memory rest) a hs) is
-    h) first heard)
+is_traced limits bytes left rest answer accepted hs x y e is g first heard =
+    let h : IsRightAndHeard None (holding_all limits) (in_memory bytes) (in_memory rest)
+    (Ok accepted) hs = rw (e, is) at g in
+    record {
+      checks = record {
+        rest = rest;
+        taken = accepted.taken;
+        imports = accepted.imports;
+        accepted = h.right;
+      };
+      tracks = heard_tracks x y h.right.instructions hs first h.each heard;
+      count = h.right.count;
+    }
 
 -- what the second pass is given
 pub aims_at : (limits : Bounds) (bytes : List ℕ) (x : Traced) (plan : Plan)

@@ -2,7 +2,6 @@
 -- `optimize` follows from them.
 pub mod Entries
 pub mod Sourced
-pub mod Fronts
 pub mod Memories
 pub mod Places
 pub mod Packing

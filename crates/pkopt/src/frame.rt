@@ -1,8 +1,6 @@
 //! The front of a form that is inside a frame.
 
 ghost use Rattle.std.specs.Prelude.{◌≡◌, ◌<◌, ◌≤◌, ◌^◌, [], IfOk, cond};
-ghost use Rattle.pkops.specs.Table.{code_of};
-ghost use Rattle.pkops.specs.declared.Op.TheVariants.{Frame};
 ghost use Rattle.pkopt.specs.Private.FrameBytes.{front_from, head_from};
 
 use crate::measure::Measure;
@@ -31,13 +29,6 @@ fn head_length(measure: Measure) -> usize
     }
 }
 
-/// The code byte of a FRAME.
-fn frame_code() -> u8
-    ensures { result ≡ code_of Frame }
-{
-    row(Op::Frame).code
-}
-
 /// A leading PROTO, then the FRAME around the other bytes of the slim form.
 fn framed_front(alloc: Global, measure: Measure) -> Result<Front, AllocError>
     ensures bytes { IfOk result (λ front. front.bytes.items ≡ front_from measure) }
@@ -48,7 +39,7 @@ fn framed_front(alloc: Global, measure: Measure) -> Result<Front, AllocError>
     let contents = measure.len - head as u64;
     let mut bytes = Vec::new(alloc);
     bytes.extend_from_slice(&[measure.first, measure.second][..head])?;
-    bytes.push(frame_code())?;
+    bytes.push(row(Op::Frame).code)?;
     bytes.extend_from_slice(&contents.to_le_bytes())?;
     Ok(Front { bytes, head })
 }

@@ -40,17 +40,6 @@ fn lacks_memory() -> Refusal
     }
 }
 
-/// The refusal of a write whose new number would be the limit.
-fn too_large(at: u64) -> Refusal
-    ensures at { result.at ≡ at }
-    ensures reason { result.reason ≡ reason.TooLarge }
-{
-    Refusal {
-        at,
-        reason: Reason::TooLarge,
-    }
-}
-
 /// Plans what happens to the memo instructions of a pickle.
 fn plan_of(alloc: Global, sources: Sources, limits: &Limits) -> Result<Plan, AllocError>
     ensures plan { IfOk result (λ plan. (p : List Instruction) → sources.items ≡ sources_of [] p →
@@ -168,7 +157,10 @@ pub fn optimized_form<'a>(
         return Err(lacks_memory());
     };
     if let Some(at) = past_limit(&list, &plan, writes) {
-        return Err(too_large(at));
+        return Err(Refusal {
+            at,
+            reason: Reason::TooLarge,
+        });
     }
     // The parts end at the end of an instruction.
     if end > taken {

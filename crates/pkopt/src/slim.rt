@@ -122,27 +122,6 @@ impl Pass {
         }
     }
 
-    /// Gives a sink what is left of the instruction at a place, and counts it.
-    #[inline(always)]
-    fn give<S: Sink>(
-        &mut self,
-        plan: &Plan,
-        place: Place,
-        bytes: &[u8],
-        sink: &mut S,
-    ) -> Result<(), S::Error>
-        requires writes { self.old.writes < 2 ^ 63 }
-        requires reads { self.old.reads < 2 ^ 63 }
-        requires low { self.old.from ≤ place.at }
-        requires high { place.at + place.size ≤ length bytes.now }
-        ensures form { OnOk result (S.takes sink.old sink.new
-            (emitted (fate_at plan.now place self.old) place bytes.now self.old.from)) }
-        ensures pass { OnOk result (self.new ≡ passed plan.now place self.old) }
-    {
-        let fate = self.fate(plan, place.op);
-        self.emit(fate, place, bytes, sink)
-    }
-
     /// Gives a sink the unchanged bytes before a BINGET and the BINGET with its new number.
     #[inline(always)]
     fn give_with_binget<S: Sink>(
@@ -170,7 +149,7 @@ impl Pass {
         sink.take_with_two(bytes, from, here, code(Op::BinGet), number as u8)
     }
 
-    /// Does for a BINGET what `give` does, with one jump table less.
+    /// Does for a BINGET what `give` does, with one jump table less than for other opcodes.
     #[inline(always)]
     fn give_binget<S: Sink>(
         &mut self,
@@ -247,9 +226,10 @@ impl Pass {
         }
     }
 
-    /// Does what `give` does, with less work for the most frequent opcodes of long pickles.
+    /// Gives a sink what is left of the instruction at a place, and counts it, with less work for
+    /// the most frequent opcodes of long pickles.
     #[inline(always)]
-    fn give_by_opcode<S: Sink>(
+    fn give<S: Sink>(
         &mut self,
         plan: &Plan,
         place: Place,
@@ -273,7 +253,8 @@ impl Pass {
         if let Op::LongBinPut = place.op {
             return self.give_long_binput(plan, place, bytes, sink);
         }
-        self.give(plan, place, bytes, sink)
+        let fate = self.fate(plan, place.op);
+        self.emit(fate, place, bytes, sink)
     }
 }
 
@@ -298,7 +279,7 @@ pub(crate) fn give_slim<S: Sink>(
         let place = part.place_behind(end);
         end = place.at + u64::from(place.size);
         // The fate of an instruction that never changes is to stay.
-        pass.give_by_opcode(plan, place, bytes, sink)?;
+        pass.give(plan, place, bytes, sink)?;
     }
     sink.take(&bytes[pass.from..taken])
 }

@@ -1,20 +1,17 @@
 -- A step in two states that differ in their memos alone.
-use Rattle.std.proofs.Common.{◌≡◌, ℕ, Bool, true, false, List, [], ◌∷◌, map, Result, Ok, Err, refl}
-use Rattle.std.proofs.Common.{sym, subst}
+use Rattle.std.proofs.Common.{◌≡◌, ℕ, Bool, true, List, [], ◌∷◌, map, Result, Ok, Err, refl, sym}
+use Rattle.std.proofs.Common.{subst}
 use Rattle.pkops.specs.Spelling.{Instruction}
 use Rattle.pkmachine.specs.declared.effect.Names.{Names}
 use Rattle.pkmachine.specs.declared.effect.Gives.{Gives}
 use Rattle.pkmachine.specs.Effects.{Effect, Operates, Moves, Stops, Raises}
-use Rattle.pkstack.specs.declared.Move.TheVariants.{PushesMark, Pops, PopsMark, Duplicates}
-use Rattle.pkstack.specs.declared.Move.TheVariants.{Stores, StoresNext, Fetches, Passes}
-use Rattle.pkstack.specs.declared.Move.TheVariants.{Extends}
+use Rattle.pkstack.specs.declared.Move.TheVariants.{PushesMark, Pops, PopsMark, Duplicates, Stores}
+use Rattle.pkstack.specs.declared.Move.TheVariants.{StoresNext, Fetches, Passes, Extends}
 use Rattle.pkstack.specs.Shape.{Breach, Entry, Item, Taken, and_then, slice, operands, top, popped}
-use Rattle.pkmachine.specs.Runs.{Import, State, Outcome, Raise, Go, Stepped, WentOn, Raised}
-use Rattle.pkmachine.specs.Runs.{Stopped}
+use Rattle.pkmachine.specs.Runs.{Import, State, Outcome, Raise, Stepped, WentOn, Raised, Stopped}
 use Rattle.pkmachine.specs.Runs.{Stuck, Named, NoImport, Pair, NotTexts, class_at, named}
-use Rattle.pkmachine.specs.Runs.{with_event}
-use Rattle.pkmachine.specs.Runs.{asks, come_of, operated, move_step, stop_step, operate_step}
-use Rattle.pkmachine.specs.Runs.{perform}
+use Rattle.pkmachine.specs.Runs.{with_event, asks, come_of, operated, move_step, stop_step}
+use Rattle.pkmachine.specs.Runs.{operate_step, perform}
 use Rattle.pkmachine.specs.WholeRuns.{Ended, go_on}
 use Rattle.pkcheck.specs.Ends.{IsFree, SameHistory, SameEnd}
 
@@ -35,8 +32,7 @@ come_same : (b : Bool) (gives : Gives) (i : Instruction) (t : Taken ℕ) (o : Ou
     (m : List (ℕ × ℕ)) (r s : State) → s.shape.memo ≡ r.shape.memo
     → SameStep m r (come_of b gives i t o s) (come_of b gives i t o (with_memo m s))
 come_same true gives i t Raise m r s e = record { objects = refl; events = refl }
-come_same true gives i t (Go n c) m r s e = (e, refl)
-come_same false gives i t o m r s e = (e, refl)
+come_same b gives i t o m r s e = (e, refl)
 
 operated_same : (n : Named) (gives : Gives) (i : Instruction) (t : Taken ℕ) (o : Outcome)
     (m : List (ℕ × ℕ)) (s : State) → SameStep m s (operated n gives i t o s)
@@ -88,13 +84,11 @@ perform_same (Moves Pops) i o m s h = popped_same s.shape.entries m s
 perform_same (Moves PopsMark) i o m s h = cut_same (slice s.shape.entries []) (λ t. t.below) m s
 perform_same (Moves Duplicates) i o m s h = cut_same (top s.shape.entries)
     (λ t. Item t.0 ∷ s.shape.entries) m s
-perform_same (Moves Stores) i o m s h = absurd h
-perform_same (Moves StoresNext) i o m s h = absurd h
-perform_same (Moves Fetches) i o m s h = absurd h
 perform_same (Moves Passes) i o m s h = (refl, refl)
 perform_same (Moves Extends) i o m s h = tt
 perform_same Stops i o m s h = stop_same (top s.shape.entries) m s
 perform_same Raises i o m s h = record { objects = refl; events = refl }
+perform_same e i o m s h = absurd h
 
 -- where the runs after the same step are alike, so are these
 pub step_on : (m : List (ℕ × ℕ)) (s : State) (a b : Stepped) (f g : State → Ended)

@@ -22,16 +22,13 @@ use Rattle.pkmachine.specs.Faults.{AsksAlways, AsksFor, AsksOnce, HasNonText, Ha
 use Rattle.pkmachine.specs.Faults.{InEachRun, IsRaise, IsStuck, LeavesMore, RaisesThere, everyone}
 use Rattle.pkmachine.specs.Knowledge.{Policy}
 use Rattle.pkimport.specs.Import.{AskedPair}
-use Rattle.pkmachine.specs.RowRuns.{Afresh, Arrives}
+use Rattle.pkmachine.specs.RowRuns.{Afresh, Arrives, RunsBehind}
 use Rattle.pkcheck.specs.RunFaults.{HasRunFault}
-use Rattle.pkmachine.specs.RowRuns.{RunsBehind}
 use Rattle.pkmachine.specs.Runs.{Event, State, Outcome, Raise, Stepped, WentOn, Raised, Stopped}
-use Rattle.pkmachine.specs.Runs.{Stuck, effect_asks, move_step, perform, start, step}
+use Rattle.pkmachine.specs.Runs.{effect_asks, move_step, perform, start, step}
 use Rattle.pkstack.specs.Shape.{Breach, Entry, Shape, moved}
-use Rattle.pkmachine.specs.WholeRuns.{Ended, EndedBy, EndsWell, Reached, Sound, first_outcome}
-use Rattle.pkmachine.specs.WholeRuns.{go_on}
+use Rattle.pkmachine.specs.WholeRuns.{Ended, EndedBy, EndsWell, Reached, Sound, first_outcome, go_on}
 use Rattle.pkmachine.specs.WholeRuns.{outcomes_after, run}
-use Rattle.pkopt.specs.Faultless.{StaysFaultless}
 use Rattle.pkopt.proofs.BothRuns.AlikeSteps.{SameStep, perform_same, with_memo}
 use Rattle.pkopt.proofs.BothRuns.Origins.{Counterpart, IsMove}
 
@@ -71,9 +68,7 @@ through_step : (st : Stepped) (f g : State → Ended) (t : State) (rest : List I
     → ((u : State) → f u ≡ Reached t → (os : List Outcome) × (g u ≡ run rest os t))
     → go_on st f ≡ Reached t → (os : List Outcome) × (go_on st g ≡ run rest os t)
 through_step (WentOn u) f g t rest on e = on u e
-through_step (Raised u) f g t rest on e = absurd cc
-through_step (Stopped x u) f g t rest on e = absurd cc
-through_step (Stuck b) f g t rest on e = absurd cc
+through_step st f g t rest on e = absurd cc
 
 same_reached : (s t : State) → Reached s ≡ Reached t → s ≡ t
 same_reached s t e = cc
@@ -90,9 +85,7 @@ reached_left : (t : State) (end : Ended) → SameEnd end (Reached t)
     → (s : State) × (end ≡ Reached s) × SameEnd (Reached s) (Reached t)
 reached_left t (Reached s) h = (s, refl, h)
 reached_left t (EndedBy (WentOn s)) h = absurd h
-reached_left t (EndedBy (Raised s)) h = absurd h
-reached_left t (EndedBy (Stopped x s)) h = absurd h
-reached_left t (EndedBy (Stuck b)) h = absurd h
+reached_left t end h = absurd h
 
 reached_right : (s : State) (end : Ended) → SameEnd (Reached s) end
     → (t : State) × (end ≡ Reached t) × SameEnd (Reached s) (Reached t)
@@ -254,10 +247,8 @@ module _ (p q : List Instruction) (framed : Framed (map piece_of q)) (list : Lis
 
     not_of_move : (r : Reason) → HasRunFault policy limits front
         (everyone (RunsBehind Unknown front)) j r → IsOfOperation r → ⊥
-    not_of_move reason.WrongClass f is = subst (λ e. HasWrongReceiver e f.some.0) m.1
-        (f.each f.some.0 f.some.1)
-    not_of_move reason.NotText f is = subst (λ e. HasNonText e f.some.0) m.1
-        (f.each f.some.0 f.some.1)
+    not_of_move reason.WrongClass f is = rw m.1 at (f.each f.some.0 f.some.1)
+    not_of_move reason.NotText f is = rw m.1 at (f.each f.some.0 f.some.1)
     not_of_move reason.UnknownImport (a, b, (once, two), off) is = no_ask a b once
     not_of_move reason.ImportOffList (a, b, (all, off)) is =
         let s = all.some in
@@ -307,29 +298,24 @@ module _ (p q : List Instruction) (framed : Framed (map piece_of q)) (list : Lis
         | inr c ↦ not_of_counterpart c r f is
       ]
 
-  no_fault : (r : Reason) → r ≢ reason.TooLarge
+  -- the optimized form has no fault but limits
+  pub stays_faultless : (r : Reason) → r ≢ reason.TooLarge
       → HasRunFault policy limits front (everyone (RunsBehind Unknown front)) j r → ⊥
-  no_fault reason.BrokenFrame n f =
+  stays_faultless reason.BrokenFrame n f =
       let laid = ap (map piece_of) parts ∙ map-append piece_of front (j ∷ back) in
       f
       (framed_last (map piece_of front) (piece_of j) (map piece_of back)
       (framed (map piece_of front) (piece_of j) (map piece_of back) laid))
-  no_fault reason.MissingMark n f = never _ (stuck_unwell list j _) f
-  no_fault reason.MissingItem n f = never _ (stuck_unwell list j _) f
-  no_fault (reason.MissingMemo k) n f = never _ (stuck_unwell list j _) f
-  no_fault reason.OddItems n f = never _ (stuck_unwell list j _) f
-  no_fault reason.LeftOver n f = never _ (λ s o g h w. left_unwell list j (step j s o) g (h o) w) f
-  no_fault reason.WrongClass n f = of_operation reason.WrongClass tt f
-  no_fault reason.NotText n f = of_operation reason.NotText tt f
-  no_fault reason.UnknownImport n f = of_operation reason.UnknownImport tt f
-  no_fault reason.ImportOffList n f = of_operation reason.ImportOffList tt f
-  no_fault reason.NotAscii n f = of_operation reason.NotAscii tt f
-  no_fault reason.TooLarge n f = n refl
-  no_fault r n f = f
-
-pub stays_faultless : (p q : List Instruction) → Framed (map piece_of q)
-    → (list : List ℕ → List ℕ → Bool) → Sound Unknown q list
-    → ((front : List Instruction) (j : Instruction) (back : List Instruction)
-    → q ≡ front ++ j ∷ back → IsMove j ⊎ Counterpart p front j) → StaysFaultless p q
-stays_faultless p q framed list sound find policy limits faultless front j back parts r n f =
-    no_fault p q framed list sound find policy limits faultless front j back parts r n f
+  stays_faultless reason.MissingMark n f = never _ (stuck_unwell list j _) f
+  stays_faultless reason.MissingItem n f = never _ (stuck_unwell list j _) f
+  stays_faultless (reason.MissingMemo k) n f = never _ (stuck_unwell list j _) f
+  stays_faultless reason.OddItems n f = never _ (stuck_unwell list j _) f
+  stays_faultless reason.LeftOver n f =
+      never _ (λ s o g h w. left_unwell list j (step j s o) g (h o) w) f
+  stays_faultless reason.WrongClass n f = of_operation reason.WrongClass tt f
+  stays_faultless reason.NotText n f = of_operation reason.NotText tt f
+  stays_faultless reason.UnknownImport n f = of_operation reason.UnknownImport tt f
+  stays_faultless reason.ImportOffList n f = of_operation reason.ImportOffList tt f
+  stays_faultless reason.NotAscii n f = of_operation reason.NotAscii tt f
+  stays_faultless reason.TooLarge n f = n refl
+  stays_faultless r n f = f

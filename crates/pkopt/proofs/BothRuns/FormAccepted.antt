@@ -1,6 +1,6 @@
 -- A check that accepts a pickle refuses its optimized form for limits alone.
 use Rattle.std.proofs.Common.{◌≡◌, ℕ, List, [], ◌∷◌, ◌++◌, length, Some, inl, inr, refl, sym, ap}
-use Rattle.std.proofs.Common.{subst, ◌∙◌}
+use Rattle.std.proofs.Common.{subst, ◌∙◌, arith}
 use Rattle.std.specs.Prelude.{All, ◌≤◌}
 use Rattle.std.proofs.lemmas.List.Elements.{All-cons, All-head, All-nil, All-tail}
 use Rattle.pkops.specs.Limits.{holding_all}
@@ -25,22 +25,7 @@ use Rattle.pkopt.proofs.BothRuns.Origins.{stands}
 no_payload : (limit : ℕ) (o : Op) (m : Move) (payload : List ℕ) → effect_of o ≡ Moves m
     → Suits (layout_at o) (Counted payload) → IsWithin limit (Counted payload)
 no_payload limit op.Pop m payload e h = absurd h
-no_payload limit op.Dup m payload e h = absurd h
-no_payload limit op.Mark m payload e h = absurd h
-no_payload limit op.PopMark m payload e h = absurd h
-no_payload limit op.Get m payload e h = absurd h
-no_payload limit op.BinGet m payload e h = absurd h
-no_payload limit op.LongBinGet m payload e h = absurd h
-no_payload limit op.Put m payload e h = absurd h
-no_payload limit op.BinPut m payload e h = absurd h
-no_payload limit op.LongBinPut m payload e h = absurd h
-no_payload limit op.Memoize m payload e h = absurd h
-no_payload limit op.Ext1 m payload e h = absurd h
-no_payload limit op.Ext2 m payload e h = absurd h
-no_payload limit op.Ext4 m payload e h = absurd h
-no_payload limit op.Proto m payload e h = absurd h
-no_payload limit op.Frame m payload e h = absurd h
-no_payload limit o m payload e h = absurd cc
+no_payload limit o m payload e h = grind (arith, h)
 
 move_within : (limit : ℕ) (o : Op) (m : Move) (a : Argument) → effect_of o ≡ Moves m
     → Suits (layout_at o) a → IsWithin limit a

@@ -1,6 +1,6 @@
 -- What is known along a pickle, heard instruction by instruction.
-use Rattle.std.proofs.Common.{◌≡◌, ℕ, ◌+◌, false, cond, List, [], ◌∷◌, ◌++◌, length, Option}
-use Rattle.std.proofs.Common.{Result, Ok, Err, refl, sym, ap, ◌∙◌, append-nil, length-append}
+use Rattle.std.proofs.Common.{◌≡◌, ℕ, ◌+◌, false, cond, List, [], ◌∷◌, ◌++◌, length, Option, Result}
+use Rattle.std.proofs.Common.{Ok, Err, refl, sym, ap, ◌∙◌, append-nil, length-append}
 use Rattle.std.specs.Prelude.{OnOk}
 use Rattle.pkops.specs.Operands.{memo_number}
 use Rattle.pkops.specs.Spelling.{Instruction, spelling}
@@ -8,13 +8,10 @@ use Rattle.pkread.specs.Sequence.{spellings}
 use Rattle.pkmachine.specs.Effects.{effect_of}
 use Rattle.pkcheck.specs.Heard.{Heard, heard, AreHeardBehind}
 use Rattle.pkopt.specs.declared.place.Part.{Part}
-use Rattle.pkopt.specs.declared.place.Place.{Place}
 use Rattle.pkopt.specs.declared.trace.Trace.{Trace}
-use Rattle.pkopt.specs.Private.Passes.{IsNewTrace, EndsSo, Hears, Marks, NotesStep}
-use Rattle.pkopt.specs.Private.Passes.{Tracks}
-use Rattle.pkopt.specs.Private.Places.{end_behind, has_frames, stays_as_is, place_of}
-use Rattle.pkopt.specs.Private.Places.{places_behind}
-use Rattle.pkopt.specs.Private.Places.{places_from, places_told, told}
+use Rattle.pkopt.specs.Private.Passes.{IsNewTrace, EndsSo, Hears, Marks, NotesStep, Tracks}
+use Rattle.pkopt.specs.Private.Places.{end_behind, has_frames, stays_as_is, place_of, places_behind}
+use Rattle.pkopt.specs.Private.Places.{places_from, places_told, told, with_place}
 use Rattle.pkopt.specs.Writers.{read_by, sources, after_all}
 use Rattle.pkopt.proofs.MemoWrites.Followed.{holds_none}
 use Rattle.pkopt.proofs.SlimForm.Unchanged.{spellings-append}
@@ -42,8 +39,7 @@ heard_told : (before is : List Instruction) (hs : List Heard) → AreHeardBehind
 heard_told before [] [] h = refl
 heard_told before (i ∷ is) (x ∷ hs) h = ap (λ (j : Instruction). j ∷ told hs) h.0.same
     ∙ ap (λ (l : List Instruction). i ∷ l) (heard_told (before ++ i ∷ []) is hs h.1)
-heard_told before [] (x ∷ hs) h = absurd h
-heard_told before (i ∷ is) [] h = absurd h
+heard_told before is hs h = absurd h
 
 heard_places : (before is : List Instruction) (hs : List Heard) → AreHeardBehind before is hs
     → places_told hs ≡ places_from (length (spellings before)) is
@@ -53,15 +49,11 @@ heard_places before (i ∷ is) (x ∷ hs) h =
     + length (spelling i) = ap length (spellings-append before (i ∷ []))
     ∙ length-append (spellings before) (spelling i ++ [])
     ∙ ap (λ (l : List ℕ). length (spellings before) + length l) (append-nil (spelling i)) in
-    ap
-    (λ (j : Instruction). cond (stays_as_is j.op) (places_told hs)
-    (place_of x.at j ∷ places_told hs)) h.0.same
-    ∙ ap (λ at. cond (stays_as_is i.op) (places_told hs) (place_of at i ∷ places_told hs)) h.0.place
-    ∙ ap
-    (λ (l : List Place). cond (stays_as_is i.op) l (place_of (length (spellings before)) i ∷ l))
+    ap (λ (j : Instruction). with_place (place_of x.at j) (places_told hs)) h.0.same
+    ∙ ap (λ at. with_place (place_of at i) (places_told hs)) h.0.place
+    ∙ ap (with_place (place_of (length (spellings before)) i))
     (heard_places (before ++ i ∷ []) is hs h.1 ∙ ap (λ at. places_from at is) more)
-heard_places before [] (x ∷ hs) h = absurd h
-heard_places before (i ∷ is) [] h = absurd h
+heard_places before is hs h = absurd h
 
 pub heard_tracks : (x y : Trace) (p : List Instruction) (hs : List Heard) → IsNewTrace x
     → AreHeardBehind [] p hs → Hears x y hs → Tracks p y

@@ -1,25 +1,22 @@
 -- Which instruction of a pickle each one of its optimized form comes from, and the runs that get
 -- to the two.
 use Rattle.std.proofs.Common.{◌≡◌, ℕ, Bool, true, false, cond, List, [], ◌∷◌, ◌++◌, length, Option}
-use Rattle.std.proofs.Common.{Some, None, ◌⊎◌, inl, inr, refl, sym, ap, subst, ◌∙◌, arith}
-use Rattle.pkops.specs.Operands.{memo_number}
+use Rattle.std.proofs.Common.{◌⊎◌, inl, inr, refl, sym, ap, subst, ◌∙◌, arith}
 use Rattle.pkops.specs.Spelling.{Instruction}
 use Rattle.pkstack.specs.declared.Move.{Move}
 use Rattle.pkstack.specs.declared.Move.TheVariants.{Stores, StoresNext, Fetches, Passes}
 use Rattle.pkmachine.specs.Effects.{Effect, Moves, effect_of}
 use Rattle.pkcheck.specs.Ends.{IsFree, SameEnd}
-use Rattle.pkmachine.specs.Runs.{State, Outcome, Stepped, WentOn, Raised, Stopped, Stuck, start}
-use Rattle.pkmachine.specs.Runs.{step}
-use Rattle.pkmachine.specs.Runs.{effect_asks}
+use Rattle.pkmachine.specs.Runs.{State, Outcome, Stepped, WentOn, start, step, effect_asks}
 use Rattle.pkmachine.specs.WholeRuns.{Ended, go_on, run, first_outcome, outcomes_after}
 use Rattle.pkopt.specs.OneFrame.{is_proto, has_frame, frame_around, in_frame, optimized}
 use Rattle.pkopt.specs.RunsAlike.{RunsAlike}
-use Rattle.pkopt.specs.Slim.{is_frame, renumbered, read_left, left_of, slim_from, slim}
-use Rattle.pkopt.specs.Writers.{Writes, last_write, after, sources, is_read, new_number, after_all}
+use Rattle.pkopt.specs.Slim.{renumbered, left_of, slim_from, slim}
+use Rattle.pkopt.specs.Writers.{Writes, after, sources, is_read, new_number, after_all}
 use Rattle.pkopt.proofs.BothRuns.AlikeSteps.{IsBlind}
-use Rattle.pkopt.proofs.SlimForm.NewForms.{form_effect}
+use Rattle.pkopt.proofs.SlimForm.NewForms.{NamesNumber, form_effect, left_by}
 use Rattle.pkopt.proofs.MemoWrites.NewNumbers.{after_all_le}
-use Rattle.pkopt.proofs.SlimForm.WritesRead.{sources-append, after_all-append}
+use Rattle.pkopt.specs.Private.HeardParts.{after_all-append, sources-append}
 use Rattle.pkopt.proofs.BothRuns.SlimRuns.{AreSmall, alike_from, read_first, related_none}
 
 -- an instruction that is a move
@@ -34,58 +31,33 @@ same_one : (i j : Instruction) → i ∷ [] ≡ j ∷ [] → i ≡ j
 same_one i j e = cc
 
 module _ (vs : List (Option ℕ)) where
-  stored_left : (b : Bool) (m : Move) (i j : Instruction) → effect_of i.op ≡ Moves m
-      → cond b (i ∷ []) [] ≡ j ∷ [] → IsMove j
-  stored_left true m i j e q = (m, ap (λ k. effect_of k.op) (sym (same_one i j q)) ∙ e)
-  stored_left false m i j e q = absurd cc
+  own_left : (i : Instruction) (e : Effect) → effect_of i.op ≡ e → IsLeftOf i i
+  own_left i (Moves Stores) q = inl (Stores, q)
+  own_left i (Moves StoresNext) q = inl (StoresNext, q)
+  own_left i (Moves Fetches) q = inl (Fetches, q)
+  own_left i e q = inr (refl, subst IsBlind (sym q) tt)
 
-  fetched_left : (a : Option ℕ) (i j : Instruction) → effect_of i.op ≡ Moves Fetches
-      → read_left vs a i ≡ j ∷ [] → IsMove j
-  fetched_left (Some w) i j e q =
-      let n = new_number vs w in (
-        Fetches,
-        ap (λ k. effect_of k.op) (sym (same_one (renumbered n i) j q)) ∙ form_effect i.op n ∙ e,
-      )
-  fetched_left None i j e q = (Fetches, ap (λ k. effect_of k.op) (sym (same_one i j q)) ∙ e)
+  names_move : (e : Effect) → NamesNumber e → (m : Move) × (e ≡ Moves m)
+  names_move (Moves Stores) names = (Stores, refl)
+  names_move (Moves Fetches) names = (Fetches, refl)
+  names_move e names = absurd names
 
-  passed_left : (b : Bool) (i j : Instruction) → cond b [] (i ∷ []) ≡ j ∷ [] → j ≡ i
-  passed_left true i j q = absurd cc
-  passed_left false i j q = sym (same_one i j q)
-
-  left_is : (ws : Writes) (e : Effect) (i j : Instruction) → effect_of i.op ≡ e
-      → left_of vs ws e i ≡ j ∷ [] → IsLeftOf i j
-  left_is ws (Moves Stores) i j e q =
-      let n = new_number vs (length ws) in
-      inl
-      (stored_left (is_read (length ws) vs) Stores (renumbered n i) j
-      (form_effect i.op n ∙ e) q)
-  left_is ws (Moves StoresNext) i j e q =
-      inl (stored_left (is_read (length ws) vs) StoresNext i j e q)
-  left_is ws (Moves Fetches) i j e q = inl (fetched_left (last_write (memo_number i) ws) i j e q)
-  left_is ws other i j e q = inr (passed_left (is_frame i.op) i j q, subst IsBlind (sym e) tt)
+  left_is : (ws : Writes) (i j : Instruction) → left_of vs ws (effect_of i.op) i ≡ j ∷ []
+      → IsLeftOf i j
+  left_is ws i j = left_by (λ l. l ≡ j ∷ [] → IsLeftOf i j) vs ws i (effect_of i.op)
+      (λ q. absurd cc) (λ q. subst (IsLeftOf i) (same_one i j q) (own_left i (effect_of i.op) refl))
+      (λ w names lt q.
+      let n = new_number vs w in
+      let m = names_move (effect_of i.op) names in
+      inl (subst IsMove (same_one (renumbered n i) j q) (m.0, form_effect i.op n ∙ m.1)))
 
   -- none or one
   abbrev IsShort : List Instruction → Type 0
   IsShort l = (l ≡ []) ⊎ ((k : Instruction) × (l ≡ k ∷ []))
 
-  one_short : (b : Bool) (i : Instruction) → IsShort (cond b (i ∷ []) [])
-  one_short true i = inr (i, refl)
-  one_short false i = inl refl
-
-  passed_short : (b : Bool) (i : Instruction) → IsShort (cond b [] (i ∷ []))
-  passed_short true i = inl refl
-  passed_short false i = inr (i, refl)
-
-  read_short : (a : Option ℕ) (i : Instruction) → IsShort (read_left vs a i)
-  read_short (Some w) i = inr (renumbered (new_number vs w) i, refl)
-  read_short None i = inr (i, refl)
-
-  left_short : (ws : Writes) (e : Effect) (i : Instruction) → IsShort (left_of vs ws e i)
-  left_short ws (Moves Stores) i = one_short (is_read (length ws) vs)
-      (renumbered (new_number vs (length ws)) i)
-  left_short ws (Moves StoresNext) i = one_short (is_read (length ws) vs) i
-  left_short ws (Moves Fetches) i = read_short (last_write (memo_number i) ws) i
-  left_short ws e i = passed_short (is_frame i.op) i
+  left_short : (ws : Writes) (i : Instruction) → IsShort (left_of vs ws (effect_of i.op) i)
+  left_short ws i = left_by IsShort vs ws i (effect_of i.op) (inl refl) (inr (i, refl))
+      (λ w names lt. inr (renumbered (new_number vs w) i, refl))
 
   -- the instruction that this one of a slim form is left of
   record Origin (ws : Writes) (is front : List Instruction) (j : Instruction) : Type 0 where
@@ -132,15 +104,14 @@ module _ (vs : List (Option ℕ)) where
           later = is;
           parts = refl;
           front_is = refl;
-          left = left_is ws (effect_of i.op) i j refl (e ∙ one ∙ ap (λ x. x ∷ []) same);
+          left = left_is ws i j (e ∙ one ∙ ap (λ x. x ∷ []) same);
         }
     origin_by (f ∷ front) l e (inr (k, one)) q on =
         let all : k ∷ slim_from vs (after i ws) is ≡ f ∷ (front ++ j ∷ back) =
         ap (λ (xs : List Instruction). xs ++ slim_from vs (after i ws) is) (sym one) ∙ q in
         let same : k ≡ f = cc in
         let rest : slim_from vs (after i ws) is ≡ front ++ j ∷ back = cc in
-        subst (λ x. Origin ws (i ∷ is) (x ∷ front) j) same
-        (origin_behind ws i is front j (k ∷ []) (e ∙ one) (on front rest))
+        rw same at (origin_behind ws i is front j (k ∷ []) (e ∙ one) (on front rest))
 
   origin_of : (ws : Writes) (is front : List Instruction) (j : Instruction)
       (back : List Instruction) → slim_from vs ws is ≡ front ++ j ∷ back → Origin ws is front j
@@ -148,7 +119,7 @@ module _ (vs : List (Option ℕ)) where
   origin_of ws [] (f ∷ front) j back q = absurd cc
   origin_of ws (i ∷ is) front j back q =
       origin_by ws i is j back front (left_of vs ws (effect_of i.op) i) refl
-      (left_short ws (effect_of i.op) i) q
+      (left_short ws i) q
       (λ f rest. origin_of (after i ws) is f j back rest)
 
 -- the same place in the form without its frame
@@ -206,9 +177,7 @@ unframed false q front j back e =
 free_step : (st : Stepped) (f g : State → Ended) → ((t : State) → IsFree (f t) → IsFree (g t))
     → IsFree (go_on st f) → IsFree (go_on st g)
 free_step (WentOn t) f g on free = on t free
-free_step (Raised t) f g on free = free
-free_step (Stopped x t) f g on free = free
-free_step (Stuck b) f g on free = free
+free_step st f g on free = free
 
 free_front : (front rest : List Instruction) (os : List Outcome) (s : State)
     → IsFree (run (front ++ rest) os s) → IsFree (run front os s)
@@ -254,8 +223,7 @@ module _ (p : List Instruction) (small : AreSmall (sources [] p) (length (after_
       let size = ap (λ (x : Writes). length x) all in
       let more = after_all_le rest ws in
       alike_from vs (length (after_all p [])) small [] before start [] os
-      (λ w h. subst (λ us. is_read w us ≡ true) (sym read)
-      (read_first w (sources [] before) (sources ws rest) h))
+      (λ w h. rw read (read_first w (sources [] before) (sources ws rest) h))
       (omega (arith, size, more)) (related_none vs)
       (free_front before rest os start (subst (λ q. IsFree (run q os start)) e (free os)))
 

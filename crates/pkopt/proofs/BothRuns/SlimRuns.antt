@@ -1,10 +1,10 @@
 -- The runs of a pickle and of its slim form.
-use Rattle.std.proofs.Common.{◌≡◌, ℕ, suc, ◌<◌, ◌≤◌, ◌^◌, Bool, true, false, cond, ◌||◌, List, []}
-use Rattle.std.proofs.Common.{◌∷◌, ◌++◌, length, Option, Some, None, ◌⊎◌, inl, inr, refl, sym, ap}
-use Rattle.std.proofs.Common.{subst, ◌∙◌, arith}
+use Rattle.std.proofs.Common.{◌≡◌, ℕ, suc, ◌<◌, ◌≤◌, ◌^◌, Bool, true, false, cond, List, [], ◌∷◌}
+use Rattle.std.proofs.Common.{◌++◌, length, Option, Some, None, ◌⊎◌, inl, inr, refl, sym, ap, subst}
+use Rattle.std.proofs.Common.{◌∙◌, arith}
 use Rattle.std.specs.Prelude.{nat_eq, ◌≢◌}
 use Rattle.std.proofs.lemmas.Bool.Decides.{eqb_tells}
-use Rattle.std.proofs.lemmas.Bool.{eq-eqb}
+use Rattle.std.proofs.lemmas.Bool.{eq-eqb, or_cases, or_left, or_right}
 use Rattle.std.specs.Ordering.{nat_cmp}
 use Rattle.std.specs.BTreeMap.{insert_entry}
 use Rattle.pkops.specs.declared.Op.{Op}
@@ -14,9 +14,8 @@ use Rattle.pkops.specs.Operands.{memo_number}
 use Rattle.pkstack.specs.declared.Move.TheVariants.{Stores, StoresNext, Fetches, Passes}
 use Rattle.pkmachine.specs.Effects.{Effect, Moves, effect_of}
 use Rattle.pkcheck.specs.Ends.{IsFree, SameEnd}
-use Rattle.pkstack.specs.Shape.{Entry, Mark, Item, recalled, fetched}
-use Rattle.pkmachine.specs.Runs.{Object, Event, State, Outcome, move_step, perform, effect_asks}
-use Rattle.pkmachine.specs.Runs.{start}
+use Rattle.pkstack.specs.Shape.{Entry, Item, recalled, fetched}
+use Rattle.pkmachine.specs.Runs.{State, Outcome, move_step, perform, effect_asks, start}
 use Rattle.pkmachine.specs.WholeRuns.{first_outcome, outcomes_after, go_on, run}
 use Rattle.pkopt.specs.Writers.{Writes, last_write, different, wrote, after, read_by, sources}
 use Rattle.pkopt.specs.Writers.{is_this, is_read, new_number, after_all, more_if_none}
@@ -29,49 +28,42 @@ use Rattle.pkopt.proofs.MemoWrites.Recalled.{recalled_same, recalled_other, risi
 use Rattle.pkopt.proofs.MemoWrites.Recalled.{length_insert, length_new}
 use Rattle.pkopt.proofs.SlimForm.NewForms.{NamesNumber, form_effect, renumbered_number}
 
-pub or_left : (b c : Bool) → b ≡ true → b || c ≡ true
-or_left b c e = ap (λ b. b || c) e
-
-pub or_right : (b c : Bool) → c ≡ true → b || c ≡ true
-or_right true c e = refl
-or_right false c e = e
-
 -- neither, or both, with R
 abbrev pub Both : {A B : Type 0} → (A → B → Type 0) → Option A → Option B → Type 0
 Both R None None = Unit {0}
 Both R (Some x) (Some y) = R x y
-Both R None (Some y) = ⊥
-Both R (Some x) None = ⊥
+Both R a b = ⊥
 
 Both-map : {A B : Type 0} (P Q : A → B → Type 0) (a : Option A) (b : Option B)
     → ((x : A) (y : B) → P x y → Q x y) → Both P a b → Both Q a b
 Both-map P Q None None f h = tt
 Both-map P Q (Some x) (Some y) f h = f x y h
-Both-map P Q None (Some y) f h = absurd h
-Both-map P Q (Some x) None f h = absurd h
+Both-map P Q a b f h = absurd h
 
 same_more : {A B : Type 0} (P : A → B → Type 0) (a : Option A) (b : Option B) (m n : ℕ) → Both P a b
     → m ≡ n → more_if_none a m ≡ more_if_none b n
 same_more P None None m n h e = ap suc e
 same_more P (Some x) (Some y) m n h e = e
-same_more P None (Some y) m n h e = absurd h
-same_more P (Some x) None m n h e = absurd h
+same_more P a b m n h e = absurd h
 
 -- a frame passes
 pub frame_effect : (o : Op) → is_frame o ≡ true → effect_of o ≡ Moves Passes
 frame_effect op.Frame e = refl
 frame_effect o e = cc
 
-or_cases : (b c d : Bool) → (c ≡ true → d ≡ true) → b || c ≡ true → b || d ≡ true
-or_cases true c d h e = refl
-or_cases false c d h e = h e
-
 -- what is read first is read
 pub read_first : (w : ℕ) (us vs : List (Option ℕ)) → is_read w us ≡ true
     → is_read w (us ++ vs) ≡ true
 read_first w [] vs e = cc
-read_first w (u ∷ us) vs e = or_cases (is_this w u) (is_read w us) (is_read w (us ++ vs))
-    (read_first w us vs) e
+read_first w (u ∷ us) vs e = elim (or_cases (is_this w u) (is_read w us) e) [
+  | inl h ↦ or_left _ _ h
+  | inr h ↦ or_right _ _ (read_first w us vs h)
+]
+
+pub read_last : (w : ℕ) (us vs : List (Option ℕ)) → is_read w vs ≡ true
+    → is_read w (us ++ vs) ≡ true
+read_last w [] vs e = e
+read_last w (u ∷ us) vs e = or_right _ _ (read_last w us vs e)
 
 -- all that the first read is read by the second
 abbrev pub AreTied : List (Option ℕ) → List (Option ℕ) → Type 0
@@ -105,18 +97,14 @@ module _ (vs : List (Option ℕ)) where
         ap (λ b. cond b (Some (length ws)) (last_write k ws)) e.0 in
         let stored : recalled k (insert_entry nat_cmp memo n x) ≡ Some x =
         ap (λ k. recalled k (insert_entry nat_cmp memo n x)) e.1 ∙ recalled_same n x memo in
-        subst (λ a. Both (Kept m' (n ∷ ws)) a (recalled k (insert_entry nat_cmp memo n x)))
-        (sym found)
-        (subst (λ b. Both (Kept m' (n ∷ ws)) (Some (length ws)) b) (sym stored) here)
+        rw found (subst (λ b. Both (Kept m' (n ∷ ws)) (Some (length ws)) b) (sym stored) here)
     found_at k (inr e) =
         let found : last_write k (n ∷ ws) ≡ last_write k ws =
         ap (λ b. cond b (Some (length ws)) (last_write k ws)) e.0 in
         let stored : recalled k (insert_entry nat_cmp memo n x) ≡ recalled k memo =
         recalled_other k n x memo e.1 in
-        subst (λ a. Both (Kept m' (n ∷ ws)) a (recalled k (insert_entry nat_cmp memo n x)))
-        (sym found) (subst (λ b. Both (Kept m' (n ∷ ws)) (last_write k ws) b) (sym stored)
-        (Both-map (Kept m ws) (Kept m' (n ∷ ws)) (last_write k ws) (recalled k memo) others
-        (h.found k)))
+        rw found (rw stored (Both-map (Kept m ws) (Kept m' (n ∷ ws)) (last_write k ws)
+        (recalled k memo) others (h.found k)))
 
     related_found : (k : ℕ) → Both (Kept m' (n ∷ ws)) (last_write k (n ∷ ws))
         (recalled k (insert_entry nat_cmp memo n x))
@@ -191,12 +179,7 @@ module _ (vs : List (Option ℕ)) where
     stays_on : (e : Effect) (s : State) (m : List (ℕ × ℕ)) (os : List Outcome) → effect_of i.op ≡ e
         → IsBlind e → Related ws s.shape.memo m → AlikeFrom ws → AlikeHere e (i ∷ []) s m os
     stays_on e s m os q blind r on free =
-        subst
-        (λ d. SameEnd
-        (go_on (perform e i s (first_outcome os)) (run is (outcomes_after (effect_asks e) os)))
-        (go_on (perform d i (with_memo m s) (first_outcome os))
-        (run rest (outcomes_after (effect_asks d) os)))) (sym q)
-        (step_on m s (perform e i s (first_outcome os))
+        rw q (step_on m s (perform e i s (first_outcome os))
         (perform e i (with_memo m s) (first_outcome os)) _ _
         (perform_same e i (first_outcome os) m s blind)
         (λ t h. on t m _ (subst (λ memo. Related ws memo m) (sym h) r)) free)
@@ -210,64 +193,48 @@ module _ (vs : List (Option ℕ)) where
         → SameEnd (run is os (with_memo (insert_entry nat_cmp s.shape.memo n x) s))
         (run (cond b (j ∷ []) [] ++ rest) os (with_memo m s))
     store_on n x s m os j true w r on e free =
-        subst (λ end. SameEnd (run is os (with_memo (insert_entry nat_cmp s.shape.memo n x) s)) end)
-        (sym e)
-        (on (with_memo (insert_entry nat_cmp s.shape.memo n x) s) _ os
+        rw e (on (with_memo (insert_entry nat_cmp s.shape.memo n x) s) _ os
         (related_keeps n x ws s.shape.memo m w r) free)
     store_on n x s m os j false w r on e free =
         on (with_memo (insert_entry nat_cmp s.shape.memo n x) s) m os
         (related_drops n x ws s.shape.memo m w r) free
 
-    stores_on : (es : List (Entry ℕ)) (memo m : List (ℕ × ℕ)) (objects : List Object)
-        (events : List Event) (os : List Outcome) →
-        let s : State = record {
-          shape = record { entries = es; memo = memo };
-          objects = objects;
-          events = events;
-        } in
-        effect_of i.op ≡ Moves Stores → length ws < total → Related ws memo m
+    -- the same state with other entries
+    abbrev with_entries : List (Entry ℕ) → State → State
+    with_entries es s = record s { shape = record s.shape { entries = es } }
+
+    stores_on : (es : List (Entry ℕ)) (s : State) (m : List (ℕ × ℕ)) (os : List Outcome)
+        → effect_of i.op ≡ Moves Stores → length ws < total → Related ws s.shape.memo m
         → AlikeFrom (memo_number i ∷ ws)
         → AlikeHere (Moves Stores)
-        (cond (is_read (length ws) vs) (renumbered (new_number vs (length ws)) i ∷ []) []) s m
-        os
-    stores_on [] memo m objects events os q lt r on free = absurd free
-    stores_on (Mark ∷ es) memo m objects events os q lt r on free = absurd free
-    stores_on (Item x ∷ es) memo m objects events os q lt r on free =
-        let s : State = record {
-          shape = record { entries = Item x ∷ es; memo = memo };
-          objects = objects;
-          events = events;
-        } in
+        (cond (is_read (length ws) vs) (renumbered (new_number vs (length ws)) i ∷ []) [])
+        (with_entries es s) m os
+    stores_on (Item x ∷ es) s m os q lt r on free =
         let n = new_number vs (length ws) in
-        store_on (memo_number i) x s m os (renumbered n i) (is_read (length ws) vs) refl r on
+        let there = with_memo m (with_entries (Item x ∷ es) s) in
+        store_on (memo_number i) x (with_entries (Item x ∷ es) s) m os (renumbered n i)
+        (is_read (length ws) vs) refl r on
         (ap
-        (λ e. go_on (perform e (renumbered n i) (with_memo m s) (first_outcome os))
+        (λ e. go_on (perform e (renumbered n i) there (first_outcome os))
         (run rest (outcomes_after (effect_asks e) os))) (form_effect i.op n ∙ q)
-        ∙ ap (λ k. run rest os (with_memo (insert_entry nat_cmp m k x) s))
+        ∙ ap (λ k. run rest os (with_memo (insert_entry nat_cmp m k x) there))
         (renumbered_number i n (small (length ws) lt) (subst NamesNumber (sym q) tt))) free
+    stores_on es s m os q lt r on free = absurd free
 
-    next_on : (es : List (Entry ℕ)) (memo m : List (ℕ × ℕ)) (objects : List Object)
-        (events : List Event) (os : List Outcome) →
-        let s : State = record {
-          shape = record { entries = es; memo = memo };
-          objects = objects;
-          events = events;
-        } in
-        effect_of i.op ≡ Moves StoresNext → Related ws memo m → AlikeFrom (length memo ∷ ws)
-        → AlikeHere (Moves StoresNext) (cond (is_read (length ws) vs) (i ∷ []) []) s m os
-    next_on [] memo m objects events os q r on free = absurd free
-    next_on (Mark ∷ es) memo m objects events os q r on free = absurd free
-    next_on (Item x ∷ es) memo m objects events os q r on free =
-        let s : State = record {
-          shape = record { entries = Item x ∷ es; memo = memo };
-          objects = objects;
-          events = events;
-        } in
-        store_on (length memo) x s m os i (is_read (length ws) vs) refl r on
+    next_on : (es : List (Entry ℕ)) (s : State) (m : List (ℕ × ℕ)) (os : List Outcome)
+        → effect_of i.op ≡ Moves StoresNext → Related ws s.shape.memo m
+        → AlikeFrom (length s.shape.memo ∷ ws)
+        → AlikeHere (Moves StoresNext) (cond (is_read (length ws) vs) (i ∷ []) [])
+        (with_entries es s) m os
+    next_on (Item x ∷ es) s m os q r on free =
+        let there = with_memo m (with_entries (Item x ∷ es) s) in
+        store_on (length s.shape.memo) x (with_entries (Item x ∷ es) s) m os i
+        (is_read (length ws) vs) refl r on
         (ap
-        (λ e. go_on (perform e i (with_memo m s) (first_outcome os))
+        (λ e. go_on (perform e i there (first_outcome os))
         (run rest (outcomes_after (effect_asks e) os))) q
-        ∙ ap (λ n. run rest os (with_memo (insert_entry nat_cmp m n x) s)) r.size) free
+        ∙ ap (λ n. run rest os (with_memo (insert_entry nat_cmp m n x) there)) r.size) free
+    next_on es s m os q r on free = absurd free
 
     fetch_on : (a b : Option ℕ) (s : State) (m : List (ℕ × ℕ)) (os : List Outcome)
         → effect_of i.op ≡ Moves Fetches → Both (Kept m ws) a b
@@ -277,24 +244,19 @@ module _ (vs : List (Option ℕ)) where
         → SameEnd (go_on (move_step s (fetched b (memo_number i) s.shape)) (run is os))
         (run (read_left vs a i ++ rest) os (with_memo m s))
     fetch_on None None s m os q h tied le r on free = absurd free
-    fetch_on None (Some x) s m os q h tied le r on free = absurd h
-    fetch_on (Some w) None s m os q h tied le r on free = absurd h
     fetch_on (Some w) (Some x) s m os q h tied le r on free =
         let t : State =
         record s { shape = record s.shape { entries = Item x ∷ s.shape.entries } } in
         let n = new_number vs w in
         let lt : w < total = (let before = h.0 in omega (arith, before, le)) in
-        subst (λ end. SameEnd (run is os t) end)
-        (sym (ap
-        (λ e. go_on (perform e (renumbered n i) (with_memo m s) (first_outcome os))
+        rw (ap (λ e. go_on (perform e (renumbered n i) (with_memo m s) (first_outcome os))
         (run rest (outcomes_after (effect_asks e) os))) (form_effect i.op n ∙ q)
-        ∙ ap
-        (λ k. go_on (move_step (with_memo m s) (fetched (recalled k m) k (with_memo m s).shape))
-        (run rest os)) (renumbered_number i n (small w lt) (subst NamesNumber (sym q) tt))
-        ∙ ap
-        (λ o. go_on (move_step (with_memo m s) (fetched o n (with_memo m s).shape))
-        (run rest os)) (h.1 (tied w (eq-eqb w w refl)))))
-        (on t m os r free)
+        ∙ ap (λ k. go_on (move_step (with_memo m s)
+        (fetched (recalled k m) k (with_memo m s).shape)) (run rest os))
+        (renumbered_number i n (small w lt) (subst NamesNumber (sym q) tt))
+        ∙ ap (λ o. go_on (move_step (with_memo m s) (fetched o n (with_memo m s).shape))
+        (run rest os)) (h.1 (tied w (eq-eqb w w refl)))) (on t m os r free)
+    fetch_on a b s m os q h tied le r on free = absurd h
 
     -- what is left of an instruction that doesn't look at the memo
     blind_on : (b : Bool) (e : Effect) (s : State) (m : List (ℕ × ℕ)) (os : List Outcome)
@@ -308,22 +270,14 @@ module _ (vs : List (Option ℕ)) where
         → AreTied (read_by e (memo_number i) ws) vs → length (wrote e (memo_number i) ws) ≤ total
         → Related ws s.shape.memo m → AlikeFrom (wrote e (memo_number i) ws)
         → AlikeHere e (left_of vs ws e i) s m os
-    on_effect (Moves Stores) s m os q tied le r on free = stores_on s.shape.entries s.shape.memo m
-        s.objects s.events os q (omega (arith, le)) r on free
+    on_effect (Moves Stores) s m os q tied le r on free =
+        stores_on s.shape.entries s m os q (omega (arith, le)) r on free
     on_effect (Moves StoresNext) s m os q tied le r on free =
-        next_on s.shape.entries s.shape.memo m s.objects s.events os q r
-        (subst (λ n. AlikeFrom (n ∷ ws)) r.count on) free
+        next_on s.shape.entries s m os q r (subst (λ n. AlikeFrom (n ∷ ws)) r.count on) free
     on_effect (Moves Fetches) s m os q tied le r on free =
         fetch_on (last_write (memo_number i) ws) (recalled (memo_number i) s.shape.memo) s m os q
         (r.found (memo_number i)) (λ w e. tied w (or_left _ _ e)) le r on free
     on_effect e s m os q tied le r on free = blind_on (is_frame i.op) e s m os refl q tt r on free
-
-  tied_first : (us ws : List (Option ℕ)) → AreTied (us ++ ws) vs → AreTied us vs
-  tied_first us ws h w e = h w (read_first w us ws e)
-
-  tied_last : (us ws : List (Option ℕ)) → AreTied (us ++ ws) vs → AreTied ws vs
-  tied_last [] ws h w e = h w e
-  tied_last (u ∷ us) ws h w e = tied_last us ws (λ v f. h v (or_right _ _ f)) w e
 
   pub alike_from : (total : ℕ) → AreSmall total → (ws : Writes) (is : List Instruction) (s : State)
       (m : List (ℕ × ℕ)) (os : List Outcome) → AreTied (sources ws is) vs
@@ -333,10 +287,10 @@ module _ (vs : List (Option ℕ)) where
       (refl, record { objects = refl; events = refl })
   alike_from total small ws (i ∷ is) s m os tied le r free =
       on_effect total small i ws is (slim_from vs (after i ws) is) (effect_of i.op) s m os refl
-      (tied_first (read_by (effect_of i.op) (memo_number i) ws) (sources (after i ws) is) tied)
+      (λ w e. tied w (read_first w (read_by (effect_of i.op) (memo_number i) ws) _ e))
       (let a = after_all_le is (after i ws) in omega (arith, a, le)) r
       (λ s' m' os' r' free'. alike_from total small (after i ws) is s' m' os'
-      (tied_last (read_by (effect_of i.op) (memo_number i) ws) (sources (after i ws) is) tied)
+      (λ w e. tied w (read_last w (read_by (effect_of i.op) (memo_number i) ws) _ e))
       le r' free') free
 
 -- where no run is stuck, the slim form's runs are the same

@@ -1,7 +1,7 @@
 -- The sources of reads, the first of which are kept as bytes.
-use Rattle.std.proofs.Common.{◌≡◌, ℕ, zero, suc, ◌<◌, ◌≤◌, ◌-◌, List, [], ◌∷◌, ◌++◌, length}
-use Rattle.std.proofs.Common.{take, get_or, set, Bool, true, false, Option, Some, None, refl, sym}
-use Rattle.std.proofs.Common.{ap, subst, ◌∙◌, arith, append_assoc, append-nil}
+use Rattle.std.proofs.Common.{◌≡◌, ℕ, zero, suc, ◌<◌, ◌≤◌, ◌-◌, List, [], ◌∷◌, ◌++◌, length, take}
+use Rattle.std.proofs.Common.{get_or, set, Bool, true, false, Option, Some, None, refl, sym, ap}
+use Rattle.std.proofs.Common.{subst, ◌∙◌, arith, append_assoc, append-nil}
 use Rattle.std.proofs.Math.Seq.{take-suc}
 use Rattle.std.proofs.lemmas.List.{get_or-append_right, get_or_append_left}
 use Rattle.pkopt.specs.Private.Passes.{AreKept, KeepsMore}
@@ -59,8 +59,7 @@ keeps_early first old new early m k j d is lt e same inside h = λ vs first_so.
     ∙ ap (λ x. vs ++ in_bytes (before ++ x ∷ [])) e
     ∙ ap (λ (l : List (Option ℕ)). vs ++ l) (in_bytes-more before j)
     ∙ sym (append_assoc vs (in_bytes before) (Some j ∷ [])) in
-    subst (λ (l : List (Option ℕ)). AreKept l (set new j true)) (sym all)
-    (marked (vs ++ in_bytes before) new j inside
+    rw all (marked (vs ++ in_bytes before) new j inside
     (reached (vs ++ in_bytes before) old new same (h vs first_so)))
 
 late_all : (vs late : List (Option ℕ)) (m k : ℕ) (d v : Option ℕ) → m ≡ suc k → k < length late
@@ -77,18 +76,16 @@ pub keeps_late : (first old new : List Bool) (late : List (Option ℕ)) (m k j :
     → ((w : ℕ) → get_or new w false ≡ get_or old w false) → j < length new
     → KeepsMore first old (take k late) → KeepsMore first (set new j true) (take m late)
 keeps_late first old new late m k j d is lt e same inside h = λ vs first_so.
-    subst (λ (l : List (Option ℕ)). AreKept l (set new j true))
-    (sym (late_all vs late m k d (Some j) is lt e))
-    (marked (vs ++ take k late) new j inside
-    (reached (vs ++ take k late) old new same (h vs first_so)))
+    rw (late_all vs late m k d (Some j) is lt e)
+    (marked (vs ++ take k late) new j inside (reached (vs ++ take k late) old new same
+    (h vs first_so)))
 
 -- or it is of no write
 pub keeps_none : (first old : List Bool) (late : List (Option ℕ)) (m k : ℕ) (d : Option ℕ)
     → m ≡ suc k → k < length late → get_or late k d ≡ None
     → KeepsMore first old (take k late) → KeepsMore first old (take m late)
 keeps_none first old late m k d is lt e h = λ vs first_so.
-    subst (λ (l : List (Option ℕ)). AreKept l old) (sym (late_all vs late m k d None is lt e))
-    (unmarked (vs ++ take k late) old (h vs first_so))
+    rw (late_all vs late m k d None is lt e) (unmarked (vs ++ take k late) old (h vs first_so))
 
 -- nothing is marked yet
 pub keeps_nothing : (kept : List Bool) → KeepsMore kept kept []

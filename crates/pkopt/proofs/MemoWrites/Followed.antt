@@ -51,13 +51,10 @@ module _ (ws : Writes) (old new : Trace) (count : new.writes ≡ old.writes + 1)
 
   pub noted_next : new.memo ≡ stored (length old.memo) old.writes old.memo → FollowsWrites ws old
       → FollowsWrites (different ws ∷ ws) new
-  noted_next kept h = subst (λ n. FollowsWrites (n ∷ ws) new) (sym h.holds.count)
-      (noted (length old.memo) kept h)
+  noted_next kept h = rw h.holds.count (noted (length old.memo) kept h)
 
 pub effect_stores : (o : Op) → memo_use o ≡ Stores → effect_of o ≡ Moves move.Stores
 effect_stores op.Put e = refl
-effect_stores op.BinPut e = refl
-effect_stores op.LongBinPut e = refl
 effect_stores o e = cc
 
 pub effect_next : (o : Op) → memo_use o ≡ StoresNext → effect_of o ≡ Moves move.StoresNext
@@ -66,8 +63,6 @@ effect_next o e = cc
 
 pub effect_fetches : (o : Op) → memo_use o ≡ Fetches → effect_of o ≡ Moves move.Fetches
 effect_fetches op.Get e = refl
-effect_fetches op.BinGet e = refl
-effect_fetches op.LongBinGet e = refl
 effect_fetches o e = cc
 
 -- a step does the same to the memo from a trace that is alike

@@ -1,20 +1,15 @@
 -- The new numbers of the memo writes that stay.
 use Rattle.std.proofs.Common.{◌≡◌, ℕ, zero, suc, ◌<◌, ◌≤◌, Bool, true, false, cond, List, [], ◌∷◌}
-use Rattle.std.proofs.Common.{length, Option, ◌⊎◌, inl, inr, refl, ap, subst, arith}
-use Rattle.std.specs.Prelude.{◌≢◌}
-use Rattle.std.proofs.lemmas.Bool.Decides.{eqb_tells}
+use Rattle.std.proofs.Common.{length, Option, inl, inr, refl, ap, subst, arith}
+use Rattle.std.proofs.lemmas.Bool.{cases_eq}
 use Rattle.pkops.specs.Spelling.{Instruction}
 use Rattle.pkops.specs.Operands.{memo_number}
-use Rattle.pkstack.specs.declared.Move.TheVariants.{Stores, StoresNext}
+use Rattle.pkstack.specs.declared.Move.TheVariants.{Stores}
 use Rattle.pkmachine.specs.Effects.{Effect, Moves, effect_of}
 use Rattle.pkopt.specs.Writers.{Writes, wrote, after, is_read, new_number, after_all}
 
-pub tells_eq : (a b : ℕ) → (a ≡ b) ⊎ (a ≢ b)
-tells_eq a b = elim (eqb_tells a b) [ inl h ↦ inl h.1 | inr h ↦ inr h.1 ]
-
 wrote_le : (e : Effect) (n : ℕ) (ws : Writes) → length ws ≤ length (wrote e n ws)
 wrote_le (Moves Stores) n ws = omega arith
-wrote_le (Moves StoresNext) n ws = omega arith
 wrote_le e n ws = omega arith
 
 -- an instruction takes no write away
@@ -37,7 +32,7 @@ module _ (vs : List (Option ℕ)) where
 
   new_least_at : (v w : ℕ) (b : Bool) → is_read w vs ≡ b → v < suc w → is_read v vs ≡ true
       → (v < w → new_number vs v < new_number vs w) → new_number vs v < new_number vs (suc w)
-  new_least_at v w b r lt e on = elim (tells_eq v w) [
+  new_least_at v w b r lt e on = elim (cases_eq v w) [
     | inl q ↦ let h = new_step w true (subst (λ n. is_read n vs ≡ true) q e) in
         let g : new_number vs v ≡ new_number vs w = ap (new_number vs) q in omega (arith, h, g)
     | inr q ↦ let h = new_more w b r in let g : new_number vs v < new_number vs w =
@@ -51,7 +46,7 @@ module _ (vs : List (Option ℕ)) where
 
   new_up_to_at : (v w : ℕ) → v ≤ suc w → (v ≤ w → new_number vs v ≤ new_number vs w)
       → new_number vs v ≤ new_number vs (suc w)
-  new_up_to_at v w le on = elim (tells_eq v (suc w)) [
+  new_up_to_at v w le on = elim (cases_eq v (suc w)) [
     | inl q ↦ let g : new_number vs v ≡ new_number vs (suc w) = ap (new_number vs) q in
         omega (arith, g)
     | inr q ↦ let h = new_more w (is_read w vs) refl in let g : new_number vs v ≤ new_number vs w =

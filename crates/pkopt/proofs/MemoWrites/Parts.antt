@@ -2,6 +2,7 @@
 use Rattle.std.proofs.Common.{◌≡◌, ℕ, ◌+◌, ◌<◌, ◌≤◌, Bool, true, false, cond, ◌||◌, List, [], ◌∷◌}
 use Rattle.std.proofs.Common.{◌++◌, length, drop, get_or, refl, sym, ap, subst, ◌∙◌, arith}
 use Rattle.std.proofs.Common.{append-nil}
+use Rattle.std.proofs.Math.Bool.{or-false}
 use Rattle.std.proofs.lemmas.List.{drop_more}
 use Rattle.std.proofs.lemmas.List.Folds.{list_any-append}
 use Rattle.std.specs.List.{list_any}
@@ -10,7 +11,8 @@ use Rattle.pkops.specs.declared.Op.TheVariants as op
 use Rattle.pkopt.specs.declared.place.Part.{Part}
 use Rattle.pkopt.specs.declared.place.Place.{Place}
 use Rattle.pkopt.specs.Private.Places.{end_behind, end_of, has_frames, place, place_behind}
-use Rattle.pkopt.specs.Private.Places.{places_behind, stays_as_is}
+use Rattle.pkopt.specs.Private.Places.{places_behind, stays_as_is, with_place}
+use Rattle.pkopt.specs.Private.HeardParts.{with_place-append}
 use Rattle.pkopt.specs.Slim.{is_frame}
 
 pub end_behind-more : (from : ℕ) (parts : List Part) (part : Part)
@@ -18,24 +20,14 @@ pub end_behind-more : (from : ℕ) (parts : List Part) (part : Part)
 end_behind-more from [] part = refl
 end_behind-more from (x ∷ xs) part = end_behind-more (end_of from x) xs part
 
-cond_more : (b : Bool) (x : Place) (xs ys : List Place)
-    → cond b (xs ++ ys) (x ∷ (xs ++ ys)) ≡ cond b xs (x ∷ xs) ++ ys
-cond_more true x xs ys = refl
-cond_more false x xs ys = refl
-
 pub places_behind-more : (from : ℕ) (parts : List Part) (part : Part)
     → places_behind from (parts ++ part ∷ []) ≡ places_behind from parts
     ++ places_behind (end_behind from parts) (part ∷ [])
 places_behind-more from [] part = refl
 places_behind-more from (x ∷ xs) part =
-    ap (λ (l : List Place). cond (stays_as_is x.op) l (place_behind from x ∷ l))
-    (places_behind-more (end_of from x) xs part)
-    ∙ cond_more (stays_as_is x.op) (place_behind from x) (places_behind (end_of from x) xs)
+    ap (with_place (place_behind from x)) (places_behind-more (end_of from x) xs part)
+    ∙ with_place-append (place_behind from x) (places_behind (end_of from x) xs)
     (places_behind (end_behind (end_of from x) xs) (part ∷ []))
-
-pub no_more : (b : Bool) → b || false ≡ b
-no_more true = refl
-no_more false = refl
 
 -- parts end behind where they begin
 pub behind_least : (parts : List Part) (from : ℕ) → from ≤ end_behind from parts
@@ -67,7 +59,7 @@ pub frames_more : (parts parts' : List Part) (part : Part) → parts' ≡ parts 
     → has_frames parts' ≡ has_frames parts || is_frame part.op
 frames_more parts parts' part grown = ap has_frames grown
     ∙ list_any-append (λ (x : Part). is_frame x.op) parts (part ∷ [])
-    ∙ ap (λ b. has_frames parts || b) (no_more (is_frame part.op))
+    ∙ ap (λ b. has_frames parts || b) (or-false (is_frame part.op))
 
 -- where parts end that have one part more
 end_more : (parts parts' : List Part) (part : Part) → parts' ≡ parts ++ part ∷ []
@@ -106,54 +98,33 @@ marked_at part at end end' parts parts' changes grown here moved h =
           ∙ ap (λ n. places_behind 0 parts ++ place n part.size part.op ∷ []) behind,
     )
 
--- the next part ends below this number, and so do the parts behind it, where all of them do
-pub short_behind : (top : ℕ) (parts : List Part) (from k : ℕ) (d : Part) (x : Place) (size : ℕ)
-    → k < length parts → x ≡ place_behind from (get_or parts k d) → size ≡ x.size
-    → end_behind from (drop k parts) < top → (x.at + size < top)
-    × (end_behind (x.at + size) (drop (k + 1) parts) < top)
-short_behind top parts from k d x size lt e same h =
-    let s : end_behind (end_of from (get_or parts k d)) (drop (k + 1) parts) < top =
-    subst (λ (l : List Part). end_behind from l < top) (drop_more parts k d lt) h in
-    let here : end_of from (get_or parts k d) ≡ x.at + size =
-    sym (ap (λ n. x.at + n) same ∙ ap (λ (y : Place). y.at + y.size) e) in
-    let rest = subst (λ n. end_behind n (drop (k + 1) parts) < top) here s in
-    let least = behind_least (drop (k + 1) parts) (x.at + size) in
-    (omega (arith, rest, least), rest)
+-- the next part is the one at k, and its place is x
+module _ (parts : List Part) (from k : ℕ) (d : Part) (x : Place) (size : ℕ)
+    (lt : k < length parts) (e : x ≡ place_behind from (get_or parts k d))
+    (same : size ≡ x.size) where
+  abbrev rest : List Part
+  rest = drop (k + 1) parts
+
+  -- it ends below this number, and so do the parts behind it, where all of them do
+  pub short_behind : (top : ℕ) → end_behind from (drop k parts) < top
+      → (x.at + size < top) × (end_behind (x.at + size) rest < top)
+  short_behind top h =
+      let s : end_behind (end_of from (get_or parts k d)) rest < top =
+      subst (λ (l : List Part). end_behind from l < top) (drop_more parts k d lt) h in
+      let here : end_of from (get_or parts k d) ≡ x.at + size =
+      sym (ap (λ n. x.at + n) same ∙ ap (λ (y : Place). y.at + y.size) e) in
+      let more = subst (λ n. end_behind n rest < top) here s in
+      let least = behind_least rest (x.at + size) in
+      (omega (arith, more, least), more)
+
+  -- it may have an instruction that may change
+  pub places_next : places_behind from (drop k parts)
+      ≡ with_place x (places_behind (x.at + size) rest)
+  places_next =
+      ap (places_behind from) (drop_more parts k d lt)
+      ∙ ap (λ (y : Place). with_place y (places_behind (y.at + y.size) rest)) (sym e)
+      ∙ ap (λ n. with_place x (places_behind (x.at + n) rest)) (sym same)
 
 pub ends_short : (top : ℕ) (parts : List Part) (from k : ℕ) (d : Part) → k < length parts
     → end_behind from (drop k parts) < top → end_of from (get_or parts k d) < top
-ends_short top parts from k d lt h =
-    (short_behind top parts from k d (place_behind from (get_or parts k d))
-    (get_or parts k d).size lt refl refl h).0
-
--- the next part has an instruction that may change
-pub places_next : (parts : List Part) (from k : ℕ) (d : Part) (x : Place) (size : ℕ)
-    → k < length parts → x ≡ place_behind from (get_or parts k d) → size ≡ x.size
-    → stays_as_is x.op ≡ false
-    → places_behind from (drop k parts) ≡ x ∷ places_behind (x.at + size) (drop (k + 1) parts)
-places_next parts from k d x size lt e same changes =
-    let part = get_or parts k d in
-    let later = drop (k + 1) parts in
-    ap (places_behind from) (drop_more parts k d lt)
-    ∙ ap
-    (λ b. cond b (places_behind (end_of from part) later)
-    (place_behind from part ∷ places_behind (end_of from part) later))
-    (ap (λ (y : Place). stays_as_is y.op) (sym e) ∙ changes)
-    ∙ ap (λ (y : Place). y ∷ places_behind (y.at + y.size) later) (sym e)
-    ∙ ap (λ n. x ∷ places_behind (x.at + n) later) (sym same)
-
--- or it has none
-pub places_past : (parts : List Part) (from k : ℕ) (d : Part) (x : Place) (size : ℕ)
-    → k < length parts → x ≡ place_behind from (get_or parts k d) → size ≡ x.size
-    → stays_as_is x.op ≡ true
-    → places_behind from (drop k parts) ≡ places_behind (x.at + size) (drop (k + 1) parts)
-places_past parts from k d x size lt e same plain =
-    let part = get_or parts k d in
-    let later = drop (k + 1) parts in
-    ap (places_behind from) (drop_more parts k d lt)
-    ∙ ap
-    (λ b. cond b (places_behind (end_of from part) later)
-    (place_behind from part ∷ places_behind (end_of from part) later))
-    (ap (λ (y : Place). stays_as_is y.op) (sym e) ∙ plain)
-    ∙ ap (λ (y : Place). places_behind (y.at + y.size) later) (sym e)
-    ∙ ap (λ n. places_behind (x.at + n) later) (sym same)
+ends_short top parts from k d lt h = (short_behind parts from k d _ _ lt refl refl top h).0

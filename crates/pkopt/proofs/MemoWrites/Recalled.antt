@@ -36,6 +36,11 @@ apart : (n m : ℕ) → n ≢ m → is_eq (nat_cmp n m) ≡ false
 apart n m e = by_rank (λ o. is_eq o ≡ false) n m (λ h c. refl) (λ h c. absurd (e h)) (λ h c. refl)
 
 module _ {A : Type 0} where
+  -- behind a step of the insertion
+  abbrev put : ℕ → A → ℕ × A → List (ℕ × A) → Ordering → List (ℕ × A)
+  put n x e es o =
+      match_ordering o ((n, x) ∷ e ∷ es) ((e.0, x) ∷ es) (e ∷ insert_entry nat_cmp es n x)
+
   recalled_head : (n m : ℕ) (x : A) (es : List (ℕ × A)) → n ≡ m → recalled n ((m, x) ∷ es) ≡ Some x
   recalled_head n m x es e = ap (λ o. cond (is_eq o) (Some x) (recalled n es)) (equal n m e)
 
@@ -47,10 +52,7 @@ module _ {A : Type 0} where
       → recalled n (insert_entry nat_cmp es n x) ≡ Some x
   recalled_same n x [] = recalled_head n n x [] refl
   recalled_same n x (e ∷ es) =
-      by_rank
-      (λ o. recalled n
-      (match_ordering o ((n, x) ∷ e ∷ es) ((e.0, x) ∷ es) (e ∷ insert_entry nat_cmp es n x))
-      ≡ Some x) n e.0
+      by_rank (λ o. recalled n (put n x e es o) ≡ Some x) n e.0
       (λ h c. recalled_head n n x (e ∷ es) refl) (λ h c. recalled_head n e.0 x es h)
       (λ h c. recalled_tail n e.0 e.1 _ (λ q. omega (arith, h, q)) ∙ recalled_same n x es)
 
@@ -62,10 +64,7 @@ module _ {A : Type 0} where
       → recalled k (insert_entry nat_cmp es n x) ≡ recalled k es
   recalled_other k n x [] ne = recalled_tail k n x [] ne
   recalled_other k n x (e ∷ es) ne =
-      by_rank
-      (λ o. recalled k
-      (match_ordering o ((n, x) ∷ e ∷ es) ((e.0, x) ∷ es) (e ∷ insert_entry nat_cmp es n x))
-      ≡ recalled k (e ∷ es)) n e.0
+      by_rank (λ o. recalled k (put n x e es o) ≡ recalled k (e ∷ es)) n e.0
       (λ h c. recalled_tail k n x (e ∷ es) ne)
       (λ h c. recalled_tail k e.0 x es (λ q. ne (q ∙ sym h))
       ∙ sym (recalled_tail k e.0 e.1 es (λ q. ne (q ∙ sym h))))
@@ -85,20 +84,14 @@ module _ {A : Type 0} where
       → Above m (insert_entry nat_cmp es n x)
   above_insert m n x [] lt h = (lt, tt)
   above_insert m n x (e ∷ es) lt h =
-      by_rank
-      (λ o. Above m
-      (match_ordering o ((n, x) ∷ e ∷ es) ((e.0, x) ∷ es) (e ∷ insert_entry nat_cmp es n x))) n
-      e.0
+      by_rank (λ o. Above m (put n x e es o)) n e.0
       (λ g c. (lt, h)) (λ g c. h) (λ g c. (h.0, above_insert m n x es lt h.1))
 
   pub rising_insert : (n : ℕ) (x : A) (es : List (ℕ × A)) → Rising es
       → Rising (insert_entry nat_cmp es n x)
   rising_insert n x [] h = (tt, tt)
   rising_insert n x (e ∷ es) h =
-      by_rank
-      (λ o. Rising
-      (match_ordering o ((n, x) ∷ e ∷ es) ((e.0, x) ∷ es) (e ∷ insert_entry nat_cmp es n x))) n
-      e.0
+      by_rank (λ o. Rising (put n x e es o)) n e.0
       (λ g c. ((g, above_more n e.0 es g h.0), h)) (λ g c. h)
       (λ g c. (above_insert e.0 n x es g h.0, rising_insert n x es h.1))
 
@@ -111,9 +104,7 @@ module _ {A : Type 0} where
   length_insert n x [] h = refl
   length_insert n x (e ∷ es) h =
       by_rank
-      (λ o. length
-      (match_ordering o ((n, x) ∷ e ∷ es) ((e.0, x) ∷ es) (e ∷ insert_entry nat_cmp es n x))
-      ≡ more_if_none (recalled n (e ∷ es)) (suc (length es))) n e.0
+      (λ o. length (put n x e es o) ≡ more_if_none (recalled n (e ∷ es)) (suc (length es))) n e.0
       (λ g c.
       sym (ap (λ r. more_if_none r (suc (length es)))
       (recalled_tail n e.0 e.1 es (λ q. omega (arith, g, q))
@@ -128,10 +119,7 @@ module _ {A : Type 0} where
       → length (insert_entry nat_cmp es n x) ≡ suc (length es)
   length_new n x [] h = refl
   length_new n x (e ∷ es) h =
-      by_rank
-      (λ o. length
-      (match_ordering o ((n, x) ∷ e ∷ es) ((e.0, x) ∷ es) (e ∷ insert_entry nat_cmp es n x))
-      ≡ suc (suc (length es))) n e.0
+      by_rank (λ o. length (put n x e es o) ≡ suc (suc (length es))) n e.0
       (λ g c. refl) (λ g c. let k : Some e.1 ≡ None = sym (recalled_head n e.0 e.1 es g) ∙ h in cc)
       (λ g c. ap suc
       (length_new n x es (sym (recalled_tail n e.0 e.1 es (λ q. omega (arith, g, q))) ∙ h)))

@@ -1,25 +1,16 @@
 -- Which writes are read, and their new numbers, found read by read and write by write.
-use Rattle.std.proofs.Common.{◌≡◌, ℕ, zero, suc, ◌<◌, ◌≤◌, Bool, true, false, cond, ◌||◌, List, []}
-use Rattle.std.proofs.Common.{◌∷◌}
-use Rattle.std.proofs.Common.{◌++◌, length, get_or, set, Option, Some, None, Result, Ok, Err}
-use Rattle.std.proofs.Common.{inl, inr, refl, sym, ap, ◌∙◌, arith, ltb, replicate}
-use Rattle.std.specs.Prelude.{min, IfOk}
-use Rattle.std.proofs.lemmas.List.{get_or-set_other, get_or-set_same, get_or-replicate}
-use Rattle.std.proofs.lemmas.List.{get_or_past, length-replicate}
-use Rattle.std.proofs.lemmas.Bool.{ltb-true, ltb-false}
+use Rattle.std.proofs.Common.{◌≡◌, ℕ, zero, suc, ◌<◌, ◌≤◌, Bool, true, false, cond, ◌||◌, List, [], ◌∷◌}
+use Rattle.std.proofs.Common.{◌++◌, length, get_or, set, Option, Some, None, inl, inr, refl, sym}
+use Rattle.std.proofs.Common.{ap, ◌∙◌, arith, ltb, replicate}
+use Rattle.std.specs.Prelude.{min}
+use Rattle.std.proofs.lemmas.List.{get_or-set_other, get_or-set_same, get_or-replicate, get_or_past}
+use Rattle.std.proofs.lemmas.List.{length-replicate}
+use Rattle.std.proofs.lemmas.Bool.{cases_eq, ltb-false, ltb-true, or_right}
+use Rattle.std.proofs.Math.Bool.{or-false, or_assoc}
 use Rattle.std.proofs.lemmas.Bool.Decides.{eqb_tells}
 use Rattle.pkopt.specs.Private.Passes.{AreKept, AreNumbers}
 use Rattle.pkopt.specs.Writers.{is_this, is_read, new_number}
-use Rattle.pkopt.proofs.MemoWrites.NewNumbers.{new_step, tells_eq}
-use Rattle.pkopt.proofs.BothRuns.SlimRuns.{or_right}
-
-or_assoc : (a b c : Bool) → (a || b) || c ≡ a || (b || c)
-or_assoc true b c = refl
-or_assoc false b c = refl
-
-or_false : (a : Bool) → a || false ≡ a
-or_false true = refl
-or_false false = refl
+use Rattle.pkopt.proofs.MemoWrites.NewNumbers.{new_step}
 
 is_read-append : (w : ℕ) (vs us : List (Option ℕ))
     → is_read w (vs ++ us) ≡ is_read w vs || is_read w us
@@ -30,13 +21,13 @@ is_read-append w (v ∷ vs) us = ap (λ b. is_this w v || b) (is_read-append w v
 is_read-one : (w : ℕ) (vs : List (Option ℕ)) (v : Option ℕ)
     → is_read w (vs ++ v ∷ []) ≡ is_read w vs || is_this w v
 is_read-one w vs v = is_read-append w vs (v ∷ [])
-    ∙ ap (λ b. is_read w vs || b) (or_false (is_this w v))
+    ∙ ap (λ b. is_read w vs || b) (or-false (is_this w v))
 
 -- one more read reads no write
 pub unmarked : (vs : List (Option ℕ)) (kept : List Bool) → AreKept vs kept
     → AreKept (vs ++ None ∷ []) kept
 unmarked vs kept h = record {
-  each = λ w. h.each w ∙ sym (is_read-one w vs None ∙ or_false (is_read w vs));
+  each = λ w. h.each w ∙ sym (is_read-one w vs None ∙ or-false (is_read w vs));
 }
 
 -- the write that it reads is marked
@@ -49,7 +40,7 @@ marked vs kept j inside h = record {
         ∙ sym (is_read-one w vs (Some j) ∙ or_right (is_read w vs) _ q.0)
     | inr q ↦ get_or-set_other kept j w true false q.1 ∙ h.each w
         ∙ sym (is_read-one w vs (Some j) ∙ ap (λ b. is_read w vs || b) q.0
-        ∙ or_false (is_read w vs))
+        ∙ or-false (is_read w vs))
   ];
 }
 
@@ -83,7 +74,7 @@ module _ (vs : List (Option ℕ)) (k m limit next : ℕ) (numbers : List (Option
   number_on next' inside read after = record {
     next_is = after ∙ next_number vs k limit next true read h.next_is
         ∙ ap (λ n. min (new_number vs n) limit) (sym is);
-    each = λ w lt. elim (tells_eq w k) [
+    each = λ w lt. elim (cases_eq w k) [
       | inl q ↦ ap (λ n. get_or (set numbers k (Some next)) n None) q
           ∙ get_or-set_same numbers k (Some next) None inside
           ∙ ap (λ n. Some n) h.next_is ∙ sym (ap (given k) read)
@@ -100,7 +91,7 @@ module _ (vs : List (Option ℕ)) (k m limit next : ℕ) (numbers : List (Option
   none_on read = record {
     next_is = next_number vs k limit next false read h.next_is
         ∙ ap (λ n. min (new_number vs n) limit) (sym is);
-    each = λ w lt. elim (tells_eq w k) [
+    each = λ w lt. elim (cases_eq w k) [
       | inl q ↦ h.others w (omega (arith, q)) ∙ sym (ap (given k) read)
           ∙ sym (ap (λ n. given n (is_read n vs)) q)
       | inr q ↦ h.each w (omega (arith, lt, q, is))
@@ -144,8 +135,3 @@ unset_more [] zero = refl
 unset_more [] (suc w) = refl
 unset_more (b ∷ kept) zero = refl
 unset_more (b ∷ kept) (suc w) = unset_more kept w
-
-pub if_ok_map : {A E : Type 0} (P Q : A → Type 0) (r : Result A E) → ((a : A) → P a → Q a)
-    → IfOk r P → IfOk r Q
-if_ok_map P Q (Ok a) f h = f a h
-if_ok_map P Q (Err e) f h = tt

@@ -1,24 +1,23 @@
 -- The bytes of the optimized form are those of the slim form with a FRAME put in.
-use Rattle.std.proofs.Common.{◌≡◌, ℕ, suc, ◌-◌, Bool, true, false, cond, ltb, List, [], ◌∷◌, ◌++◌}
-use Rattle.std.proofs.Common.{length, take, drop, get_or, Option, None, Some, inl, inr, refl, sym}
-use Rattle.std.proofs.Common.{ap, subst, ◌∙◌, arith}
+use Rattle.std.proofs.Common.{◌≡◌, ℕ, suc, ◌-◌, Bool, true, false, cond, List, [], ◌∷◌, ◌++◌}
+use Rattle.std.proofs.Common.{length, take, drop, get_or, Option, inl, inr, refl, sym, ap, subst}
+use Rattle.std.proofs.Common.{◌∙◌, arith}
 use Rattle.std.specs.Prelude.{nat_eq}
 use Rattle.pkops.specs.declared.Op.{Op}
 use Rattle.pkops.specs.declared.Op.TheVariants as op
 use Rattle.pkops.specs.declared.Layout.TheVariants as layout
-use Rattle.pkops.specs.Operands.{memo_number}
-use Rattle.pkops.specs.Spelling.{Argument, Nothing, Number, Signed, Float, Line, Pair, Counted}
-use Rattle.pkops.specs.Spelling.{Instruction, instruction, Suits, layout_at, laid, spelling}
+use Rattle.pkops.specs.Spelling.{Argument, Number, Instruction, instruction, Suits, layout_at, laid}
+use Rattle.pkops.specs.Spelling.{spelling}
 use Rattle.pkops.specs.Table.{code_of}
 use Rattle.pkread.specs.Admission.{IsAllowed}
 use Rattle.pkread.specs.Sequence.{spellings}
-use Rattle.pkstack.specs.declared.Move.TheVariants.{Stores, StoresNext, Fetches}
-use Rattle.pkmachine.specs.Effects.{Effect, Moves, effect_of}
-use Rattle.pkopt.specs.Private.Fronts.{EndsInStop}
+use Rattle.pkmachine.specs.Effects.{effect_of}
+use Rattle.pkopt.proofs.SlimForm.Allowed.{EndsInStop}
 use Rattle.pkopt.specs.Private.FrameBytes.{head_length, framed_bytes}
 use Rattle.pkopt.specs.OneFrame.{is_proto, has_frame, frame_around, in_frame, optimized}
-use Rattle.pkopt.specs.Slim.{is_frame, form_of, renumbered, read_left, left_of, slim_from, slim}
-use Rattle.pkopt.specs.Writers.{Writes, last_write, after, sources, is_read, new_number}
+use Rattle.pkopt.specs.Slim.{renumbered, left_of, slim_from, slim}
+use Rattle.pkopt.specs.Writers.{Writes, after, sources, new_number}
+use Rattle.pkopt.proofs.SlimForm.NewForms.{NamesNumber, form_keeps, left_by}
 use Rattle.pkopt.proofs.OneFrame.FramedForm.{EndsByStop, ends_by, slim_ends}
 
 -- a PROTO of the slim form is one of the pickle, so it is good
@@ -33,88 +32,37 @@ protos_append : (is js : List Instruction) → GoodProtos is → GoodProtos js �
 protos_append [] js h g = g
 protos_append (i ∷ is) js h g = (h.0, protos_append is js h.1 g)
 
-form_proto : (o : Op) (n : ℕ) → is_proto o ≡ false → is_proto (form_of o n) ≡ false
-form_proto op.BinPut n e =
-    elim (ltb n 256) as (λ b. is_proto (cond b op.BinPut op.LongBinPut) ≡ false) [
-      | true ↦ refl
-      | false ↦ refl
-    ]
-form_proto op.LongBinPut n e =
-    elim (ltb n 256) as (λ b. is_proto (cond b op.BinPut op.LongBinPut) ≡ false) [
-      | true ↦ refl
-      | false ↦ refl
-    ]
-form_proto op.BinGet n e =
-    elim (ltb n 256) as (λ b. is_proto (cond b op.BinGet op.LongBinGet) ≡ false) [
-      | true ↦ refl
-      | false ↦ refl
-    ]
-form_proto op.LongBinGet n e =
-    elim (ltb n 256) as (λ b. is_proto (cond b op.BinGet op.LongBinGet) ≡ false) [
-      | true ↦ refl
-      | false ↦ refl
-    ]
-form_proto o n e = e
-
 memo_no_proto : (o : Op) → is_proto o ≡ true → effect_of o ≡ effect_of op.Proto
 memo_no_proto op.Proto e = refl
 memo_no_proto o e = cc
 
 module _ (vs : List (Option ℕ)) (limit : ℕ) where
-  no_proto : (n : ℕ) (i : Instruction) → is_proto i.op ≡ false → GoodProto (renumbered n i)
-  no_proto n i f e = let c : false ≡ true = sym (form_proto i.op n f) ∙ e in cc
+  -- an instruction that gets another number is no PROTO
+  no_proto : (n : ℕ) (i : Instruction) → NamesNumber (effect_of i.op) → GoodProto (renumbered n i)
+  no_proto n i names e = absurd (subst NamesNumber
+      (memo_no_proto i.op (sym (form_keeps is_proto refl refl i.op n) ∙ e)) names)
 
-  good : (i : Instruction) → IsAllowed limit i → GoodProto i
-  good i h e = h.good.suits
-
-  one_good : (b : Bool) (i : Instruction) → GoodProto i → GoodProtos (cond b (i ∷ []) [])
-  one_good true i h = (h, tt)
-  one_good false i h = tt
-
-  passed_good : (b : Bool) (i : Instruction) → GoodProto i → GoodProtos (cond b [] (i ∷ []))
-  passed_good true i h = tt
-  passed_good false i h = (h, tt)
-
-  read_good : (a : Option ℕ) (i : Instruction) → is_proto i.op ≡ false → IsAllowed limit i
-      → GoodProtos (read_left vs a i)
-  read_good (Some w) i f h = (no_proto (new_number vs w) i f, tt)
-  read_good None i f h = (good i h, tt)
-
-  left_good : (ws : Writes) (e : Effect) (i : Instruction) → is_proto i.op ≡ false
-      → IsAllowed limit i → GoodProtos (left_of vs ws e i)
-  left_good ws (Moves Stores) i f h = one_good (is_read (length ws) vs) _
-      (no_proto (new_number vs (length ws)) i f)
-  left_good ws (Moves StoresNext) i f h = one_good (is_read (length ws) vs) i (good i h)
-  left_good ws (Moves Fetches) i f h = read_good (last_write (memo_number i) ws) i f h
-  left_good ws e i f h = passed_good (is_frame i.op) i (good i h)
-
-  kept_good : (b : Bool) (ws : Writes) (i : Instruction) → is_proto i.op ≡ b → IsAllowed limit i
+  left_good : (ws : Writes) (i : Instruction) → IsAllowed limit i
       → GoodProtos (left_of vs ws (effect_of i.op) i)
-  kept_good true ws i f h = subst (λ e. GoodProtos (left_of vs ws e i)) (sym (memo_no_proto i.op f))
-      (passed_good (is_frame i.op) i (good i h))
-  kept_good false ws i f h = left_good ws (effect_of i.op) i f h
+  left_good ws i h = left_by GoodProtos vs ws i (effect_of i.op) tt ((λ e. h.good.suits), tt)
+      (λ w names lt. (no_proto (new_number vs w) i names, tt))
 
   protos_slim : (ws : Writes) (is : List Instruction) → EndsInStop limit is
       → GoodProtos (slim_from vs ws is)
   protos_slim ws [] h = absurd h
   protos_slim ws (i ∷ is) (a, inl h) = protos_append (left_of vs ws (effect_of i.op) i) _
-      (kept_good (is_proto i.op) ws i refl a)
+      (left_good ws i a)
       (subst (λ is. GoodProtos (slim_from vs (after i ws) is)) (sym h.1) tt)
   protos_slim ws (i ∷ is) (a, inr h) = protos_append (left_of vs ws (effect_of i.op) i) _
-      (kept_good (is_proto i.op) ws i refl a) (protos_slim (after i ws) is h.1)
+      (left_good ws i a) (protos_slim (after i ws) is h.1)
 
 two_bytes : (a : Argument) → Suits layout.U1 a
     → (b : ℕ) × (code_of op.Proto ∷ laid layout.U1 a ≡ 128 ∷ b ∷ [])
-two_bytes Nothing h = absurd h
 two_bytes (Number w n) h = (
   get_or (laid layout.U1 (Number 1 n)) 0 0,
   ap (λ w. code_of op.Proto ∷ laid layout.U1 (Number w n)) h.0,
 )
-two_bytes (Signed z) h = absurd h
-two_bytes (Float b) h = absurd h
-two_bytes (Line t) h = absurd h
-two_bytes (Pair a b) h = absurd h
-two_bytes (Counted c) h = absurd h
+two_bytes a h = absurd h
 
 proto_bytes : (o : Op) (a : Argument) → is_proto o ≡ true → Suits (layout_at o) a
     → (b : ℕ) × (spelling (instruction o a) ≡ 128 ∷ b ∷ [])

@@ -1,29 +1,29 @@
 -- The optimized form is framed, and has the same runs.
-use Rattle.std.proofs.Common.{◌≡◌, ℕ, ◌+◌, ◌-◌, ◌<◌, Bool, true, false, cond, ltb, ◌||◌, List, []}
-use Rattle.std.proofs.Common.{◌∷◌, ◌++◌, length, map, Option, None, Some, option_map, All, ◌⊎◌, inl}
-use Rattle.std.proofs.Common.{inr, refl, sym, ap, subst, ◌∙◌, arith, MatchOption, length-append}
+use Rattle.std.proofs.Common.{◌≡◌, ℕ, ◌+◌, ◌-◌, ◌<◌, Bool, true, false, cond, ◌||◌, List, [], ◌∷◌}
+use Rattle.std.proofs.Common.{◌++◌, length, map, Option, None, Some, option_map, All, ◌⊎◌, inl, inr}
+use Rattle.std.proofs.Common.{refl, sym, ap, subst, ◌∙◌, arith, MatchOption, length-append}
 use Rattle.std.specs.Prelude.{◌≢◌}
+use Rattle.std.proofs.lemmas.Bool.{or_parts}
 use Rattle.std.proofs.lemmas.Bool.Decides.{nat_tests}
 use Rattle.std.proofs.lemmas.List.Elements.{All-nil, All-cons}
 use Rattle.pkops.specs.declared.Op.{Op}
 use Rattle.pkops.specs.declared.Op.TheVariants as op
-use Rattle.pkops.specs.Operands.{memo_number}
 use Rattle.pkops.specs.Spelling.{Instruction, spelling}
 use Rattle.pkread.specs.Framing.{Role, stop, other, total, counted, one_later, refused_at, Framed}
 use Rattle.pkread.specs.Framing.{FirstUnframed, CountingIsExact}
 use Rattle.pkread.specs.Genops.{is_stop}
 use Rattle.pkread.specs.Pieces.{role_of, number_of, piece_of}
 use Rattle.pkread.specs.Sequence.{spellings}
-use Rattle.pkstack.specs.declared.Move.TheVariants.{Stores, StoresNext, Fetches}
-use Rattle.pkmachine.specs.Effects.{Effect, Moves, effect_of}
+use Rattle.pkmachine.specs.Effects.{effect_of}
 use Rattle.pkcheck.specs.Ends.{SameEnd}
 use Rattle.pkmachine.specs.Runs.{State, Outcome, start}
 use Rattle.pkmachine.specs.WholeRuns.{run}
-use Rattle.pkopt.specs.Private.Fronts.{EndsInStop}
+use Rattle.pkopt.proofs.SlimForm.Allowed.{EndsInStop}
 use Rattle.pkopt.specs.OneFrame.{is_proto, has_frame, frame_around, in_frame, optimized}
 use Rattle.pkopt.specs.RunsAlike.{RunsAlike}
-use Rattle.pkopt.specs.Slim.{is_frame, form_of, renumbered, read_left, left_of, slim_from, slim}
-use Rattle.pkopt.specs.Writers.{Writes, last_write, after, sources, is_read, new_number}
+use Rattle.pkopt.specs.Slim.{is_frame, renumbered, left_of, slim_from, slim}
+use Rattle.pkopt.specs.Writers.{Writes, after, sources, new_number}
+use Rattle.pkopt.proofs.SlimForm.NewForms.{form_keeps, left_by}
 use Rattle.pkopt.proofs.BothRuns.SlimRuns.{frame_effect}
 
 -- a frame around changes no run
@@ -64,10 +64,6 @@ counted_other : (n len rest : ℕ) → 0 < len → n ≡ len + rest
 counted_other n len rest lt e = let s : n - len ≡ rest = omega (arith, e) in
     grind (arith, nat_tests, s)
 
-or_none : (a b : Bool) → a || b ≡ false → (a ≡ false) × (b ≡ false)
-or_none false b e = (refl, e)
-or_none true b e = cc
-
 -- ended by its only STOP
 abbrev pub EndsByStop : List Instruction → Type 0
 EndsByStop [] = ⊥
@@ -97,7 +93,7 @@ counts_down (i ∷ is) n (inl h) f e =
     ap (λ c. one_later c (λ m. refused_at m (map piece_of is))) c
     ∙ ap (λ is. option_map (λ k. k + 1) (refused_at 0 (map piece_of is))) h.1
 counts_down (i ∷ is) n (inr h) f e =
-    let g = or_none (is_frame i.op) (has_frame is) f in
+    let g = or_parts (is_frame i.op) (has_frame is) f in
     let c : counted n (piece_of i) ≡ Some (total (map piece_of is)) = ap (counted n)
     (piece_is other i (role_other i.op (number_of i.arg) h.0 g.0))
     ∙ counted_other n (length (spelling i)) (total (map piece_of is)) (some_bytes i) e in
@@ -107,14 +103,13 @@ counts_down (i ∷ is) n (inr h) f e =
 opens_nothing : (o : Op) (len n : ℕ) → is_frame o ≡ false
     → counted 0 (record { length = len; role = role_of o n }) ≡ Some 0
 opens_nothing op.Frame len n e = cc
-opens_nothing op.Stop len n e = refl
 opens_nothing o len n e = refl
 
 -- without a frame nothing is refused
 goes_on : (q : List Instruction) → has_frame q ≡ false → refused_at 0 (map piece_of q) ≡ None
 goes_on [] f = refl
 goes_on (i ∷ is) f =
-    let g = or_none (is_frame i.op) (has_frame is) f in
+    let g = or_parts (is_frame i.op) (has_frame is) f in
     ap (λ c. one_later c (λ m. refused_at m (map piece_of is)))
     (opens_nothing i.op (length (spelling i)) (number_of i.arg) g.0)
     ∙ ap (option_map (λ k. k + 1)) (goes_on is g.1)
@@ -145,7 +140,7 @@ through_by true i is p h f =
     ap (λ c. one_later c (λ m. refused_at m (map piece_of (frame_around is ∷ is))))
     (proto_opens_nothing i.op (length (spelling i)) (number_of i.arg) p)
     ∙ ap (option_map (λ k. k + 1))
-    (around is (after_proto i is p h) (or_none (is_frame i.op) (has_frame is) f).1)
+    (around is (after_proto i is p h) (or_parts (is_frame i.op) (has_frame is) f).1)
 through_by false i is p h f = around (i ∷ is) h f
 
 -- the rule goes through, with a PROTO before the frame or none
@@ -172,52 +167,6 @@ abbrev ArePlain : List Instruction → Type 0
 ArePlain [] = Unit {0}
 ArePlain (i ∷ is) = IsPlain i × ArePlain is
 
-form_frame : (o : Op) (n : ℕ) → is_frame (form_of o n) ≡ is_frame o
-form_frame op.BinPut n =
-    elim (ltb n 256) as (λ b. is_frame (cond b op.BinPut op.LongBinPut) ≡ false) [
-      | true ↦ refl
-      | false ↦ refl
-    ]
-form_frame op.LongBinPut n =
-    elim (ltb n 256) as (λ b. is_frame (cond b op.BinPut op.LongBinPut) ≡ false) [
-      | true ↦ refl
-      | false ↦ refl
-    ]
-form_frame op.BinGet n =
-    elim (ltb n 256) as (λ b. is_frame (cond b op.BinGet op.LongBinGet) ≡ false) [
-      | true ↦ refl
-      | false ↦ refl
-    ]
-form_frame op.LongBinGet n =
-    elim (ltb n 256) as (λ b. is_frame (cond b op.BinGet op.LongBinGet) ≡ false) [
-      | true ↦ refl
-      | false ↦ refl
-    ]
-form_frame o n = refl
-
-form_stop : (o : Op) (n : ℕ) → is_stop (form_of o n) ≡ is_stop o
-form_stop op.BinPut n =
-    elim (ltb n 256) as (λ b. is_stop (cond b op.BinPut op.LongBinPut) ≡ false) [
-      | true ↦ refl
-      | false ↦ refl
-    ]
-form_stop op.LongBinPut n =
-    elim (ltb n 256) as (λ b. is_stop (cond b op.BinPut op.LongBinPut) ≡ false) [
-      | true ↦ refl
-      | false ↦ refl
-    ]
-form_stop op.BinGet n =
-    elim (ltb n 256) as (λ b. is_stop (cond b op.BinGet op.LongBinGet) ≡ false) [
-      | true ↦ refl
-      | false ↦ refl
-    ]
-form_stop op.LongBinGet n =
-    elim (ltb n 256) as (λ b. is_stop (cond b op.BinGet op.LongBinGet) ≡ false) [
-      | true ↦ refl
-      | false ↦ refl
-    ]
-form_stop o n = refl
-
 stop_stays : (vs : List (Option ℕ)) (ws : Writes) (o : Op) (i : Instruction) → is_stop o ≡ true
     → is_frame i.op ≡ false → left_of vs ws (effect_of o) i ≡ i ∷ []
 stop_stays vs ws op.Stop i e f = ap (λ b. cond b [] (i ∷ [])) f
@@ -238,33 +187,17 @@ ends_by limit (i ∷ is) (a, inr h) = inr (is_no_stop i.op h.0, ends_by limit is
 
 module _ (vs : List (Option ℕ)) where
   form_plain : (n : ℕ) (i : Instruction) → IsPlain i → IsPlain (renumbered n i)
-  form_plain n i h = (form_frame i.op n ∙ h.0, form_stop i.op n ∙ h.1)
-
-  one_plain : (b : Bool) (i : Instruction) → IsPlain i → ArePlain (cond b (i ∷ []) [])
-  one_plain true i h = (h, tt)
-  one_plain false i h = tt
-
-  passed_plain : (b : Bool) (i : Instruction) → IsPlain i → ArePlain (cond b [] (i ∷ []))
-  passed_plain true i h = tt
-  passed_plain false i h = (h, tt)
-
-  read_plain : (a : Option ℕ) (i : Instruction) → IsPlain i → ArePlain (read_left vs a i)
-  read_plain (Some w) i h = (form_plain (new_number vs w) i h, tt)
-  read_plain None i h = (h, tt)
-
-  left_plain : (ws : Writes) (e : Effect) (i : Instruction) → IsPlain i
-      → ArePlain (left_of vs ws e i)
-  left_plain ws (Moves Stores) i h = one_plain (is_read (length ws) vs) _
-      (form_plain (new_number vs (length ws)) i h)
-  left_plain ws (Moves StoresNext) i h = one_plain (is_read (length ws) vs) i h
-  left_plain ws (Moves Fetches) i h = read_plain (last_write (memo_number i) ws) i h
-  left_plain ws e i h = passed_plain (is_frame i.op) i h
+  form_plain n i h = (
+    form_keeps is_frame refl refl i.op n ∙ h.0,
+    form_keeps is_stop refl refl i.op n ∙ h.1,
+  )
 
   kept_plain : (b : Bool) (ws : Writes) (i : Instruction) → is_frame i.op ≡ b → is_stop i.op ≡ false
       → ArePlain (left_of vs ws (effect_of i.op) i)
   kept_plain true ws i f s = subst ArePlain
       (sym (ap (λ e. left_of vs ws e i) (frame_effect i.op f) ∙ ap (λ b. cond b [] (i ∷ [])) f)) tt
-  kept_plain false ws i f s = left_plain ws (effect_of i.op) i (f, s)
+  kept_plain false ws i f s = left_by ArePlain vs ws i (effect_of i.op) tt ((f, s), tt)
+      (λ w names lt. (form_plain (new_number vs w) i (f, s), tt))
 
   -- ended by its only STOP, without frames
   abbrev Ends : List Instruction → Type 0
@@ -296,5 +229,4 @@ pub optimized_framed : CountingIsExact → (limit : ℕ) (p : List Instruction) 
 optimized_framed exact limit p h =
     let e = slim_ends (sources [] p) [] p (ends_by limit p h) in
     let q = optimized p in
-    subst (λ r. MatchOption r (Framed (map piece_of q)) (FirstUnframed (map piece_of q)))
-    (goes_by (has_frame p) (slim p) e.0 e.1) (exact (map piece_of q) (all_some q))
+    rw (goes_by (has_frame p) (slim p) e.0 e.1) at (exact (map piece_of q) (all_some q))

@@ -13,12 +13,6 @@ use Rattle.pkopt.specs.Private.Sinks.{Counts, Measures, unmeasured}
 head_measured : (m : Measure) (bytes : List ℕ) → Measures m bytes
     → (head_from m ≡ head_length bytes)
     × (take (head_from m) (m.first ∷ m.second ∷ []) ≡ take (head_length bytes) bytes)
-head_measured m [] h =
-    let e = ap (λ n. cond (nat_le 2 n) (cond (nat_eq m.first 128) 2 0) 0) h.count in
-    (e, ap (λ n. take n (m.first ∷ m.second ∷ [])) e)
-head_measured m (x ∷ []) h =
-    let e = ap (λ n. cond (nat_le 2 n) (cond (nat_eq m.first 128) 2 0) 0) h.count in
-    (e, ap (λ n. take n (m.first ∷ m.second ∷ [])) e)
 head_measured m (x ∷ y ∷ bytes) h =
     let first : x ≡ m.first = h.first_so (omega arith) in
     let second : y ≡ m.second = h.second_so (omega arith) in
@@ -34,6 +28,9 @@ head_measured m (x ∷ y ∷ bytes) h =
           ∙ elim (nat_eq x 128) as (λ b. take (cond b 2 0) (x ∷ y ∷ [])
           ≡ take (cond b 2 0) (x ∷ y ∷ bytes)) [ true ↦ refl | false ↦ refl ],
     )
+head_measured m bytes h =
+    let e = ap (λ n. cond (nat_le 2 n) (cond (nat_eq m.first 128) 2 0) 0) h.count in
+    (e, ap (λ n. take n (m.first ∷ m.second ∷ [])) e)
 
 -- the front and the bytes behind the head are the bytes in one frame
 pub front_measured : (m : Measure) (bytes : List ℕ) → Measures m bytes

@@ -9,11 +9,10 @@ use Rattle.pkops.specs.Spelling.{Instruction, spelling}
 use Rattle.pkread.specs.Admission.{IsAllowed}
 use Rattle.pkread.specs.Genops.{is_stop}
 use Rattle.pkread.specs.Sequence.{IsSequence, spellings}
-use Rattle.pkopt.specs.Private.Fronts.{EndsInStop}
+use Rattle.pkopt.proofs.SlimForm.Allowed.{EndsInStop, AreAllowed, slim_allowed}
 use Rattle.pkopt.specs.OneFrame.{is_proto, has_frame, frame_around, in_frame, optimized}
 use Rattle.pkopt.specs.Slim.{slim}
 use Rattle.pkopt.specs.Writers.{sources, new_number, after_all}
-use Rattle.pkopt.proofs.SlimForm.Allowed.{AreAllowed, slim_allowed}
 use Rattle.pkopt.proofs.OneFrame.FramedForm.{EndsByStop, slim_stops, proto_no_stop}
 
 stop_is : (o : Op) → is_stop o ≡ true → o ≡ op.Stop

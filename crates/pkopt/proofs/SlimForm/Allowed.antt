@@ -1,13 +1,13 @@
 -- Each instruction of the slim form is good, admitted and within the limits.
 use Rattle.std.proofs.Common.{◌≡◌, ℕ, suc, ◌<◌, ◌≤◌, ◌^◌, Bool, true, false, cond, ltb, List, []}
-use Rattle.std.proofs.Common.{◌∷◌, ◌++◌, length, get_or, Option, None, Some, inl, inr, refl, sym}
-use Rattle.std.proofs.Common.{ap, subst, ◌∙◌, arith}
-use Rattle.std.specs.Prelude.{◌≢◌, ◌&&◌}
+use Rattle.std.proofs.Common.{◌∷◌, ◌++◌, length, get_or, Option, inl, inr, refl, sym, ap, subst}
+use Rattle.std.proofs.Common.{◌∙◌, arith}
+use Rattle.std.specs.Prelude.{◌≢◌, ◌⊎◌}
 use Rattle.std.specs.List.{AllByRecursion}
 use Rattle.std.specs.Char.{is_ascii_digit}
 use Rattle.std.specs.Int.{IsInRange}
 use Rattle.std.specs.Fmt.{decimal}
-use Rattle.std.proofs.lemmas.Bool.{le-leb, ltb-true}
+use Rattle.std.proofs.lemmas.Bool.{and_from, cases_eq, le-leb, ltb-true}
 use Rattle.std.proofs.lemmas.Fmt.{decimal_digit, decimal_nonempty, first_decimal, digits_decimal}
 use Rattle.std.proofs.lemmas.Fmt.{length-decimal-le}
 use Rattle.std.proofs.lemmas.Grind.{get_or_default_zero}
@@ -15,32 +15,30 @@ use Rattle.std.proofs.lemmas.Str.Parse.{numerals_by_value, tells_by_index}
 use Rattle.pkops.specs.declared.Op.{Op}
 use Rattle.pkops.specs.declared.Op.TheVariants as op
 use Rattle.pkops.specs.Numerals.{IsPositive, IsNatural, IsMemoNumber, is_nonzero_digit}
-use Rattle.pkops.specs.Operands.{memo_number}
 use Rattle.pkops.specs.Spelling.{IsLine, Instruction, instruction}
 use Rattle.pkread.specs.Admission.{IsAllowed}
-use Rattle.pkstack.specs.declared.Move.TheVariants.{Stores, StoresNext, Fetches}
-use Rattle.pkmachine.specs.Effects.{Effect, Moves, effect_of}
-use Rattle.pkopt.specs.Private.Fronts.{EndsInStop}
-use Rattle.pkopt.specs.Slim.{form_of, argument_for, is_frame, read_left, left_of, slim_from, slim}
-use Rattle.pkopt.specs.Writers.{Writes, last_write, wrote, after, sources, is_read, new_number}
-use Rattle.pkopt.specs.Writers.{after_all}
-use Rattle.pkopt.proofs.SlimForm.Fates.{last_write_lt}
-use Rattle.pkopt.proofs.SlimForm.NewForms.{NamesNumber, decimal_says}
-use Rattle.pkopt.proofs.MemoWrites.NewNumbers.{tells_eq, after_all_le}
+use Rattle.pkmachine.specs.Effects.{effect_of}
+use Rattle.pkops.specs.declared.Op.TheVariants.{Stop}
+use Rattle.pkopt.specs.Slim.{form_of, argument_for, left_of, slim_from, slim}
+use Rattle.pkopt.specs.Writers.{Writes, after, sources, new_number, after_all}
+use Rattle.pkopt.proofs.SlimForm.NewForms.{NamesNumber, decimal_says, left_by}
+use Rattle.pkopt.proofs.MemoWrites.NewNumbers.{after_all_le}
+
+-- each instruction is allowed, and only the last is STOP
+abbrev pub EndsInStop : ℕ → List Instruction → Type 0
+EndsInStop limit [] = ⊥
+EndsInStop limit (i ∷ is) =
+    IsAllowed limit i × (((i.op ≡ Stop) × (is ≡ [])) ⊎ ((i.op ≢ Stop) × EndsInStop limit is))
 
 digit_at : (n : ℕ) → n < 2 ^ 64 → (k : ℕ) → k < length (decimal n)
     → IsInRange 48 57 (get_or (decimal n) k 0)
 digit_at n lt = digits_decimal (numerals_by_value _ tells_by_index) n lt
 
-both_true : (a b : Bool) → a ≡ true → b ≡ true → a && b ≡ true
-both_true true b e f = f
-both_true false b e f = cc
-
 digit_test : (c : ℕ) → IsInRange 48 57 c → is_ascii_digit c ≡ true
-digit_test c h = both_true _ _ (le-leb 48 c h.0) (le-leb c 57 h.1)
+digit_test c h = and_from _ _ (le-leb 48 c h.0) (le-leb c 57 h.1)
 
 nonzero_test : (c : ℕ) → 48 < c → IsInRange 48 57 c → is_nonzero_digit c ≡ true
-nonzero_test c lt h = both_true _ _ (le-leb 49 c (omega (arith, lt))) (le-leb c 57 h.1)
+nonzero_test c lt h = and_from _ _ (le-leb 49 c (omega (arith, lt))) (le-leb c 57 h.1)
 
 positive : (d : List ℕ) → 0 < length d → 48 < get_or d 0 0
     → ((k : ℕ) → k < length d → IsInRange 48 57 (get_or d k 0)) → IsPositive d
@@ -55,7 +53,7 @@ positive (c ∷ cs) some first each = (
 )
 
 natural : (n : ℕ) → n < 2 ^ 64 → IsNatural (decimal n)
-natural n lt = elim (tells_eq n 0) [
+natural n lt = elim (cases_eq n 0) [
   | inl q ↦ inl (ap decimal q ∙ decimal_digit 0 (omega arith))
   | inr q ↦ inr
       (positive (decimal n) (decimal_nonempty n lt) (first_decimal n (omega (arith, q)) lt)
@@ -86,14 +84,11 @@ line_of n lt =
       whole = no_line_feed (decimal n) (digit_at n (omega (arith, lt)));
     }
 
-below : (n : ℕ) → ltb n 256 ≡ true → n < 256
-below n e = ltb-true n 256 e
-
 module _ (limit : ℕ) where
   put_allowed : (n : ℕ) (b : Bool) → ltb n 256 ≡ b → n < 2 ^ 32 → let o =
       cond b op.BinPut op.LongBinPut in IsAllowed limit (instruction o (argument_for o n))
   put_allowed n true e lt = record {
-    good = record { suits = (refl, below n e); contents = tt };
+    good = record { suits = (refl, ltb-true n 256 e); contents = tt };
     within = tt;
     admitted = refl;
   }
@@ -103,7 +98,7 @@ module _ (limit : ℕ) where
   get_allowed : (n : ℕ) (b : Bool) → ltb n 256 ≡ b → n < 2 ^ 32 → let o =
       cond b op.BinGet op.LongBinGet in IsAllowed limit (instruction o (argument_for o n))
   get_allowed n true e lt = record {
-    good = record { suits = (refl, below n e); contents = tt };
+    good = record { suits = (refl, ltb-true n 256 e); contents = tt };
     within = tt;
     admitted = refl;
   }
@@ -141,32 +136,11 @@ module _ (limit : ℕ) where
 
   module _ (vs : List (Option ℕ)) (total : ℕ)
       (small : (w : ℕ) → w < total → new_number vs w < 2 ^ 32) where
-    one_allowed : (b : Bool) (i : Instruction) → IsAllowed limit i → AreAllowed (cond b (i ∷ []) [])
-    one_allowed true i h = (h, tt)
-    one_allowed false i h = tt
-
-    passed_allowed : (b : Bool) (i : Instruction) → IsAllowed limit i
-        → AreAllowed (cond b [] (i ∷ []))
-    passed_allowed true i h = tt
-    passed_allowed false i h = (h, tt)
-
-    read_allowed : (a : Option ℕ) (i : Instruction) → ((w : ℕ) → a ≡ Some w → w < total)
-        → NamesNumber (effect_of i.op) → IsAllowed limit i → AreAllowed (read_left vs a i)
-    read_allowed (Some w) i lt names h =
-        (form_allowed i.op (new_number vs w) (small w (lt w refl)) names, tt)
-    read_allowed None i lt names h = (h, tt)
-
-    left_allowed : (ws : Writes) (e : Effect) (i : Instruction) → effect_of i.op ≡ e
-        → length (wrote e (memo_number i) ws) ≤ total → IsAllowed limit i
-        → AreAllowed (left_of vs ws e i)
-    left_allowed ws (Moves Stores) i q le h = one_allowed (is_read (length ws) vs) _
-        (form_allowed i.op (new_number vs (length ws)) (small (length ws) (omega (arith, le)))
-        (subst NamesNumber (sym q) tt))
-    left_allowed ws (Moves StoresNext) i q le h = one_allowed (is_read (length ws) vs) i h
-    left_allowed ws (Moves Fetches) i q le h = read_allowed (last_write (memo_number i) ws) i
-        (λ w g. let lt = last_write_lt (memo_number i) ws w g in omega (arith, lt, le))
-        (subst NamesNumber (sym q) tt) h
-    left_allowed ws e i q le h = passed_allowed (is_frame i.op) i h
+    left_allowed : (ws : Writes) (i : Instruction) → length (after i ws) ≤ total
+        → IsAllowed limit i → AreAllowed (left_of vs ws (effect_of i.op) i)
+    left_allowed ws i le h = left_by AreAllowed vs ws i (effect_of i.op) tt (h, tt)
+        (λ w names lt.
+        (form_allowed i.op (new_number vs w) (small w (omega (arith, lt, le))) names, tt))
 
     allowed_slim : (ws : Writes) (is : List Instruction) → length (after_all is ws) ≤ total
         → EndsInStop limit is → AreAllowed (slim_from vs ws is)
@@ -174,12 +148,12 @@ module _ (limit : ℕ) where
     allowed_slim ws (i ∷ is) le (a, inl h) =
         let more = after_all_le is (after i ws) in
         allowed_append (left_of vs ws (effect_of i.op) i) _
-        (left_allowed ws (effect_of i.op) i refl (omega (arith, more, le)) a)
+        (left_allowed ws i (omega (arith, more, le)) a)
         (subst (λ is. AreAllowed (slim_from vs (after i ws) is)) (sym h.1) tt)
     allowed_slim ws (i ∷ is) le (a, inr h) =
         let more = after_all_le is (after i ws) in
         allowed_append (left_of vs ws (effect_of i.op) i) _
-        (left_allowed ws (effect_of i.op) i refl (omega (arith, more, le)) a)
+        (left_allowed ws i (omega (arith, more, le)) a)
         (allowed_slim (after i ws) is le h.1)
 
 -- the slim form of allowed instructions

@@ -2,9 +2,9 @@
 use Rattle.std.proofs.Common.{◌≡◌, ℕ, zero, suc, ◌+◌, ◌<◌, ◌≤◌, Bool, true, false, cond, List, []}
 use Rattle.std.proofs.Common.{◌∷◌, ◌++◌, length, drop, get_or, Option, Some, None, inl, inr, refl}
 use Rattle.std.proofs.Common.{sym, ap, subst, ◌∙◌, arith, append-nil}
-use Rattle.std.specs.Prelude.{nat_eq, ◌≢◌, min}
+use Rattle.std.specs.Prelude.{◌≢◌, min}
 use Rattle.std.proofs.lemmas.Bool.Decides.{eqb_tells}
-use Rattle.std.proofs.lemmas.Bool.{eq-eqb}
+use Rattle.std.proofs.lemmas.Bool.{eq-eqb, or_left, or_right}
 use Rattle.pkops.specs.declared.Op.{Op}
 use Rattle.pkops.specs.declared.Op.TheVariants as op
 use Rattle.pkops.specs.Operands.{memo_number, names_memo_entry}
@@ -24,23 +24,13 @@ use Rattle.pkopt.specs.Writers.{Writes, last_write, wrote, after, read_by, sourc
 use Rattle.pkopt.specs.Writers.{is_read, new_number}
 use Rattle.pkopt.proofs.MemoWrites.Followed.{effect_stores, effect_next, effect_fetches}
 use Rattle.pkopt.proofs.MemoWrites.NewNumbers.{new_step, new_up_to}
-use Rattle.pkopt.proofs.BothRuns.SlimRuns.{or_left, or_right}
-
-pub last_write_lt : (n : ℕ) (ws : Writes) (w : ℕ) → last_write n ws ≡ Some w → w < length ws
-last_write_lt n [] w e = cc
-last_write_lt n (m ∷ ws) w e =
-    elim (nat_eq n m) as (λ b. cond b (Some (length ws)) (last_write n ws) ≡ Some w
-    → w < suc (length ws)) [
-      | true ↦ λ h. let q : length ws ≡ w = cc in omega (arith, q)
-      | false ↦ λ h. let lt = last_write_lt n ws w h in omega (arith, lt)
-    ] e
+use Rattle.pkopt.proofs.SlimForm.NewForms.{last_write_lt}
+use Rattle.pkopt.proofs.SlimForm.PlainInstructions.{Passes, neither}
 
 at_drop : (k : ℕ) (xs : List (Option ℕ)) (y : Option ℕ) (ys : List (Option ℕ)) → drop k xs ≡ y ∷ ys
     → (get_or xs k None ≡ y) × (drop (suc k) xs ≡ ys)
-at_drop zero [] y ys e = (cc, cc)
-at_drop zero (x ∷ xs) y ys e = (cc, cc)
-at_drop (suc k) [] y ys e = (cc, cc)
 at_drop (suc k) (x ∷ xs) y ys e = at_drop k xs y ys e
+at_drop k xs y ys e = (cc, cc)
 
 is_read_at : (k : ℕ) (vs : List (Option ℕ)) (w : ℕ) → get_or vs k None ≡ Some w
     → is_read w vs ≡ true
@@ -99,44 +89,35 @@ module _ (vs : List (Option ℕ)) (limit : ℕ) (numbers : List (Option ℕ))
   stored_right : (b : Bool) (x : Option ℕ) → is_read (length ws) vs ≡ b
       → x ≡ cond b (Some (new_number vs (length ws))) None → new_number vs (length ws) ≤ limit
       → names_memo_entry i.op ≡ true → RightFor (Moves move.Stores) (stored_fate limit x)
-  stored_right false x r e le names = subst
-      (λ x. RightFor (Moves move.Stores) (stored_fate limit x)) (sym e) (
-        λ old new spelled s g. dropped _ r old new g,
-        let step = new_step vs (length ws) false r in
-            omega (arith, step, le),
-      )
-  stored_right true x r e le names = subst (λ x. RightFor (Moves move.Stores) (stored_fate limit x))
-      (sym e) (elim (eqb_tells (new_number vs (length ws)) limit) [
-        | inl q ↦ subst
-            (λ c. RightFor (Moves move.Stores) (cond c IsPast (Gets (new_number vs (length ws)))))
-            (sym q.0) (omega arith, r, q.1)
-        | inr q ↦ subst
-            (λ c. RightFor (Moves move.Stores) (cond c IsPast (Gets (new_number vs (length ws)))))
-            (sym q.0) (
-              λ old new spelled s g. kept _ r old new (g names),
-              let step =
-                  new_step vs (length ws) true r in let ne = q.1 in omega (arith, step, le, ne),
-            )
-      ])
+  stored_right false x r e le names = rw e (
+    λ old new spelled s g. dropped _ r old new g,
+    let step = new_step vs (length ws) false r in
+        omega (arith, step, le),
+  )
+  stored_right true x r e le names = rw e (elim (eqb_tells (new_number vs (length ws)) limit) [
+    | inl q ↦ rw q.0 (omega arith, r, q.1)
+    | inr q ↦ rw q.0 (
+      λ old new spelled s g. kept _ r old new (g names),
+      let step =
+          new_step vs (length ws) true r in let ne = q.1 in omega (arith, step, le, ne),
+    )
+  ])
 
   next_right : (b : Bool) (x : Option ℕ) → is_read (length ws) vs ≡ b
       → x ≡ cond b (Some (new_number vs (length ws))) None → new_number vs (length ws) ≤ limit
       → RightFor (Moves move.StoresNext) (next_fate limit x)
-  next_right false x r e le = subst (λ x. RightFor (Moves move.StoresNext) (next_fate limit x))
-      (sym e) (
-        λ old new spelled s g. dropped _ r old new g,
-        let step = new_step vs (length ws) false r in
-            omega (arith, step, le),
-      )
-  next_right true x r e le = subst (λ x. RightFor (Moves move.StoresNext) (next_fate limit x))
-      (sym e) (elim (eqb_tells (new_number vs (length ws)) limit) [
-        | inl q ↦ subst (λ c. RightFor (Moves move.StoresNext) (cond c IsPast Stays)) (sym q.0)
-            (omega arith, r, q.1)
-        | inr q ↦ subst (λ c. RightFor (Moves move.StoresNext) (cond c IsPast Stays)) (sym q.0) (
-          λ old new spelled s g. kept i r old new (g ∙ ap (λ (l : List ℕ). old ++ l) s),
-          let step = new_step vs (length ws) true r in let ne = q.1 in omega (arith, step, le, ne),
-        )
-      ])
+  next_right false x r e le = rw e (
+    λ old new spelled s g. dropped _ r old new g,
+    let step = new_step vs (length ws) false r in
+        omega (arith, step, le),
+  )
+  next_right true x r e le = rw e (elim (eqb_tells (new_number vs (length ws)) limit) [
+    | inl q ↦ rw q.0 (omega arith, r, q.1)
+    | inr q ↦ subst (λ c. RightFor (Moves move.StoresNext) (cond c IsPast Stays)) (sym q.0) (
+      λ old new spelled s g. kept i r old new (g ∙ ap (λ (l : List ℕ). old ++ l) s),
+      let step = new_step vs (length ws) true r in let ne = q.1 in omega (arith, step, le, ne),
+    )
+  ])
 
   abbrev FetchedRight : Option ℕ → Fate → Type 0
   FetchedRight a f = (old new spelled : List ℕ) → spelled ≡ spelling i
@@ -153,35 +134,16 @@ module _ (vs : List (Option ℕ)) (limit : ℕ) (numbers : List (Option ℕ))
       let small = new_up_to vs w (length ws) (omega (arith, below)) in
       let there : get_or numbers w None ≡ Some (new_number vs w) =
       number_there w true f.0 (omega (arith, small, le)) in (
-        subst (λ x. FetchedRight (Some w) (kept_fate x)) (sym there)
-            (λ old new spelled s g. one old new (renumbered (new_number vs w) i) (g names)),
+        rw there (λ old new spelled s g. one old new (renumbered (new_number vs w) i) (g names)),
         subst (λ x. kept_fate x ≢ IsPast) (sym there) (λ q. cc),
       )
 
   from_fetched : (f : Fate) → (f ≢ IsPast) → FetchedRight (last_write (memo_number i) ws) f
       → new_number vs (length ws) ≤ limit → RightFor (Moves move.Fetches) f
   from_fetched IsPast none h le = absurd (none refl)
-  from_fetched Goes none h le = (h, le)
-  from_fetched Stays none h le = (h, le)
-  from_fetched (Gets n) none h le = (h, le)
+  from_fetched f none h le = (h, le)
 
-  -- an instruction that doesn't use the memo
-  pub record Passes (e : Effect) : Type 0 where
-    pub no_write : wrote e (memo_number i) ws ≡ ws
-    pub no_read : read_by e (memo_number i) ws ≡ []
-    pub stays : left_of vs ws e i ≡ cond (is_frame i.op) [] (i ∷ [])
-
-  neither : (o : Op) → memo_use o ≡ Neither → Passes (effect_of o)
-  neither op.Put e = record { no_write = cc; no_read = cc; stays = cc }
-  neither op.BinPut e = record { no_write = cc; no_read = cc; stays = cc }
-  neither op.LongBinPut e = record { no_write = cc; no_read = cc; stays = cc }
-  neither op.Memoize e = record { no_write = cc; no_read = cc; stays = cc }
-  neither op.Get e = record { no_write = cc; no_read = cc; stays = cc }
-  neither op.BinGet e = record { no_write = cc; no_read = cc; stays = cc }
-  neither op.LongBinGet e = record { no_write = cc; no_read = cc; stays = cc }
-  neither o e = record { no_write = refl; no_read = refl; stays = refl }
-
-  passed_by : (b : Bool) (e : Effect) → is_frame i.op ≡ b → Passes e
+  passed_by : (b : Bool) (e : Effect) → is_frame i.op ≡ b → Passes vs ws i e
       → new_number vs (length ws) ≤ limit → RightFor e (cond b Goes Stays)
   passed_by true e f h le = (
     λ old new spelled s g. g ∙ sym (append-nil old)
@@ -196,97 +158,78 @@ module _ (vs : List (Option ℕ)) (limit : ℕ) (numbers : List (Option ℕ))
     subst (λ x. new_number vs (length x) ≤ limit) (sym h.no_write) le,
   )
 
-  passed_right : (e : Effect) → Passes e → new_number vs (length ws) ≤ limit
+  passed_right : (e : Effect) → Passes vs ws i e → new_number vs (length ws) ≤ limit
       → RightFor e (passed_fate i.op)
   passed_right e h le = passed_by (is_frame i.op) e refl h le
 
   names_stored : (o : Op) → memo_use o ≡ Stores → names_memo_entry o ≡ true
   names_stored op.Put e = refl
-  names_stored op.BinPut e = refl
-  names_stored op.LongBinPut e = refl
   names_stored o e = cc
 
   names_fetched : (o : Op) → memo_use o ≡ Fetches → names_memo_entry o ≡ true
   names_fetched op.Get e = refl
-  names_fetched op.BinGet e = refl
-  names_fetched op.LongBinGet e = refl
   names_fetched o e = cc
 
-  fate_by_use : (u : MemoUse) (e : Effect) (writes reads : ℕ) → memo_use i.op ≡ u
-      → effect_of i.op ≡ e → writes ≡ length ws → drop reads vs ≡ read_by e (memo_number i) ws
+  -- the fate is right, where the instruction has this effect
+  abbrev FateIsRight : MemoUse → ℕ → ℕ → Effect → Type 0
+  FateIsRight u writes reads e = writes ≡ length ws → drop reads vs ≡ read_by e (memo_number i) ws
       ++ sources (wrote e (memo_number i) ws) is → new_number vs (length ws) ≤ limit
       → RightFor e (fate_by u vs numbers limit i.op writes reads)
-  fate_by_use Stores e writes reads is_use is_effect counted reading le =
-      let q : Moves move.Stores ≡ e = sym (effect_stores i.op is_use) ∙ is_effect in
-      subst (λ e. RightFor e (stored_fate limit (get_or numbers writes None))) q
-      (stored_right (is_read (length ws) vs) (get_or numbers writes None) refl
-      (ap (λ w. get_or numbers w None) counted
-      ∙ number_there (length ws) (is_read (length ws) vs) refl le) le
-      (names_stored i.op is_use))
-  fate_by_use StoresNext e writes reads is_use is_effect counted reading le =
-      let q : Moves move.StoresNext ≡ e = sym (effect_next i.op is_use) ∙ is_effect in
-      subst (λ e. RightFor e (next_fate limit (get_or numbers writes None))) q
-      (next_right (is_read (length ws) vs) (get_or numbers writes None) refl
-      (ap (λ w. get_or numbers w None) counted
-      ∙ number_there (length ws) (is_read (length ws) vs) refl le) le)
-  fate_by_use Fetches e writes reads is_use is_effect counted reading le =
-      let q : Moves move.Fetches ≡ e = sym (effect_fetches i.op is_use) ∙ is_effect in
-      let r : drop reads vs ≡ last_write (memo_number i) ws
-      ∷ sources ws is = subst
-      (λ e. drop reads vs ≡ read_by e (memo_number i) ws
-      ++ sources (wrote e (memo_number i) ws) is) (sym q) reading in
-      let source : get_or vs reads None ≡ last_write (memo_number i) ws =
-      (at_drop reads vs (last_write (memo_number i) ws) (sources ws is) r).0 in
-      let f = fetched_right (last_write (memo_number i) ws)
+
+  number_here : (writes : ℕ) → writes ≡ length ws → new_number vs (length ws) ≤ limit
+      → get_or numbers writes None ≡ cond (is_read (length ws) vs)
+      (Some (new_number vs (length ws))) None
+  number_here writes counted le = ap (λ w. get_or numbers w None) counted
+      ∙ number_there (length ws) (is_read (length ws) vs) refl le
+
+  fate_by_use : (u : MemoUse) (writes reads : ℕ) → memo_use i.op ≡ u
+      → FateIsRight u writes reads (effect_of i.op)
+  fate_by_use Stores writes reads is_use = subst (FateIsRight Stores writes reads)
+      (sym (effect_stores i.op is_use)) (λ counted reading le.
+      stored_right (is_read (length ws) vs) (get_or numbers writes None) refl
+      (number_here writes counted le) le (names_stored i.op is_use))
+  fate_by_use StoresNext writes reads is_use = subst (FateIsRight StoresNext writes reads)
+      (sym (effect_next i.op is_use)) (λ counted reading le.
+      next_right (is_read (length ws) vs) (get_or numbers writes None) refl
+      (number_here writes counted le) le)
+  fate_by_use Fetches writes reads is_use = subst (FateIsRight Fetches writes reads)
+      (sym (effect_fetches i.op is_use)) (λ counted reading le.
+      let last = last_write (memo_number i) ws in
+      let source = (at_drop reads vs last (sources ws is) reading).0 in
+      let f = fetched_right last
       (λ w g. (is_read_at reads vs w (source ∙ g), last_write_lt (memo_number i) ws w g))
       le (names_fetched i.op is_use) in
-      subst (λ e. RightFor e (fetched_fate numbers (get_or vs reads None))) q
-      (subst (λ a. RightFor (Moves move.Fetches) (fetched_fate numbers a)) (sym source)
-      (from_fetched (fetched_fate numbers (last_write (memo_number i) ws)) f.1 f.0 le))
-  fate_by_use Neither e writes reads is_use is_effect counted reading le =
-      passed_right e (subst Passes is_effect (neither i.op is_use)) le
+      rw source (from_fetched (fetched_fate numbers last) f.1 f.0 le))
+  fate_by_use Neither writes reads is_use =
+      λ counted reading le. passed_right (effect_of i.op) (neither vs ws i i.op is_use) le
 
   -- what becomes of the instruction is right
   pub fate_right : (writes reads : ℕ) → At vs limit ws (i ∷ is) writes reads
       → RightFor (effect_of i.op) (fate_by (memo_use i.op) vs numbers limit i.op writes reads)
-  fate_right writes reads h = fate_by_use (memo_use i.op)
-      (effect_of i.op) writes reads refl refl h.counted h.reading h.within
+  fate_right writes reads h =
+      fate_by_use (memo_use i.op) writes reads refl h.counted h.reading h.within
 
   -- and then the pass stands behind it
-  at_by_use : (u : MemoUse) (e : Effect) (writes reads : ℕ) → memo_use i.op ≡ u → effect_of i.op ≡ e
-      → writes ≡ length ws → drop reads vs ≡ read_by e (memo_number i) ws
+  abbrev IsBehind : MemoUse → ℕ → ℕ → Effect → Type 0
+  IsBehind u writes reads e = writes ≡ length ws → drop reads vs ≡ read_by e (memo_number i) ws
       ++ sources (wrote e (memo_number i) ws) is
       → (writes_after u writes ≡ length (wrote e (memo_number i) ws))
       × (drop (reads_after u reads) vs ≡ sources (wrote e (memo_number i) ws) is)
-  at_by_use Stores e writes reads is_use is_effect counted reading =
-      let q : e ≡ Moves move.Stores = sym is_effect ∙ effect_stores i.op is_use in (
-        omega (arith, counted, ap (λ e. length (wrote e (memo_number i) ws)) q),
-        reading
-            ∙ ap (λ e. read_by e (memo_number i) ws ++ sources (wrote e (memo_number i) ws) is) q
-            ∙ sym (ap (λ e. sources (wrote e (memo_number i) ws) is) q),
-      )
-  at_by_use StoresNext e writes reads is_use is_effect counted reading =
-      let q : e ≡ Moves move.StoresNext = sym is_effect ∙ effect_next i.op is_use in (
-        omega (arith, counted, ap (λ e. length (wrote e (memo_number i) ws)) q),
-        reading
-            ∙ ap (λ e. read_by e (memo_number i) ws ++ sources (wrote e (memo_number i) ws) is) q
-            ∙ sym (ap (λ e. sources (wrote e (memo_number i) ws) is) q),
-      )
-  at_by_use Fetches e writes reads is_use is_effect counted reading =
-      let q : e ≡ Moves move.Fetches = sym is_effect ∙ effect_fetches i.op is_use in
-      let next : reads + 1 ≡ suc reads = omega arith in (
-        counted ∙ sym (ap (λ e. length (wrote e (memo_number i) ws)) q),
-        ap (λ k. drop k vs) next
-            ∙ (at_drop reads vs (last_write (memo_number i) ws) (sources ws is)
-            (reading
-            ∙ ap (λ e. read_by e (memo_number i) ws ++ sources (wrote e (memo_number i) ws) is)
-            q)).1 ∙ sym (ap (λ e. sources (wrote e (memo_number i) ws) is) q),
-      )
-  at_by_use Neither e writes reads is_use is_effect counted reading =
-      let h = subst Passes is_effect (neither i.op is_use) in (
+
+  at_by_use : (u : MemoUse) (writes reads : ℕ) → memo_use i.op ≡ u
+      → IsBehind u writes reads (effect_of i.op)
+  at_by_use Stores writes reads is_use = subst (IsBehind Stores writes reads)
+      (sym (effect_stores i.op is_use)) (λ counted reading. (omega (arith, counted), reading))
+  at_by_use StoresNext writes reads is_use = subst (IsBehind StoresNext writes reads)
+      (sym (effect_next i.op is_use)) (λ counted reading. (omega (arith, counted), reading))
+  at_by_use Fetches writes reads is_use = subst (IsBehind Fetches writes reads)
+      (sym (effect_fetches i.op is_use)) (λ counted reading.
+      let next : reads + 1 ≡ suc reads = omega arith in
+      (counted, ap (λ k. drop k vs) next ∙ (at_drop reads vs _ (sources ws is) reading).1))
+  at_by_use Neither writes reads is_use = λ counted reading.
+      let h = neither vs ws i i.op is_use in (
         counted ∙ ap (λ (x : Writes). length x) (sym h.no_write),
-        reading
-            ∙ ap (λ (l : List (Option ℕ)). l ++ sources (wrote e (memo_number i) ws) is) h.no_read,
+        reading ∙ ap (λ (l : List (Option ℕ)). l ++ sources (after i ws) is) h.no_read,
       )
 
   pub at_next : (writes reads : ℕ) → At vs limit ws (i ∷ is) writes reads
@@ -294,16 +237,13 @@ module _ (vs : List (Option ℕ)) (limit : ℕ) (numbers : List (Option ℕ))
       → At vs limit (after i ws) is (writes_after (memo_use i.op) writes)
       (reads_after (memo_use i.op) reads)
   at_next writes reads h le =
-      let a = at_by_use (memo_use i.op) (effect_of i.op) writes reads refl refl h.counted
-      h.reading in
+      let a = at_by_use (memo_use i.op) writes reads refl h.counted h.reading in
       record { counted = a.0; reading = a.1; within = le }
 
   pub on_right : (e : Effect) (f : Fate) → f ≢ IsPast → RightFor e f
       → Written e f × (new_number vs (length (wrote e (memo_number i) ws)) ≤ limit)
   on_right e IsPast none h = absurd (none refl)
-  on_right e Goes none h = h
-  on_right e Stays none h = h
-  on_right e (Gets n) none h = h
+  on_right e f none h = h
 
   pub past_right : (e : Effect) (f : Fate) → f ≡ IsPast → RightFor e f → RightFor e IsPast
   past_right e f q h = subst (RightFor e) q h

@@ -4,10 +4,10 @@ use Rattle.std.proofs.Common.{length, drop, get_or, refl, sym, ap, ◌∙◌, ar
 use Rattle.pkops.specs.declared.Op.{Op}
 use Rattle.pkops.specs.declared.Op.TheVariants as op
 use Rattle.pkopt.specs.declared.fate.Fate.{Fate}
-use Rattle.pkopt.specs.declared.fate.Fate.TheVariants.{Goes, Stays, Gets, IsPast}
+use Rattle.pkopt.specs.declared.fate.Fate.TheVariants.{Goes, Stays}
 use Rattle.pkopt.specs.declared.fate.Plan.{Plan}
 use Rattle.pkopt.specs.declared.memo.MemoUse.{MemoUse}
-use Rattle.pkopt.specs.declared.memo.MemoUse.TheVariants.{Stores, StoresNext, Fetches, Neither}
+use Rattle.pkopt.specs.declared.memo.MemoUse.TheVariants.{Stores, Fetches}
 use Rattle.pkopt.specs.declared.place.Part.{Part}
 use Rattle.pkopt.specs.declared.place.Place.{Place}
 use Rattle.pkopt.specs.declared.slim.Pass.{Pass}
@@ -15,8 +15,8 @@ use Rattle.pkopt.specs.Private.Fates.{fate_by, fate_in, reads_after, writes_afte
 use Rattle.pkopt.specs.Private.Passes.{memo_use}
 use Rattle.pkopt.specs.Private.Places.{place_behind, places_behind, stays_as_is}
 use Rattle.pkopt.specs.Private.Produced.{emitted, fate_at, from_after, passed, produced}
-use Rattle.pkopt.specs.Slim.{is_frame}
-use Rattle.pkopt.proofs.MemoWrites.Parts.{places_next, places_past}
+use Rattle.pkopt.proofs.SlimForm.PlainInstructions.{uses_none}
+use Rattle.pkopt.proofs.MemoWrites.Parts.{places_next}
 
 same_pass : (s t : Pass) → s.writes ≡ t.writes → s.reads ≡ t.reads → s.from ≡ t.from → s ≡ t
 same_pass s t w r f =
@@ -51,7 +51,6 @@ stepped plan bytes taken x xs s new o whole same e =
 
 pub few_writes : (u : MemoUse) (n : ℕ) → writes_after u n ≤ n + 1
 few_writes Stores n = omega arith
-few_writes StoresNext n = omega arith
 few_writes u n = omega arith
 
 pub few_reads : (u : MemoUse) (n : ℕ) → reads_after u n ≤ n + 1
@@ -62,20 +61,7 @@ few_reads u n = omega arith
 pub from_least : (f : Fate) (x : Place) (from : ℕ) → from ≤ x.at
     → from_after f x from ≤ x.at + x.size
 from_least Stays x from le = omega (arith, le)
-from_least (Gets n) x from le = omega arith
-from_least Goes x from le = omega arith
-from_least IsPast x from le = omega arith
-
-uses_none : (o : Op) → stays_as_is o ≡ true → (memo_use o ≡ Neither) × (is_frame o ≡ false)
-uses_none op.Put e = cc
-uses_none op.BinPut e = cc
-uses_none op.LongBinPut e = cc
-uses_none op.Memoize e = cc
-uses_none op.Get e = cc
-uses_none op.BinGet e = cc
-uses_none op.LongBinGet e = cc
-uses_none op.Frame e = cc
-uses_none o e = (refl, refl)
+from_least f x from le = omega arith
 
 -- an instruction that never changes stays, and the pass is the same behind it
 plain_stays : (plan : Plan) (x : Place) (s : Pass) → stays_as_is x.op ≡ true
@@ -91,26 +77,19 @@ plain_stays plan x s e =
           (ap (λ u. reads_after u s.reads) none.0) (ap (λ f. from_after f x s.from) fate),
     )
 
--- what is produced from the next part on
-produced_by : (b : Bool) (plan : Plan) (bytes : List ℕ) (taken : ℕ) (parts : List Part)
-    (from k : ℕ) (d : Part) (x : Place) (size : ℕ) (s : Pass) → stays_as_is x.op ≡ b
-    → k < length parts → x ≡ place_behind from (get_or parts k d) → size ≡ x.size
-    → produced plan bytes taken (places_behind from (drop k parts)) s
-    ≡ emitted (fate_at plan x s) x bytes s.from
-    ++ produced plan bytes taken (places_behind (x.at + size) (drop (k + 1) parts))
-    (passed plan x s)
-produced_by true plan bytes taken parts from k d x size s e lt is same =
-    let later = places_behind (x.at + size) (drop (k + 1) parts) in
+-- an instruction that never changes produces nothing, and so its place may be left out
+produced_by : (b : Bool) (plan : Plan) (bytes : List ℕ) (taken : ℕ) (x : Place)
+    (later : List Place) (s : Pass) → stays_as_is x.op ≡ b
+    → produced plan bytes taken (cond b later (x ∷ later)) s
+    ≡ emitted (fate_at plan x s) x bytes s.from ++ produced plan bytes taken later (passed plan x s)
+produced_by true plan bytes taken x later s e =
     let stays = plain_stays plan x s e in
-    ap (λ (l : List Place). produced plan bytes taken l s)
-    (places_past parts from k d x size lt is same e)
-    ∙ sym (ap
+    sym (ap
     (λ f. emitted f x bytes s.from ++ produced plan bytes taken later (passed plan x s)) stays.0
     ∙ ap (λ (t : Pass). produced plan bytes taken later t) stays.1)
-produced_by false plan bytes taken parts from k d x size s e lt is same =
-    ap (λ (l : List Place). produced plan bytes taken l s)
-    (places_next parts from k d x size lt is same e)
+produced_by false plan bytes taken x later s e = refl
 
+-- what is produced from the next part on
 pub produced_next : (plan : Plan) (bytes : List ℕ) (taken : ℕ) (parts : List Part) (from k : ℕ)
     (d : Part) (x : Place) (size : ℕ) (s : Pass) → k < length parts
     → x ≡ place_behind from (get_or parts k d) → size ≡ x.size
@@ -119,4 +98,6 @@ pub produced_next : (plan : Plan) (bytes : List ℕ) (taken : ℕ) (parts : List
     ++ produced plan bytes taken (places_behind (x.at + size) (drop (k + 1) parts))
     (passed plan x s)
 produced_next plan bytes taken parts from k d x size s lt is same =
-    produced_by (stays_as_is x.op) plan bytes taken parts from k d x size s refl lt is same
+    ap (λ (l : List Place). produced plan bytes taken l s)
+    (places_next parts from k d x size lt is same)
+    ∙ produced_by (stays_as_is x.op) plan bytes taken x _ s refl

@@ -8,15 +8,14 @@ use Rattle.pkopt.specs.declared.fate.Fate.TheVariants.{Goes, Stays, Gets, IsPast
 use Rattle.pkopt.specs.declared.fate.Plan.{Plan}
 use Rattle.pkopt.specs.declared.place.Place.{Place}
 use Rattle.pkopt.specs.declared.slim.Pass.{Pass}
-use Rattle.pkopt.specs.Private.Fates.{Aims, IsPastAt, IsSlim}
+use Rattle.pkopt.proofs.SlimForm.Written.{Aims, IsPastAt, IsSlim, Slimmed, begun_at, slimmed_first}
+use Rattle.pkopt.proofs.SlimForm.Written.{slimmed_halted, slimmed_last, slimmed_next}
 use Rattle.pkopt.specs.Private.Produced.{at_start, between, emitted, fate_at, first_past}
 use Rattle.pkopt.specs.Private.Produced.{from_after, passed, past_by, produced, respelled}
 use Rattle.pkopt.specs.Slim.{renumbered}
 use Rattle.pkopt.proofs.SlimForm.Fates.{Emits}
 use Rattle.pkopt.proofs.SlimForm.Steps.{from_least}
 use Rattle.pkopt.proofs.SlimForm.Unchanged.{Slim, form_on, form_up_to, form_written}
-use Rattle.pkopt.proofs.SlimForm.Written.{Slimmed, begun_at, slimmed_first, slimmed_halted}
-use Rattle.pkopt.proofs.SlimForm.Written.{slimmed_last, slimmed_next}
 
 -- a pass, and what it has produced
 abbrev out_of : Pass → List ℕ → Slim
@@ -51,9 +50,7 @@ emits_by IsPast x bytes from o le = form_written bytes (behind IsPast x bytes fr
 past_none : (f : Fate) (at : ℕ) (later : Option ℕ) → past_by f at later ≡ None
     → (f ≢ IsPast) × (later ≡ None)
 past_none IsPast at later e = cc
-past_none Stays at later e = (λ q. cc, e)
-past_none (Gets n) at later e = (λ q. cc, e)
-past_none Goes at later e = (λ q. cc, e)
+past_none f at later e = (λ q. cc, e)
 
 module _ (bytes : List ℕ) (places : List Place) (taken : ℕ) (plan : Plan) (p : List Instruction)
     (aims : Aims bytes places taken plan p) where
@@ -92,9 +89,7 @@ module _ (bytes : List ℕ) (places : List Place) (taken : ℕ) (plan : Plan) (p
       → (f ≢ IsPast → later ≡ Some at → IsPastAt p plan.limit at) → IsPastAt p plan.limit at
   past_by_fate IsPast x later at e here on = let same : x.at ≡ at = cc in
       subst (IsPastAt p plan.limit) same (here refl)
-  past_by_fate Stays x later at e here on = on (λ q. cc) e
-  past_by_fate (Gets n) x later at e here on = on (λ q. cc) e
-  past_by_fate Goes x later at e here on = on (λ q. cc) e
+  past_by_fate f x later at e here on = on (λ q. cc) e
 
   past_behind : (ahead : List Place) (s : Pass) (o : List ℕ) (at : ℕ) → Stands ahead s o
       → first_past plan ahead s.writes s.reads ≡ Some at → IsPastAt p plan.limit at

@@ -1,10 +1,11 @@
 -- Each memo write of the optimized form is read.
-use Rattle.std.proofs.Common.{◌≡◌, ℕ, zero, suc, ◌<◌, ◌≤◌, Bool, true, false, cond, ◌||◌, List, []}
-use Rattle.std.proofs.Common.{◌∷◌, ◌++◌, length, Option, Some, None, ◌⊎◌, inl, inr, refl, sym, ap}
-use Rattle.std.proofs.Common.{subst, ◌∙◌, arith, append_assoc}
+use Rattle.std.proofs.Common.{◌≡◌, ℕ, zero, suc, ◌<◌, ◌≤◌, Bool, true, false, cond, List, [], ◌∷◌}
+use Rattle.std.proofs.Common.{◌++◌, length, Option, Some, None, ◌⊎◌, inl, inr, refl, sym, ap, subst}
+use Rattle.std.proofs.Common.{◌∙◌, arith}
 use Rattle.std.specs.Prelude.{nat_eq}
 use Rattle.std.proofs.lemmas.Bool.Decides.{eqb_tells}
-use Rattle.std.proofs.lemmas.Bool.{eqb-true, eq-eqb}
+use Rattle.std.proofs.lemmas.Bool.{cases_eq, eqb-true, eq-eqb, or_cases, or_left, or_right}
+use Rattle.std.proofs.Math.Bool.{or-false}
 use Rattle.pkops.specs.Operands.{memo_number}
 use Rattle.pkops.specs.Spelling.{Instruction}
 use Rattle.pkstack.specs.declared.Move.TheVariants.{Stores, StoresNext, Fetches}
@@ -13,11 +14,12 @@ use Rattle.pkopt.specs.Writers.{Writes, last_write, different, wrote, after, rea
 use Rattle.pkopt.specs.Writers.{is_this, is_read, new_number, after_all, more_if_none}
 use Rattle.pkopt.specs.Slim.{renumbered, is_frame, read_left, left_of, slim_from, slim}
 use Rattle.pkopt.specs.OneFrame.{is_proto, has_frame, frame_around, in_frame, optimized}
+use Rattle.pkopt.specs.Private.HeardParts.{after_all-append, sources-append}
 use Rattle.pkopt.specs.RunsAlike.{AllRead}
-use Rattle.pkopt.proofs.SlimForm.Fates.{last_write_lt}
-use Rattle.pkopt.proofs.SlimForm.NewForms.{NamesNumber, form_effect, renumbered_number}
-use Rattle.pkopt.proofs.MemoWrites.NewNumbers.{tells_eq, after_all_le, new_step, new_least}
-use Rattle.pkopt.proofs.BothRuns.SlimRuns.{AreSmall, AreTied, or_left, or_right, read_first}
+use Rattle.pkopt.proofs.SlimForm.NewForms.{NamesNumber, form_effect, last_write_lt}
+use Rattle.pkopt.proofs.SlimForm.NewForms.{renumbered_number}
+use Rattle.pkopt.proofs.MemoWrites.NewNumbers.{after_all_le, new_step, new_least}
+use Rattle.pkopt.proofs.BothRuns.SlimRuns.{AreSmall, AreTied, read_first, read_last}
 
 -- the writes of a slim form: the numbers 0, 1, 2, .. in order
 abbrev countdown : ℕ → Writes
@@ -52,43 +54,17 @@ all_different zero = refl
 all_different (suc k) = ap (λ o. more_if_none o (different (countdown k)))
     (not_there k k (omega arith)) ∙ ap suc (all_different k)
 
-pub sources-append : (ws : Writes) (is js : List Instruction)
-    → sources ws (is ++ js) ≡ sources ws is ++ sources (after_all is ws) js
-sources-append ws [] js = refl
-sources-append ws (i ∷ is) js = ap
-    (λ (l : List (Option ℕ)). read_by (effect_of i.op) (memo_number i) ws ++ l)
-    (sources-append (after i ws) is js)
-    ∙ sym (append_assoc (read_by (effect_of i.op) (memo_number i) ws) (sources (after i ws) is)
-    (sources (after_all is (after i ws)) js))
-
-pub after_all-append : (is js : List Instruction) (ws : Writes)
-    → after_all (is ++ js) ws ≡ after_all js (after_all is ws)
-after_all-append [] js ws = refl
-after_all-append (i ∷ is) js ws = after_all-append is js (after i ws)
-
-or_split : (b c : Bool) → b || c ≡ true → (b ≡ true) ⊎ (c ≡ true)
-or_split true c e = inl refl
-or_split false c e = inr e
-
 read_split : (w : ℕ) (us vs : List (Option ℕ)) → is_read w (us ++ vs) ≡ true
     → (is_read w us ≡ true) ⊎ (is_read w vs ≡ true)
 read_split w [] vs e = inr e
-read_split w (u ∷ us) vs e = elim (or_split (is_this w u) (is_read w (us ++ vs)) e) [
+read_split w (u ∷ us) vs e = elim (or_cases (is_this w u) (is_read w (us ++ vs)) e) [
   | inl h ↦ inl (or_left _ _ h)
   | inr h ↦ elim (read_split w us vs h) [ inl g ↦ inl (or_right _ _ g) | inr g ↦ inr g ]
 ]
 
-read_last : (w : ℕ) (us vs : List (Option ℕ)) → is_read w vs ≡ true → is_read w (us ++ vs) ≡ true
-read_last w [] vs e = e
-read_last w (u ∷ us) vs e = or_right _ _ (read_last w us vs e)
-
 this_is : (w : ℕ) (o : Option ℕ) → is_this w o ≡ true → o ≡ Some w
 this_is w None e = cc
 this_is w (Some v) e = ap (λ n. Some n) (sym (eqb-true w v e))
-
-or_false : (b : Bool) → b || false ≡ true → b ≡ true
-or_false true e = refl
-or_false false e = e
 
 module _ (vs : List (Option ℕ)) (total : ℕ) (small : AreSmall vs total) where
   module _ (ws : Writes) (i : Instruction) where
@@ -149,7 +125,7 @@ module _ (vs : List (Option ℕ)) (total : ℕ) (small : AreSmall vs total) wher
     reads_by (Moves Fetches) w q le r tied =
         let found : last_write (memo_number i) ws
         ≡ Some w = this_is w (last_write (memo_number i) ws)
-        (or_false (is_this w (last_write (memo_number i) ws)) r) in
+        (sym (or-false _) ∙ r) in
         let lt = last_write_lt (memo_number i) ws w found in
         let m = new_number vs w in
         let less = new_least vs w (length ws) lt tied in
@@ -224,7 +200,7 @@ numbered_at : (vs : List (Option ℕ)) (m k : ℕ) (b : Bool) → is_read m vs �
     → k < new_number vs (suc m) → (k < new_number vs m → Numbered vs m k) → Numbered vs (suc m) k
 numbered_at vs m k false r lt on = let step = new_step vs m false r in
     later vs m k (on (omega (arith, step, lt)))
-numbered_at vs m k true r lt on = elim (tells_eq k (new_number vs m)) [
+numbered_at vs m k true r lt on = elim (cases_eq k (new_number vs m)) [
   | inl q ↦ record { write = m; before = omega arith; read = r; number = sym q }
   | inr q ↦ let step = new_step vs m true r in later vs m k (on (omega (arith, step, lt, q)))
 ]

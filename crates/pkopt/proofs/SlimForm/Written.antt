@@ -10,19 +10,39 @@ use Rattle.pkopt.specs.declared.fate.Fate.{Fate}
 use Rattle.pkopt.specs.declared.fate.Fate.TheVariants.{IsPast}
 use Rattle.pkopt.specs.declared.fate.Plan.{Plan}
 use Rattle.pkopt.specs.declared.place.Place.{Place}
-use Rattle.pkopt.specs.Private.Fates.{fate_by, fate_in, reads_after, writes_after, Aims, IsPastAt}
-use Rattle.pkopt.specs.Private.Fates.{IsSlim}
+use Rattle.pkopt.specs.Private.Fates.{fate_by, fate_in, reads_after, writes_after, IsPlanFor}
+use Rattle.pkopt.specs.Limit.{IsPastLimit}
+use Rattle.pkopt.specs.Slim.{slim, left_of, slim_from}
 use Rattle.pkopt.specs.Private.Passes.{memo_use}
 use Rattle.pkopt.specs.Private.Places.{places_from}
-use Rattle.pkopt.specs.Slim.{left_of, slim_from}
 use Rattle.pkopt.specs.Writers.{Writes, after, sources, new_number, after_all}
-use Rattle.pkopt.specs.Private.HeardParts.{after_all-more}
+use Rattle.pkopt.specs.Private.HeardParts.{after_all-append}
 use Rattle.pkopt.proofs.SlimForm.Fates.{At, Emits, RightFor, fate_right, at_next, on_right}
 use Rattle.pkopt.proofs.SlimForm.Fates.{past_right}
-use Rattle.pkopt.proofs.SlimForm.WritesRead.{after_all-append}
 use Rattle.pkopt.proofs.SlimForm.Unchanged.{AllPlain, Next, Slim, after_plain, form_on, form_up_to}
 use Rattle.pkopt.proofs.SlimForm.Unchanged.{form_written, next_place, none_ahead, second}
 use Rattle.pkopt.proofs.SlimForm.Unchanged.{slim_plain, sources_plain, spellings-append}
+
+-- the output is the slim form
+pub record IsSlim (p : List Instruction) (limit : ℕ) (out : List ℕ) : Type 0 where
+  pub spelled : out ≡ spellings (slim p)
+  pub fits : new_number (sources [] p) (length (after_all p [])) ≤ limit
+
+-- the input of the second pass: bytes that begin with the pickle, the places of its instructions
+-- that may change, its length in bytes, and a plan
+pub record Aims (bytes : List ℕ) (places : List Place) (taken : ℕ) (plan : Plan)
+    (p : List Instruction) : Type 0 where
+  pub rest : List ℕ
+  pub spelled : bytes ≡ spellings p ++ rest
+  pub places_so : places ≡ places_from 0 p
+  pub taken_so : taken ≡ length (spellings p)
+  pub planned : IsPlanFor p plan
+
+-- the write at this offset is read, and its number would be the limit
+pub record IsPastAt (p : List Instruction) (limit at : ℕ) : Type 0 where
+  pub before : List Instruction
+  pub past : IsPastLimit limit p before
+  pub place : at ≡ length (spellings before)
 
 slim_from-append : (vs : List (Option ℕ)) (ws : Writes) (is js : List Instruction)
     → slim_from vs ws (is ++ js) ≡ slim_from vs ws is ++ slim_from vs (after_all is ws) js
@@ -107,12 +127,11 @@ module _ (bytes : List ℕ) (places : List Place) (taken : ℕ) (plan : Plan) (p
       record {
         parts = h.parts ∙ sym (append_assoc before q js);
         here = omega (arith, here, e, l);
-        place = subst (λ (x : Writes). At vs plan.limit x js writes reads) (sym same)
-            (record {
-              counted = h.place.counted;
-              reading = h.place.reading ∙ sources_plain q js ws plain;
-              within = h.place.within;
-            });
+        place = rw same (record {
+          counted = h.place.counted;
+          reading = h.place.reading ∙ sources_plain q js ws plain;
+          within = h.place.within;
+        });
         spelled = grown form (spellings q) (slim_from vs [] before) q h.spelled refl
             ∙ ap (λ l. spellings l)
             (sym (slim_from-append vs [] before q ∙ ap
@@ -143,12 +162,8 @@ module _ (bytes : List ℕ) (places : List Place) (taken : ℕ) (plan : Plan) (p
       → Stood (before ++ q) js (at + length (spellings q)) out.writes out.reads
       (form_up_to (at + length (spellings q)) bytes out)
   form_plain before q js out at plain le h =
-      subst
-      (λ (l : List ℕ). Stood (before ++ q) js (at + length (spellings q)) out.writes out.reads
-      l)
-      (sym (form_on bytes out at (length (spellings q)) le
-      ∙ ap (λ (l : List ℕ). form_up_to at bytes out ++ l)
-      (middle before q js at h.here h.parts)))
+      rw (form_on bytes out at (length (spellings q)) le
+      ∙ ap (λ (l : List ℕ). form_up_to at bytes out ++ l) (middle before q js at h.here h.parts))
       (stood_plain before q js at out.writes out.reads (form_up_to at bytes out) plain h)
 
   module _ (place : Place) (later : List Place) (out : Slim) (h : Slimmed (place ∷ later) out) where
@@ -179,9 +194,7 @@ module _ (bytes : List ℕ) (places : List Place) (taken : ℕ) (plan : Plan) (p
         (λ n. Stood done (i ∷ next.others) n out.writes out.reads (form_up_to n bytes out))
         (sym stands_at)
         (form_plain h.before next.plain (i ∷ next.others) out h.at next.all_plain h.begun
-        (subst
-        (λ (l : List Instruction). Stood h.before l h.at out.writes out.reads
-        (form_up_to h.at bytes out)) next.parts h.stood))
+        (rw next.parts at h.stood))
 
     -- it begins behind what is copied, and within the bytes
     pub begun_at : out.from ≤ place.at
@@ -238,14 +251,10 @@ module _ (bytes : List ℕ) (places : List Place) (taken : ℕ) (plan : Plan) (p
         next.others (effect_of i.op) fate goes right in
         let spelled = take place.size (drop place.at bytes) in
         let form = form_up_to (place.at + place.size) bytes new in
-        let emitted = subst
-        (λ o. Emits (fate_in plan o out.writes out.reads) o spelled
-        (form_up_to place.at bytes out) form) same adds.form_now in
-        let more : after_all (done ++ i ∷ []) [] ≡ after i ws = after_all-more done i [] in
-        let counts = subst (λ o. new.writes ≡ writes_after (memo_use o) out.writes) same
-        adds.writes_now in
-        let reads = subst (λ o. new.reads ≡ reads_after (memo_use o) out.reads) same
-        adds.reads_now in
+        let emitted = rw same at adds.form_now in
+        let more : after_all (done ++ i ∷ []) [] ≡ after i ws = after_all-append done (i ∷ []) [] in
+        let counts = rw same at adds.writes_now in
+        let reads = rw same at adds.reads_now in
         let one = append-nil (spelling i) in
         let e = ap (λ (l : List ℕ). length l) (spellings-append done (i ∷ [])) in
         let l = length-append (spellings done) (spelling i ++ []) in
@@ -259,16 +268,9 @@ module _ (bytes : List ℕ) (places : List Place) (taken : ℕ) (plan : Plan) (p
           stood = record {
             parts = there.parts ∙ sym (append_assoc done (i ∷ []) next.others);
             here = omega (arith, here, e, l, k, size);
-            place = subst
-                (λ (x : Writes). At vs plan.limit x next.others new.writes new.reads)
-                (sym more)
-                (subst (λ n. At vs plan.limit (after i ws) next.others n new.reads)
-                (sym counts)
-                (subst
-                (λ n. At vs plan.limit (after i ws) next.others
-                (writes_after (memo_use i.op) out.writes) n) (sym reads)
+            place = rw (more, counts, reads)
                 (at_next vs plan.limit plan.numbers.items aims.planned.numbers ws i next.others
-                out.writes out.reads there.place written.1)));
+                out.writes out.reads there.place written.1);
             spelled = written.0 (form_up_to place.at bytes out) form spelled spelled_at emitted
                 ∙ grown (form_up_to place.at bytes out)
                 (spellings (left_of vs ws (effect_of i.op) i)) (slim_from vs [] done)
@@ -301,13 +303,10 @@ module _ (bytes : List ℕ) (places : List Place) (taken : ℕ) (plan : Plan) (p
     pub slimmed_last : (new : List ℕ) → new ≡ form_up_to taken bytes out → IsSlim p plan.limit new
     slimmed_last new written =
         let s = form_plain h.before h.left [] out h.at all_plain h.begun
-        (subst
-        (λ (l : List Instruction). Stood h.before l h.at out.writes out.reads
-        (form_up_to h.at bytes out)) (sym (append-nil h.left)) h.stood) in
+        (rw (append-nil h.left) h.stood) in
         let all : h.before ++ h.left ≡ p = sym h.stood.parts in
         record {
           spelled = written ∙ ap (λ n. form_up_to n bytes out) taken_at ∙ s.spelled
               ∙ ap (λ q. spellings (slim_from vs [] q)) all;
-          fits = subst (λ (x : Writes). new_number vs (length x) ≤ plan.limit)
-              (ap (λ q. after_all q []) all) s.place.within;
+          fits = rw (ap (λ q. after_all q []) all) at s.place.within;
         }

@@ -1,20 +1,16 @@
 -- What happens to each instruction in the slim form, as the second pass decides it.
-use Rattle.std.specs.Prelude.{◌≡◌, ℕ, ◌+◌, ◌≤◌, cond, nat_eq, List, [], ◌++◌, length}
-use Rattle.std.specs.Prelude.{Option, None, Some, slice_index_or}
+use Rattle.std.specs.Prelude.{◌≡◌, ℕ, ◌+◌, cond, nat_eq, List, [], Option, None, Some}
+use Rattle.std.specs.Prelude.{slice_index_or}
 use Rattle.pkops.specs.declared.Op.{Op}
 use Rattle.pkops.specs.Spelling.{Instruction}
-use Rattle.pkread.specs.Sequence.{spellings}
 use Rattle.pkopt.specs.declared.fate.Fate.{Fate}
 use Rattle.pkopt.specs.declared.fate.Fate.TheVariants.{Goes, Stays, Gets, IsPast}
 use Rattle.pkopt.specs.declared.fate.Plan.{Plan}
 use Rattle.pkopt.specs.declared.memo.MemoUse.{MemoUse}
-use Rattle.pkopt.specs.declared.place.Place.{Place}
 use Rattle.pkopt.specs.declared.memo.MemoUse.TheVariants.{Stores, StoresNext, Fetches, Neither}
-use Rattle.pkopt.specs.Limit.{IsPastLimit}
 use Rattle.pkopt.specs.Private.Passes.{AreNumbers, memo_use}
-use Rattle.pkopt.specs.Private.Places.{places_from}
-use Rattle.pkopt.specs.Slim.{is_frame, slim}
-use Rattle.pkopt.specs.Writers.{sources, new_number, after_all}
+use Rattle.pkopt.specs.Slim.{is_frame}
+use Rattle.pkopt.specs.Writers.{sources}
 
 -- the fate of a write under a number that the instruction names
 abbrev pub stored_fate : ℕ → Option ℕ → Fate
@@ -69,24 +65,3 @@ reads_after _ reads = reads
 pub record IsPlanFor (p : List Instruction) (plan : Plan) : Type 0 where
   pub reads : plan.sources.items ≡ sources [] p
   pub numbers : AreNumbers (sources [] p) plan.limit plan.numbers.items
-
--- the output is the slim form
-pub record IsSlim (p : List Instruction) (limit : ℕ) (out : List ℕ) : Type 0 where
-  pub spelled : out ≡ spellings (slim p)
-  pub fits : new_number (sources [] p) (length (after_all p [])) ≤ limit
-
--- the input of the second pass: bytes that begin with the pickle, the places of its instructions
--- that may change, its length in bytes, and a plan
-pub record Aims (bytes : List ℕ) (places : List Place) (taken : ℕ) (plan : Plan)
-    (p : List Instruction) : Type 0 where
-  pub rest : List ℕ
-  pub spelled : bytes ≡ spellings p ++ rest
-  pub places_so : places ≡ places_from 0 p
-  pub taken_so : taken ≡ length (spellings p)
-  pub planned : IsPlanFor p plan
-
--- the write at this offset is read, and its number would be the limit
-pub record IsPastAt (p : List Instruction) (limit at : ℕ) : Type 0 where
-  pub before : List Instruction
-  pub past : IsPastLimit limit p before
-  pub place : at ≡ length (spellings before)

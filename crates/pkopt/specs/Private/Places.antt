@@ -1,5 +1,5 @@
 -- The offsets of the instructions in a pickle that may change.
-use Rattle.std.specs.Prelude.{ℕ, ◌+◌, Bool, true, false, cond, List, [], ◌∷◌, length}
+use Rattle.std.specs.Prelude.{ℕ, ◌+◌, Bool, true, false, cond, List, [], ◌∷◌, length, map}
 use Rattle.std.specs.List.{list_any}
 use Rattle.pkops.specs.declared.Op.{Op}
 use Rattle.pkops.specs.declared.Op.TheVariants as op
@@ -29,24 +29,23 @@ place at size op = record { at = at; size = size; op = op }
 abbrev pub place_of : ℕ → Instruction → Place
 place_of at i = place at (length (spelling i)) i.op
 
+-- these places behind this one, which is left out if its instruction never changes
+abbrev pub with_place : Place → List Place → List Place
+with_place x later = cond (stays_as_is x.op) later (x ∷ later)
+
 -- the places of the instructions that may change, if the first instruction is at this offset
 abbrev pub places_from : ℕ → List Instruction → List Place
 places_from at [] = []
-places_from at (i ∷ is) =
-    cond (stays_as_is i.op) (places_from (at + length (spelling i)) is)
-    (place_of at i ∷ places_from (at + length (spelling i)) is)
+places_from at (i ∷ is) = with_place (place_of at i) (places_from (at + length (spelling i)) is)
 
 -- the instructions that were heard
 abbrev pub told : List Heard → List Instruction
-told [] = []
-told (h ∷ hs) = h.instruction ∷ told hs
+told hs = map (λ h. h.instruction) hs
 
 -- the places of the heard instructions that may change
 abbrev pub places_told : List Heard → List Place
 places_told [] = []
-places_told (h ∷ hs) =
-    cond (stays_as_is h.instruction.op) (places_told hs)
-    (place_of h.at h.instruction ∷ places_told hs)
+places_told (h ∷ hs) = with_place (place_of h.at h.instruction) (places_told hs)
 
 -- the offset behind a part that begins at this offset
 abbrev pub end_of : ℕ → Part → ℕ
@@ -65,8 +64,7 @@ end_behind from (part ∷ parts) = end_behind (end_of from part) parts
 abbrev pub places_behind : ℕ → List Part → List Place
 places_behind from [] = []
 places_behind from (part ∷ parts) =
-    cond (stays_as_is part.op) (places_behind (end_of from part) parts)
-    (place_behind from part ∷ places_behind (end_of from part) parts)
+    with_place (place_behind from part) (places_behind (end_of from part) parts)
 
 -- one of the parts has a FRAME
 abbrev pub has_frames : List Part → Bool

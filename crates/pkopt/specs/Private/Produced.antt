@@ -1,6 +1,6 @@
 -- The bytes that the second pass produces.
-use Rattle.std.specs.Prelude.{ℕ, ◌+◌, ◌-◌, cond, List, [], ◌∷◌, ◌++◌, take, drop}
-use Rattle.std.specs.Prelude.{Option, None, Some}
+use Rattle.std.specs.Prelude.{ℕ, ◌+◌, ◌-◌, cond, List, [], ◌∷◌, ◌++◌, take, drop, Option, None}
+use Rattle.std.specs.Prelude.{Some}
 use Rattle.pkops.specs.declared.Op.{Op}
 use Rattle.pkops.specs.Operands.{names_memo_entry}
 use Rattle.pkops.specs.Spelling.{Nothing, instruction, spelling}

@@ -28,14 +28,9 @@ loop-write-preserved c =
     record {
       count = length-set c.loop-write.numbers.items k c.in_ok-numbers-2.field-0 ∙ count;
       within = let next = c.number_after-next.ensures in omega (arith, next);
-      each = λ vs kept. subst
-          (λ (x : Option ℕ). NumbersTo vs (k + 1) c.args.limit c.number_after-next.result
-          (set c.loop-write.numbers.items k x)) (sym number)
-          (number_on vs k (k + 1) c.args.limit c.loop-write.next c.loop-write.numbers.items
-          (omega arith) (i.each vs kept) c.number_after-next.result
-          (omega (arith, inside, count))
-          (sym (kept.each k) ∙ stays)
-          c.number_after-next.ensures);
+      each = λ vs kept. rw number (number_on vs k (k + 1) c.args.limit c.loop-write.next
+          c.loop-write.numbers.items (omega arith) (i.each vs kept) c.number_after-next.result
+          (omega (arith, inside, count)) (sym (kept.each k) ∙ stays) c.number_after-next.ensures);
     }
 
 pub loop-write-preserved-then-not-kept-write : goal.loop-write-preserved-then-not-kept-write

@@ -1,5 +1,6 @@
 -- A plan for the pickle gives its optimized form, unless a write that stays is past the limit.
-use Rattle.std.proofs.Common.{◌≡◌, Some, None, List, inl, inr, sym, ap, subst, ◌∙◌}
+use Rattle.std.proofs.Common.{◌≡◌, refl, None, List, inl, inr, sym, ap, subst, ◌∙◌}
+use Rattle.pkops.specs.declared.Reason.TheVariants.{TooLarge}
 use Rattle.pkopt.specs.Answer.{Optimizes, pickle}
 use Rattle.pkopt.specs.declared.place.Part.{Part}
 use Rattle.pkopt.specs.Private.Places.{places_behind}
@@ -14,10 +15,9 @@ returns-in-Some-clause-err c =
     let plan = c.in-Ok.plan in
     let planned = c.in-Ok.ensures.plan (pickle t.checks) t.tracks.reads in
     let past = ap (λ (l : List Part). first_past plan (places_behind 0 l) 0 0)
-    (sym c.deref.ensures.value) ∙ c.in-Some.ensures.some
-    ∙ ap (λ n. Some n) (sym c.too_large.ensures.at) in
+    (sym c.deref.ensures.value) ∙ c.in-Some.ensures.some in
     past_refused c.args.limits.now c.args.bytes.now x plan t planned c.in-Ok.ensures.limit
-    c.too_large.result past c.too_large.ensures.reason
+    (record { at = c.in-Some.at; reason = TooLarge }) past refl
 
 pub returns-clause-ok : goal.returns-clause-ok
 returns-clause-ok c =

@@ -15,9 +15,8 @@ returns-then-number-lt10 g c = on_ok _ _ c.take.result c.take.ensures (λ h.
     let n = c.args.number in
     let text : c.digit.result ∷ [] ≡ decimal n = ap (λ (d : ℕ). d ∷ []) c.digit.ensures
     ∙ sym (decimal_digit n c.if-number-lt10.true) in
-    subst (λ (l : List ℕ). g.S.Sink.takes c.args.sink.now c.take.new.self l)
-    (ap (λ (d : ℕ). line d (c.digit.result ∷ [])) c.code.ensures
-    ∙ ap (λ (l : List ℕ). line (code_of c.args.op) l) text) h)
+    rw (ap (λ (d : ℕ). line d (c.digit.result ∷ [])) c.code.ensures
+    ∙ ap (λ (l : List ℕ). line (code_of c.args.op) l) text) at h)
 
 pub returns-then-number-lt100 : goal.returns-then-number-lt100
 returns-then-number-lt100 g c =
@@ -33,6 +32,5 @@ returns-then-number-lt100 g c =
     ∙ sym (decimal_step n low (omega (arith, high))
     ∙ ap (λ (l : List ℕ). l ++ (48 + n % 10) ∷ [])
     (decimal_digit (n / 10) (omega (arith, high)))) in
-    subst (λ (l : List ℕ). g.S.Sink.takes c.args.sink.now c.take-then-number-lt100.new.self l)
-    (ap (λ (d : ℕ). line d (first ∷ second ∷ [])) c.code-then-number-lt100.ensures
-    ∙ ap (λ (l : List ℕ). line (code_of c.args.op) l) text) h)
+    rw (ap (λ (d : ℕ). line d (first ∷ second ∷ [])) c.code-then-number-lt100.ensures
+    ∙ ap (λ (l : List ℕ). line (code_of c.args.op) l) text) at h)

@@ -11,8 +11,5 @@ returns g c = on_ok _ _ c.take-3.result c.take-3.ensures (λ h.
     let both = g.met.S.Sink.takes_more _ _ _ text line_end c.in_ok-take-2.ensures h in
     let all = g.met.S.Sink.takes_more _ _ _ (c.code.result ∷ [])
     (text ++ line_end) c.in_ok-take.ensures both in
-    subst
-    (λ (l : List ℕ). g.S.Sink.takes c.args.sink.now c.take-3.new.self
-    (code_of c.args.op ∷ (l ++ line_end))) (c.as_bytes.ensures.value ∙ c.format.ensures.text)
-    (subst (λ n. g.S.Sink.takes c.args.sink.now c.take-3.new.self (n ∷ (text ++ line_end)))
-    c.code.ensures all))
+    rw (c.as_bytes.ensures.value ∙ c.format.ensures.text) at
+    (rw c.code.ensures at all))

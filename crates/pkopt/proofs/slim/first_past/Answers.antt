@@ -7,9 +7,7 @@ use Rattle.pkopt.proofs.slim.first_past.Goals as goal
 
 pub place_behind-place-requires : goal.place_behind-place-requires
 place_behind-place-requires c =
-    subst (λ (x : Part). end_of c.loop-part.end x < 2 ^ 64)
-    (sym c.part-item.is)
-    (ends_short (2 ^ 64) c.args.parts.now c.loop-part.end c.loop-part.part-index
+    rw c.part-item.is (ends_short (2 ^ 64) c.args.parts.now c.loop-part.end c.loop-part.part-index
     c.part-item.result c.loop-part-test.true c.loop-part.invariant.short)
 
 pub overflow_add-end : goal.overflow_add-end
@@ -17,7 +15,7 @@ overflow_add-end c =
     let is = c.place_behind-place.ensures
     ∙ ap (place_behind c.loop-part.end) c.part-item.is in
     let short =
-    (short_behind (2 ^ 64) c.args.parts.now c.loop-part.end c.loop-part.part-index
+    (short_behind c.args.parts.now c.loop-part.end c.loop-part.part-index
     c.part-item.result c.place_behind-place.result c.from.result c.loop-part-test.true is
-    c.from.ensures c.loop-part.invariant.short).0 in
+    c.from.ensures (2 ^ 64) c.loop-part.invariant.short).0 in
     omega (arith, short)

@@ -24,20 +24,20 @@ overflow_add-end g c =
     let is = c.place_behind-place.ensures
     ∙ ap (place_behind c.loop-part.end) c.part-item.is in
     let short =
-    (short_behind (c.args.taken + 1) c.args.parts.now c.loop-part.end c.loop-part.part-index
+    (short_behind c.args.parts.now c.loop-part.end c.loop-part.part-index
     c.part-item.result c.place_behind-place.result c.from.result c.loop-part-test.true is
-    c.from.ensures c.loop-part.invariant.short).0 in
+    c.from.ensures (c.args.taken + 1) c.loop-part.invariant.short).0 in
     let fits = c.ranges.taken.fits in
     omega (arith, short, fits)
 
-pub give_by_opcode-requires-clause-high : goal.give_by_opcode-requires-clause-high
-give_by_opcode-requires-clause-high g c =
+pub give-requires-clause-high : goal.give-requires-clause-high
+give-requires-clause-high g c =
     let is = c.place_behind-place.ensures
     ∙ ap (place_behind c.loop-part.end) c.part-item.is in
     let short =
-    (short_behind (c.args.taken + 1) c.args.parts.now c.loop-part.end c.loop-part.part-index
+    (short_behind c.args.parts.now c.loop-part.end c.loop-part.part-index
     c.part-item.result c.place_behind-place.result c.from.result c.loop-part-test.true is
-    c.from.ensures c.loop-part.invariant.short).0 in
+    c.from.ensures (c.args.taken + 1) c.loop-part.invariant.short).0 in
     let there = c.requires.there in
     let size = c.from.ensures in
     omega (arith, short, there, size)
@@ -61,7 +61,7 @@ loop-part-preserved g c =
     let at = ap (λ (y : Place). y.at) c.place_behind-place.ensures in
     let fate = fate_at c.args.plan.now x pass in
     let least = from_least fate x pass.from (omega (arith, before, at)) in
-    let new = c.in_ok-give_by_opcode.ensures.pass in
+    let new = c.in_ok-give.ensures.pass in
     let now = ap (λ (p : Pass). p.from) new in
     let more_writes = few_writes (memo_use x.op) pass.writes in
     let more_reads = few_reads (memo_use x.op) pass.reads in
@@ -72,14 +72,14 @@ loop-part-preserved g c =
       few_writes = omega (arith, writes, more_writes, new_writes);
       few_reads = omega (arith, reads, more_reads, new_reads);
       short =
-          (short_behind (c.args.taken + 1) c.args.parts.now c.loop-part.end c.loop-part.part-index
+          (short_behind c.args.parts.now c.loop-part.end c.loop-part.part-index
           c.part-item.result x c.from.result c.loop-part-test.true is c.from.ensures
-          c.loop-part.invariant.short).1;
+          (c.args.taken + 1) c.loop-part.invariant.short).1;
       behind = omega (arith, least, now, size);
       so_far = (
         so_far.0 ++ piece,
-        g.met.S.Sink.takes_more _ _ _ so_far.0 piece so_far.1 c.in_ok-give_by_opcode.ensures.form,
-        stepped c.args.plan.now c.args.bytes.now c.args.taken x later pass c.give_by_opcode.new.self
+        g.met.S.Sink.takes_more _ _ _ so_far.0 piece so_far.1 c.in_ok-give.ensures.form,
+        stepped c.args.plan.now c.args.bytes.now c.args.taken x later pass c.give.new.self
             so_far.0 _ new (ap (λ (l : List ℕ). so_far.0 ++ l) (sym next) ∙ so_far.2),
       );
     }

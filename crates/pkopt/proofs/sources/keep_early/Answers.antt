@@ -25,6 +25,5 @@ loop-write-preserved c = let there = c.loop-write.invariant.there in record {
 pub returns : goal.returns
 returns c = keeps_longer c.args.kept.now.items c.reach.new.kept.items c.loop-write.kept.items
     (in_bytes c.args.early.now) c.in_ok-reach.ensures.same
-    (subst (λ (l : List ℕ). KeepsMore c.reach.new.kept.items c.loop-write.kept.items (in_bytes l))
-    (take_all c.loop-write.write-index c.args.early.now c.loop-write-test.false)
+    (rw (take_all c.loop-write.write-index c.args.early.now c.loop-write-test.false) at
     c.loop-write.invariant.marked)

@@ -32,7 +32,5 @@ loop-source-preserved c =
     ]
 
 pub returns : goal.returns
-returns c = subst (λ (l : List (Option ℕ)). KeepsMore c.args.kept.now.items
-    c.loop-source.kept.items l)
-    (take_all c.loop-source.source-index c.args.late.now c.loop-source-test.false)
+returns c = rw (take_all c.loop-source.source-index c.args.late.now c.loop-source-test.false) at
     c.loop-source.invariant.marked

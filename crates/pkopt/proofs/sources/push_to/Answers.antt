@@ -1,6 +1,5 @@
 -- While no source is late, one that fits into a byte goes behind the early ones.
-use Rattle.std.proofs.Common.{◌≡◌, ap, ◌∙◌, ◌++◌, List, ℕ, length}
-use Rattle.std.proofs.Common.{rules}
+use Rattle.std.proofs.Common.{◌≡◌, ap, ◌∙◌, ◌++◌, List, ℕ, length, rules}
 use Rattle.std.proofs.lemmas.List.{nil_from_length}
 use Rattle.pkopt.specs.Private.Sourced.{in_bytes}
 use Rattle.pkopt.proofs.MemoWrites.EarlyReads.{early_more}

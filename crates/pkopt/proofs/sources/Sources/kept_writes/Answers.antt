@@ -12,8 +12,5 @@ returns c =
     let all = c.keep_late.new.kept.items in
     subst (λ (s : Sourced). AreKept s.items all) c.self.view_is
     (keeps_all none some all c.self.inside.early.items c.self.inside.late.items
-    c.new-kept.ensures.items
-    (subst (λ (l : List ℕ). KeepsMore none some (in_bytes l)) c.deref.ensures.value
-    c.in_ok-keep_early.ensures)
-    (subst (λ (l : List (Option ℕ)). KeepsMore some all l) c.deref-2.ensures.value
-    c.in_ok-keep_late.ensures))
+    c.new-kept.ensures.items (rw c.deref.ensures.value at c.in_ok-keep_early.ensures)
+    (rw c.deref-2.ensures.value at c.in_ok-keep_late.ensures))

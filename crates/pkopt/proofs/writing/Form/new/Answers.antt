@@ -14,10 +14,8 @@ invariant_of-result c =
     let plan = c.args.plan in
     let bytes = c.args.bytes.now in
     let taken = c.args.taken in
-    let slim = subst (λ (l : List Part). Measures m (slim_bytes plan bytes taken l))
-    c.deref-2.ensures.value c.in_ok-measure.ensures in
-    let made = subst (λ (l : List Part). IfSome c.in_ok-made.made (λ v. v
-    ≡ slim_bytes plan bytes taken l)) c.deref.ensures.value c.in_ok-made.ensures in
+    let slim = rw c.deref-2.ensures.value at c.in_ok-measure.ensures in
+    let made = rw c.deref.ensures.value at c.in_ok-made.ensures in
     let front = c.in_ok-front.front in
     let fits = c.in_ok-front.ensures.fits in
     let count = slim.count in
@@ -36,8 +34,7 @@ invariant_of-result c =
 pub returns-clause-bytes : goal.returns-clause-bytes
 returns-clause-bytes c =
     let m = c.in_ok-measure.measure in
-    let slim = subst (λ (l : List Part). Measures m (slim_bytes c.args.plan c.args.bytes.now
-    c.args.taken l)) c.deref-2.ensures.value c.in_ok-measure.ensures in
+    let slim = rw c.deref-2.ensures.value at c.in_ok-measure.ensures in
     let framed = c.requires.framed in
     fronted _ m _ _ _ slim
     (c.in_ok-front.ensures.bytes ∙ ap (λ b. cond b (front_from m) []) framed)
@@ -46,8 +43,7 @@ returns-clause-bytes c =
 pub returns-clause-short : goal.returns-clause-short
 returns-clause-short c =
     let m = c.in_ok-measure.measure in
-    let slim = subst (λ (l : List Part). Measures m (slim_bytes c.args.plan c.args.bytes.now
-    c.args.taken l)) c.deref-2.ensures.value c.in_ok-measure.ensures in
+    let slim = rw c.deref-2.ensures.value at c.in_ok-measure.ensures in
     let count = slim.count in
     let small = c.in_ok-front.ensures.small in
     omega (arith, count, small)
