@@ -4,7 +4,7 @@ use Rattle.std.proofs.Common.{drop, get_or, refl, sym, ap, ◌∙◌, Ok, Err, d
 use Rattle.std.proofs.Common.{length-drop, append_assoc, Result}
 use Rattle.std.proofs.Math.ListN.{set}
 use Rattle.std.proofs.Math.Seq.{take-suc, take-length}
-use Rattle.std.proofs.lemmas.List.{map-append}
+use Rattle.std.proofs.lemmas.List.{map-append, take_more}
 use Rattle.pkstack.specs.Shape.{Breach, Entry, Shape, NoMark, NoItem, Taken, and_then, items, slice}
 use Rattle.pkstack.specs.Shape.{top, popped}
 use Rattle.pkjson.specs.declared.objects.Object.{Object}
@@ -13,7 +13,6 @@ use Rattle.pkjson.specs.declared.slots.Slot.TheVariants as slot
 use Rattle.pkjson.specs.Private.Arena.{update, more_given}
 use Rattle.pkjson.specs.Private.Seen.{kept_of, kept_all, seen_entry, seen_entries, numbers_of}
 use Rattle.pkjson.specs.Private.Seen.{taken_at}
-use Rattle.pkjson.proofs.Parts.NodesHeld.{take_more}
 
 pub shown_append : (xs ys : List Slot) (below : List (Entry ℕ))
     → seen_entries (xs ++ ys) below ≡ seen_entries ys (seen_entries xs below)

@@ -1,7 +1,7 @@
 -- Integers that 64 bits hold.
-use Rattle.std.proofs.Common.{◌≡◌, ◌≢◌, ℕ, zero, suc, ◌+◌, ◌-◌, ◌*◌, ◌^◌, ◌<◌, ◌≤◌, Bool}
-use Rattle.std.proofs.Common.{true, false, cond, List, [], ◌∷◌, length, drop, get_or, refl, sym, ap}
-use Rattle.std.proofs.Common.{◌∙◌, subst, arith, drop-cons}
+use Rattle.std.proofs.Common.{◌≡◌, ◌≢◌, ℕ, zero, suc, ◌+◌, ◌-◌, ◌*◌, ◌^◌, ◌<◌, ◌≤◌, Bool, true}
+use Rattle.std.proofs.Common.{false, cond, List, [], ◌∷◌, length, drop, get_or, refl, sym, ap, ◌∙◌}
+use Rattle.std.proofs.Common.{subst, arith, drop-cons}
 use Rattle.std.specs.Prelude.{nat_eq, nat_le}
 use Rattle.std.proofs.lemmas.Bool.{ne_eqb}
 use Rattle.pkjson.specs.Integers.{decimal_after, natural, has_sign}
@@ -33,16 +33,14 @@ has_sign_last [] h = absurd (omega arith)
 has_sign_last (b ∷ []) h = refl
 has_sign_last (b ∷ c ∷ bs) h = let e : length (b ∷ c ∷ bs) - 1
     ≡ suc (length (c ∷ bs) - 1) = omega arith in
-    subst (λ k. has_sign (c ∷ bs) ≡ nat_le 128 (get_or (b ∷ c ∷ bs) k 0)) (sym e)
-    (has_sign_last (c ∷ bs) (omega arith))
+    rw e (has_sign_last (c ∷ bs) (omega arith))
 
 natural_least : (flip : Bool) (b : ℕ) (bs : List ℕ) → natural flip bs * 256 ≤ natural flip (b ∷ bs)
 natural_least flip b bs = omega arith
 
 pub natural_part : (flip : Bool) (bs : List ℕ) (k : ℕ) → 0 < k → k ≤ length bs
     → natural flip (drop k bs) * 256 ≤ natural flip bs
-natural_part flip bs zero l h = absurd (omega arith)
-natural_part flip [] (suc k) l h = absurd (omega arith)
 natural_part flip (b ∷ bs) (suc zero) l h = natural_least flip b bs
 natural_part flip (b ∷ bs) (suc (suc k)) l h = omega
     (arith, natural_part flip bs (suc k) (omega arith) (omega (arith, h)), natural_least flip b bs)
+natural_part flip bs k l h = absurd (omega arith)

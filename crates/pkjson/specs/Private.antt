@@ -4,7 +4,6 @@ pub mod Arena
 pub mod PlainActions
 pub mod Mirrors
 pub mod Fronts
-pub mod ReplayProgress
 pub mod Kinds
 pub mod Seen
 pub mod Held

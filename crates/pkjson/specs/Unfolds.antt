@@ -1,7 +1,7 @@
 -- What an object unfolds to.
 use Rattle.std.specs.Prelude.{◌≡◌, ℕ, suc, ◌+◌, List, [], ◌∷◌, Option, Some}
-use Rattle.serde_json.specs.Data.{Data, null, boolean, number, string, array, object, Items}
-use Rattle.serde_json.specs.Data.{no_items, item, Members, no_members, member}
+use Rattle.serde_json.specs.Data.{Data, array, object, Items, no_items, item, Members, no_members}
+use Rattle.serde_json.specs.Data.{member}
 
 -- the contents of an object in its final state
 pub data Content : Type 0 where
@@ -20,32 +20,24 @@ abbrev mutual
   Unfolds h x (array vs) = (xs : List ℕ) × (h x ≡ Some (Sequence xs)) × UnfoldItems h xs vs
   Unfolds h x (object ms) =
       (ps : List (List ℕ × ℕ)) × (h x ≡ Some (Pairs ps)) × UnfoldMembers h ps ms
-  Unfolds h x null = h x ≡ Some (Scalar null)
-  Unfolds h x (boolean b) = h x ≡ Some (Scalar (boolean b))
-  Unfolds h x (number n) = h x ≡ Some (Scalar (number n))
-  Unfolds h x (string t) = h x ≡ Some (Scalar (string t))
+  Unfolds h x v = h x ≡ Some (Scalar v)
 
   pub UnfoldItems : Heap → List ℕ → Items → Type 0
   UnfoldItems h [] no_items = Unit {0}
   UnfoldItems h (x ∷ xs) (item v vs) = Unfolds h x v × UnfoldItems h xs vs
-  UnfoldItems h [] (item v vs) = ⊥
-  UnfoldItems h (x ∷ xs) no_items = ⊥
+  UnfoldItems h xs vs = ⊥
 
   pub UnfoldMembers : Heap → List (List ℕ × ℕ) → Members → Type 0
   UnfoldMembers h [] no_members = Unit {0}
   UnfoldMembers h (p ∷ ps) (member k v ms) = (p.0 ≡ k) × Unfolds h p.1 v × UnfoldMembers h ps ms
-  UnfoldMembers h [] (member k v ms) = ⊥
-  UnfoldMembers h (p ∷ ps) no_members = ⊥
+  UnfoldMembers h ps ms = ⊥
 
 -- the number of values in a value; keys don't count
 abbrev mutual
   pub count : Data → ℕ
   count (array vs) = suc (items_count vs)
   count (object ms) = suc (members_count ms)
-  count null = 1
-  count (boolean b) = 1
-  count (number n) = 1
-  count (string t) = 1
+  count v = 1
 
   pub items_count : Items → ℕ
   items_count no_items = 0

@@ -58,23 +58,13 @@ fn long_keys(alloc: Global, objects: &[Object<'_>]) -> Result<Vec<usize>, AllocE
 {
     let mut marked = BTreeSet::new(alloc);
     for object in objects {
-        if let Object::Pairs(given) = object {
-            mark_long(&mut marked, objects, given)?;
+        if let Object::Pairs(given) = object
+            && has_long_key(objects, given)
+        {
+            mark(&mut marked, given)?;
         }
     }
     pairs_of(alloc, &marked, objects.len())
-}
-
-/// Marks the keys of a dict that was given these, if one of them is long.
-fn mark_long(
-    marked: &mut BTreeSet<usize>,
-    objects: &[Object<'_>],
-    given: &[usize],
-) -> Result<(), AllocError> {
-    if has_long_key(objects, given) {
-        mark(marked, given)?;
-    }
-    Ok(())
 }
 
 /// Whether a dict that was given these has a long key.

@@ -11,26 +11,6 @@ use crate::ranks::{Ranks, ranks_of};
 use crate::settled::Settled;
 use std::alloc::{AllocError, Global};
 
-/// Appends the members of a dict that was given these, unless it has none.
-fn settle_dict<'a>(
-    alloc: Global,
-    ranks: &Ranks<'a, '_>,
-    given: &[usize],
-    dicts: &mut Vec<Vec<(&'a str, usize)>>,
-) -> Result<(), AllocError>
-    requires ranks { AreRanks ranks.now }
-    requires given { All (λ x. x < length ranks.now.objects.now) given.now }
-    ensures { OnOk result (AddsMembers (kept_all ranks.now.objects.now)
-        (length ranks.now.objects.now) given.now dicts.old.items dicts.new.items) }
-{
-    if given.is_empty() {
-        return Ok(());
-    }
-    let members = ranks.members(alloc, given)?;
-    dicts.push(members)?;
-    Ok(())
-}
-
 /// Appends the members of an object that is a dict, unless it has none.
 fn settle_one<'a, 'b>(
     alloc: Global,
@@ -43,9 +23,14 @@ fn settle_one<'a, 'b>(
     ensures { OnOk result (Adds (kept_all ranks.now.objects.now)
         (length ranks.now.objects.now) object.now dicts.old.items dicts.new.items) }
 {
-    if let Object::Pairs(given) = object {
-        return settle_dict(alloc, ranks, given, dicts);
+    let Object::Pairs(given) = object else {
+        return Ok(());
+    };
+    if given.is_empty() {
+        return Ok(());
     }
+    let members = ranks.members(alloc, given)?;
+    dicts.push(members)?;
     Ok(())
 }
 

@@ -76,18 +76,7 @@ fn members_of<'s, 'a>(
 ) -> &'s [(&'a str, usize)]
     ensures { result.now ≡ members_of given.now dicts.now place }
 {
-    if given.is_empty() {
-        return &[];
-    }
-    members_at(dicts, place)
-}
-
-/// The members at a place among the dicts; none if there is no such place.
-#[inline]
-fn members_at<'s, 'a>(dicts: &'s [Vec<(&'a str, usize)>], place: usize) -> &'s [(&'a str, usize)]
-    ensures { result.now ≡ members_in (slice_get dicts.now place) }
-{
-    if place >= dicts.len() {
+    if given.is_empty() || place >= dicts.len() {
         return &[];
     }
     &dicts[place]

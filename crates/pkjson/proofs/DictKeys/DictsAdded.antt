@@ -2,9 +2,8 @@
 use Rattle.std.proofs.Common.{◌≡◌, ◌∙◌, ℕ, zero, suc, ◌+◌, ◌<◌, ◌≤◌, get_or, take, take_all, List}
 use Rattle.std.proofs.Common.{[], ◌∷◌, ◌++◌, length, refl, sym, ap, subst, arith, Some}
 use Rattle.std.proofs.Common.{length-append, All}
-use Rattle.std.specs.Prelude.{◌==◌, slice_get, true, false}
+use Rattle.std.specs.Prelude.{◌==◌, slice_get, false}
 use Rattle.pkjson.specs.Private.Ranks.{AreMembers}
-use Rattle.std.proofs.Common.{◌≡◌, ℕ, List, length, refl, sym, ap, ◌∙◌, subst}
 use Rattle.pkjson.specs.declared.objects.Object.{Object}
 use Rattle.pkjson.specs.declared.objects.Object.TheVariants.{Items, Single, Pairs, Null}
 use Rattle.pkjson.specs.declared.objects.Object.TheVariants.{Bool as Truth, Int, Lent, Decoded}
@@ -18,7 +17,8 @@ use Rattle.pkjson.specs.Private.Seen.{kept_of, kept_all}
 use Rattle.pkjson.specs.Private.Settled.{Adds, AddsMembers, AreGivenBelow, AreSettled, Settles}
 use Rattle.pkjson.proofs.DictKeys.SettledMembers.{given_there, kept_length, settled_more}
 use Rattle.pkjson.proofs.Entries.{kept_append}
-use Rattle.pkjson.proofs.Parts.NodesHeld.{Dict, take_more}
+use Rattle.std.proofs.lemmas.List.{take_more}
+use Rattle.pkjson.proofs.Parts.NodesHeld.{Dict}
 
 -- the place of a dict that was given some is below n
 abbrev pub IsGivenPlace : ℕ → List ℕ → ℕ → Type 0
@@ -34,8 +34,7 @@ IsPlaced n o p = Unit {0}
 abbrev pub ArePlaced : ℕ → List Object → List ℕ → Type 0
 ArePlaced n [] [] = Unit {0}
 ArePlaced n (o ∷ os) (p ∷ ps) = IsPlaced n o p × ArePlaced n os ps
-ArePlaced n [] (p ∷ ps) = ⊥
-ArePlaced n (o ∷ os) [] = ⊥
+ArePlaced n os ps = ⊥
 
 get_front : (ds es : List Dict) (p : ℕ) → p < length ds → slice_get (ds ++ es) p ≡ slice_get ds p
 get_front [] es p l = absurd (omega (arith, l))
@@ -54,13 +53,7 @@ members_same (x ∷ xs) ds d p l = rw (get_front ds (d ∷ []) p l) refl
 node_same : (ds : List Dict) (d : Dict) (o : Object) (p : ℕ) → IsPlaced (length ds) o p
     → node_of (ds ++ d ∷ []) p o ≡ node_of ds p o
 node_same ds d (Pairs v) p l = ap (λ z. DictNode (lent z)) (members_same v.items ds d p l)
-node_same ds d (Items v) p l = refl
-node_same ds d (Single n) p l = refl
-node_same ds d Null p l = refl
-node_same ds d (Truth b) p l = refl
-node_same ds d (Int i) p l = refl
-node_same ds d (Lent t) p l = refl
-node_same ds d (Decoded t) p l = refl
+node_same ds d o p l = refl
 
 nodes_same : (ds : List Dict) (d : Dict) (os : List Object) (ps : List ℕ)
     → ArePlaced (length ds) os ps → nodes_from (ds ++ d ∷ []) os ps ≡ nodes_from ds os ps
@@ -74,8 +67,7 @@ nodes_more : (n : ℕ) (ds : List Dict) (os : List Object) (ps : List ℕ) (o : 
 nodes_more n ds [] [] o p h = refl
 nodes_more n ds (q ∷ os) (r ∷ ps) o p h = ap (λ l. node_of ds r q ∷ l)
     (nodes_more n ds os ps o p h.1)
-nodes_more n ds [] (r ∷ ps) o p h = absurd h
-nodes_more n ds (q ∷ os) [] o p h = absurd h
+nodes_more n ds os ps o p h = absurd h
 
 given_wider : (n m : ℕ) (xs : List ℕ) (p : ℕ) → n ≤ m → IsGivenPlace n xs p → IsGivenPlace m xs p
 given_wider n m [] p l h = tt
@@ -83,21 +75,14 @@ given_wider n m (x ∷ xs) p l h = omega (arith, l, h)
 
 placed_wider : (n m : ℕ) (o : Object) (p : ℕ) → n ≤ m → IsPlaced n o p → IsPlaced m o p
 placed_wider n m (Pairs v) p l h = given_wider n m v.items p l h
-placed_wider n m (Items v) p l h = tt
-placed_wider n m (Single k) p l h = tt
-placed_wider n m Null p l h = tt
-placed_wider n m (Truth b) p l h = tt
-placed_wider n m (Int i) p l h = tt
-placed_wider n m (Lent t) p l h = tt
-placed_wider n m (Decoded t) p l h = tt
+placed_wider n m o p l h = tt
 
 placed_more : (n m : ℕ) (os : List Object) (ps : List ℕ) (o : Object) (p : ℕ) → n ≤ m
     → ArePlaced n os ps → IsPlaced m o p → ArePlaced m (os ++ o ∷ []) (ps ++ p ∷ [])
 placed_more n m [] [] o p l h w = (w, tt)
 placed_more n m (q ∷ os) (r ∷ ps) o p l h w =
     (placed_wider n m q r l h.0, placed_more n m os ps o p l h.1 w)
-placed_more n m [] (r ∷ ps) o p l h w = absurd h
-placed_more n m (q ∷ os) [] o p l h w = absurd h
+placed_more n m os ps o p l h w = absurd h
 
 -- the first objects are settled
 pub record SettledTo (all : List Kept) (os : List Object) (ds : List Dict)
@@ -167,14 +152,11 @@ module _ (all : List Kept) (os : List Object) (ds : List Dict) (ps : List ℕ)
   settled_on es (Decoded t) g a = scalar es (Decoded t) a tt
       (record { content = refl; below = tt; ordered = tt })
 
-true_false : {A : Type 0} → true ≡ false → A
-true_false e = cc
-
 -- the members of a dict that was given some
 pub adds_some : (all : List Kept) (n : ℕ) (xs : List ℕ) (old new : List Dict) (d : Dict)
     → (length xs == 0) ≡ false → new ≡ old ++ d ∷ [] → AreMembers all n xs d.items
     → AddsMembers all n xs old new
-adds_some all n [] old new d e f m = true_false e
+adds_some all n [] old new d e f m = cc
 adds_some all n (x ∷ xs) old new d e f m = (d, f, m)
 
 -- one object after another
@@ -196,5 +178,4 @@ settled_next os ls i o ds es ps qs p same l e g h a place q =
 pub all_settled : (all : List Kept) (os : List Object) (i : ℕ) (ds : List Dict) (ps : List ℕ)
     → length os ≤ i → SettledTo all (take i os) ds ps
     → AreSettled all (kept_all os) (nodes_from ds os ps)
-all_settled all os i ds ps l h = subst (λ z. AreSettled all (kept_all z) (nodes_from ds z ps))
-    (take_all i os l) h.settled
+all_settled all os i ds ps l h = rw (take_all i os l) at h.settled

@@ -1,8 +1,10 @@
 -- Keys by the places of their texts.
+use Rattle.std.proofs.lemmas.Map.Lookups.{exact_bytes, exact_unsigned}
+use Rattle.std.proofs.lemmas.Map.Views.{All-values-insert_entry}
 use Rattle.std.proofs.Common.{◌≡◌, ℕ, zero, suc, ◌+◌, ◌<◌, ◌≤◌, List, [], ◌∷◌, ◌++◌, length, drop}
 use Rattle.std.proofs.Common.{get_or, refl, sym, ap, ◌∙◌, subst, arith, inl, inr, Option, Some}
 use Rattle.std.proofs.Common.{None, IfSome, Ordering, Less, Equal, Greater, All}
-use Rattle.std.specs.Ordering.{nat_cmp, is_eq, match_ordering, ordering_reverse}
+use Rattle.std.specs.Ordering.{nat_cmp, match_ordering, ordering_reverse}
 use Rattle.std.specs.Cmp.{nat_cmp_is}
 use Rattle.std.specs.Cmp.Lexicographic.{slice_cmp}
 use Rattle.std.specs.BTreeMap.{insert_entry}
@@ -13,14 +15,12 @@ use Rattle.std.proofs.lemmas.Bool.{cases_lt}
 use Rattle.std.proofs.lemmas.Cmp.{nat_cmp_total, nat_list_cmp_total}
 use Rattle.std.proofs.lemmas.List.Elements.{All-append, All-cons, All-get_or, All-head, All-nil}
 use Rattle.std.proofs.lemmas.List.Elements.{All-tail}
-use Rattle.std.proofs.lemmas.Map.Text.{is_eq-slice_cmp}
-use Rattle.std.proofs.lemmas.Slice.Eq.{bytes_eq-Decides}
 use Rattle.pkjson.specs.Private.Arena.{Kept, kind_at}
 use Rattle.pkjson.specs.Contents.{characters, paired, standing}
 use Rattle.pkjson.specs.Private.Nodes.{named_members, AllAbove, Ascending}
 use Rattle.pkjson.specs.Private.Ranks.{text_in, StandsIn, ArePlaces, AreMembers}
 use Rattle.pkjson.proofs.Parts.NodesHeld.{Member}
-use Rattle.pkjson.proofs.DictKeys.SettledMembers.{two_more, none_left}
+use Rattle.pkjson.proofs.DictKeys.SettledMembers.{insert_all, matched, two_more, none_left}
 
 pub all_twice : (n : ℕ) (xs : List ℕ) (x : ℕ) → x < n → All (λ y. y < n) xs
     → All (λ y. y < n) (xs ++ x ∷ x ∷ [])
@@ -28,7 +28,7 @@ all_twice n xs x l h = All-append (λ y. y < n) xs (x ∷ x ∷ []) h
     (All-cons (λ y. y < n) x (x ∷ []) l (All-cons (λ y. y < n) x [] l (All-nil (λ y. y < n))))
 
 pub same_text : (x y : List ℕ) → slice_cmp nat_cmp x y ≡ Equal → x ≡ y
-same_text x y e = (bytes_eq-Decides x y).0 (sym (is_eq-slice_cmp x y) ∙ ap is_eq e)
+same_text = exact_bytes
 
 pub place_at : (ts : List Member) (ks : List Kept) (ps : List (Option ℕ)) → ArePlaces ts ks ps
     → (i : ℕ) (d : Option ℕ) → i < length ps → IfSome (get_or ps i d)
@@ -68,16 +68,13 @@ above_at k (t ∷ ts) (suc j) h l = above_at k ts j h.1 (omega arith)
 
 greater_at : (ts : List Member) (i j : ℕ) → Ascending (named_members ts) → i < j → j < length ts
     → slice_cmp nat_cmp (text_in ts j) (text_in ts i) ≡ Greater
-greater_at [] i j h l m = absurd (omega arith)
-greater_at (t ∷ ts) zero zero h l m = absurd (omega arith)
 greater_at (t ∷ ts) zero (suc j) h l m = above_at t.0.now ts j h.0 (omega arith)
-greater_at (t ∷ ts) (suc i) zero h l m = absurd (omega arith)
 greater_at (t ∷ ts) (suc i) (suc j) h l m = greater_at ts i j h.1 (omega arith) (omega arith)
+greater_at ts i j h l m = absurd (omega arith)
 
 own_reverse : (o : Ordering) → o ≡ ordering_reverse o → o ≡ Equal
-own_reverse Less e = cc
 own_reverse Equal e = refl
-own_reverse Greater e = cc
+own_reverse o e = cc
 
 cmp_at : (ts : List Member) (i j : ℕ) → Ascending (named_members ts) → i < length ts → j < length ts
     → slice_cmp nat_cmp (text_in ts i) (text_in ts j) ≡ nat_cmp i j
@@ -95,29 +92,11 @@ cmp_at ts i j h l m = elim (cases_lt i j) [
   ]
 ]
 
-nat_equal : (a b : ℕ) → nat_cmp a b ≡ Equal → a ≡ b
-nat_equal a b e = elim (cases_lt a b) [
-  | inl p ↦ (let q = nat_cmp_is a b Less p ∙ e in cc)
-  | inr p ↦ elim (cases_lt b a) [
-    | inl q ↦ (let r = nat_cmp_is a b Greater q ∙ e in cc)
-    | inr q ↦ omega arith
-  ]
-]
-
-values_match : (o : Ordering) (a b c : List (ℕ × Member))
-    → named_members (values_of (match_ordering o a b c))
-    ≡ match_ordering o (named_members (values_of a)) (named_members (values_of b))
-    (named_members (values_of c))
-values_match Less a b c = refl
-values_match Equal a b c = refl
-values_match Greater a b c = refl
-
 equal_key : (o : Ordering) (x y : List ℕ) → o ≡ slice_cmp nat_cmp x y
     → (a c r : List (List ℕ × ℕ)) (w : ℕ) → match_ordering o a ((x, w) ∷ r) c
     ≡ match_ordering o a ((y, w) ∷ r) c
-equal_key Less x y e a c r w = refl
 equal_key Equal x y e a c r w = ap (λ z. (z, w) ∷ r) (same_text x y (sym e))
-equal_key Greater x y e a c r w = refl
+equal_key o x y e a c r w = refl
 
 module _ (ts : List Member) where
   -- each stands by the place of its text
@@ -134,7 +113,7 @@ module _ (ts : List Member) where
       let q : nat_cmp i e.0 ≡ slice_cmp nat_cmp m.0.now e.1.0.now = sym (cmp_at ts i e.0 a s.0 g.0)
       ∙ ap (λ z. slice_cmp nat_cmp z (text_in ts e.0)) s.1
       ∙ ap (λ z. slice_cmp nat_cmp m.0.now z) g.1 in
-      values_match (nat_cmp i e.0) ((i, m) ∷ e ∷ es) ((e.0, m) ∷ es)
+      matched (λ z. named_members (values_of z)) (nat_cmp i e.0) ((i, m) ∷ e ∷ es) ((e.0, m) ∷ es)
       (e ∷ insert_entry nat_cmp es i m)
       ∙ equal_key (nat_cmp i e.0) m.0.now e.1.0.now q
       ((m.0.now, m.1) ∷ named_members (values_of (e ∷ es)))
@@ -150,20 +129,10 @@ module _ (ts : List Member) where
       ((e.1.0.now, m.1) ∷ named_members (values_of es)) ((e.1.0.now, e.1.1) ∷ l))
       (insert_valued a es i m s (All-tail ByPlace e es h))
 
-  put_stands : (o : Ordering) (es fs : List (ℕ × Member)) (e : ℕ × Member) (i : ℕ) (m : Member)
-      → nat_cmp i e.0 ≡ o → StandsIn ts m.0.now i → All ByPlace (e ∷ es) → All ByPlace fs
-      → All ByPlace (match_ordering o ((i, m) ∷ e ∷ es) ((e.0, m) ∷ es) (e ∷ fs))
-  put_stands Less es fs e i m q s h g = All-cons ByPlace (i, m) (e ∷ es) s h
-  put_stands Equal es fs e i m q s h g = All-cons ByPlace (e.0, m) es
-      (subst (λ z. StandsIn ts m.0.now z) (nat_equal i e.0 q) s) (All-tail ByPlace e es h)
-  put_stands Greater es fs e i m q s h g = All-cons ByPlace e fs (All-head ByPlace e es h) g
-
   insert_stands : (es : List (ℕ × Member)) (i : ℕ) (m : Member) → StandsIn ts m.0.now i
       → All ByPlace es → All ByPlace (insert_entry nat_cmp es i m)
-  insert_stands [] i m s h = All-cons ByPlace (i, m) [] s h
-  insert_stands (e ∷ es) i m s h = put_stands (nat_cmp i e.0) es
-      (insert_entry nat_cmp es i m) e i m refl s h
-      (insert_stands es i m s (All-tail ByPlace e es h))
+  insert_stands es i m s h = insert_all nat_cmp ByPlace i m s
+      (λ j e. subst (λ z. StandsIn ts m.0.now z) (exact_unsigned i j e) s) es h
 
   above_stands : Ascending (named_members ts) → (e : ℕ × Member) (es : List (ℕ × Member))
       → AllByRecursion (λ y. nat_cmp e.0 y ≡ Less) (keys_of es) → ByPlace e → All ByPlace es
@@ -186,25 +155,6 @@ module _ (ts : List Member) where
     above_stands a e es o.0 (All-head ByPlace e es h) (All-tail ByPlace e es h),
     ascending_stands a es o.1 (All-tail ByPlace e es h),
   )
-
-module _ (n : ℕ) where
-  abbrev IsLow : Member → Type 0
-  IsLow m = m.1 < n
-
-  put_low : (o : Ordering) (es fs : List (ℕ × Member)) (e : ℕ × Member) (i : ℕ) (m : Member)
-      → IsLow m → All IsLow (values_of (e ∷ es)) → All IsLow (values_of fs)
-      → All IsLow (values_of (match_ordering o ((i, m) ∷ e ∷ es) ((e.0, m) ∷ es) (e ∷ fs)))
-  put_low Less es fs e i m l h g = All-cons IsLow m (values_of (e ∷ es)) l h
-  put_low Equal es fs e i m l h g = All-cons IsLow m (values_of es) l
-      (All-tail IsLow e.1 (values_of es) h)
-  put_low Greater es fs e i m l h g = All-cons IsLow e.1 (values_of fs)
-      (All-head IsLow e.1 (values_of es) h) g
-
-  insert_low : (es : List (ℕ × Member)) (i : ℕ) (m : Member) → IsLow m → All IsLow (values_of es)
-      → All IsLow (values_of (insert_entry nat_cmp es i m))
-  insert_low [] i m l h = All-cons IsLow m [] l h
-  insert_low (e ∷ es) i m l h = put_low (nat_cmp i e.0) es (insert_entry nat_cmp es i m) e i m l h
-      (insert_low es i m l (All-tail IsLow e.1 (values_of es) h))
 
 -- the pairs up to a place are among these entries
 pub record Pairing (ts : List Member) (ks : List Kept) (n : ℕ) (given : List ℕ) (i : ℕ)
@@ -241,11 +191,9 @@ module _ (ts : List Member) (ks : List Kept) (n : ℕ) (given : List ℕ) where
         (λ z. insert_entry (slice_cmp nat_cmp) (named_members (values_of es))
         (characters (kind_at ks (get_or given i 0))) z) w));
     keys = o;
-    stands = subst (λ z. All (λ e. StandsIn ts e.1.0.now e.0) z) (sym f)
-        (insert_stands ts es place m (s.0, sym t) p.stands);
-    below = subst (λ z. All (λ v. v.1 < n) (values_of z)) (sym f)
-        (insert_low n es place m
-        (subst (λ z. z < n) (sym w) (All-get_or (λ x. x < n) given (i + 1) 0 l g)) p.below);
+    stands = rw f (insert_stands ts es place m (s.0, sym t) p.stands);
+    below = rw f (All-values-insert_entry nat_cmp place m (λ v. v.1 < n) es p.below
+        (subst (λ z. z < n) (sym w) (All-get_or (λ x. x < n) given (i + 1) 0 l g)));
   }
 
   pub pairing_ends : (i : ℕ) (es : List (ℕ × Member)) → Ascending (named_members ts)

@@ -1,6 +1,8 @@
 -- The members that stand, as they are found, and what settled objects hold.
-use Rattle.std.proofs.Common.{◌≡◌, ℕ, zero, suc, ◌+◌, ◌<◌, ◌≤◌, List, [], ◌∷◌, ◌++◌, length}
-use Rattle.std.proofs.Common.{drop, get_or, refl, sym, ap, ◌∙◌, subst, arith, Option, Some, None}
+use Rattle.std.proofs.lemmas.Option.{same_Some}
+use Rattle.std.proofs.lemmas.List.{length-map}
+use Rattle.std.proofs.Common.{◌≡◌, ℕ, zero, suc, ◌+◌, ◌<◌, ◌≤◌, List, [], ◌∷◌, ◌++◌, length, drop}
+use Rattle.std.proofs.Common.{get_or, refl, sym, ap, ◌∙◌, subst, arith, Option, Some, None}
 use Rattle.std.proofs.Common.{Ordering, Less, Equal, Greater, drop-cons, length-drop, All}
 use Rattle.std.specs.Prelude.{option_map, slice_get}
 use Rattle.std.specs.Borrow.{Bor}
@@ -28,37 +30,37 @@ use Rattle.pkjson.proofs.Parts.NodesHeld.{Dict, Member}
 abbrev by_text : Bor (List ℕ) → Bor (List ℕ) → Ordering
 by_text x y = slice_cmp nat_cmp x.now y.now
 
-named_match : (o : Ordering) (a b c : List Member)
-    → named_members (match_ordering o a b c) ≡ match_ordering o (named_members a) (named_members b)
-    (named_members c)
-named_match Less a b c = refl
-named_match Equal a b c = refl
-named_match Greater a b c = refl
+pub matched : {A B : Type 0} (f : A → B) (o : Ordering) (a b c : A)
+    → f (match_ordering o a b c) ≡ match_ordering o (f a) (f b) (f c)
+matched f Less a b c = refl
+matched f Equal a b c = refl
+matched f Greater a b c = refl
 
 pub insert_named : (es : List Member) (k : Bor (List ℕ)) (w : ℕ)
     → named_members (insert_entry by_text es k w) ≡ insert_entry (slice_cmp nat_cmp)
     (named_members es) k.now w
 insert_named [] k w = refl
-insert_named (e ∷ es) k w = named_match (by_text k e.0) _ _ _
+insert_named (e ∷ es) k w = matched named_members (by_text k e.0) _ _ _
     ∙ ap
     (λ l. match_ordering (by_text k e.0) ((k.now, w) ∷ named_members (e ∷ es))
     ((e.0.now, w) ∷ named_members es) ((e.0.now, e.1) ∷ l)) (insert_named es k w)
 
-put_below : (n : ℕ) (o : Ordering) (es fs : List Member) (e : Member) (k : Bor (List ℕ)) (w : ℕ)
-    → w < n → All (λ p. p.1 < n) (e ∷ es) → All (λ p. p.1 < n) fs
-    → All (λ p. p.1 < n) (match_ordering o ((k, w) ∷ e ∷ es) ((e.0, w) ∷ es) (e ∷ fs))
-put_below n Less es fs e k w l h g = All-cons (λ p. p.1 < n) (k, w) (e ∷ es) l h
-put_below n Equal es fs e k w l h g = All-cons (λ p. p.1 < n) (e.0, w) es l
-    (All-tail (λ p. p.1 < n) e es h)
-put_below n Greater es fs e k w l h g = All-cons (λ p. p.1 < n) e fs
-    (All-head (λ p. p.1 < n) e es h) g
+-- what holds of the new entry, under each key equal to its own, and of the others, holds of all
+module _ {K X : Type 0} (cmp : K → K → Ordering) (P : K × X → Type 0) (k : K) (v : X)
+    (new : P (k, v)) (same : (j : K) → cmp k j ≡ Equal → P (j, v)) where
+  put_all : (o : Ordering) (e : K × X) (es fs : List (K × X)) → cmp k e.0 ≡ o → All P (e ∷ es)
+      → All P fs → All P (match_ordering o ((k, v) ∷ e ∷ es) ((e.0, v) ∷ es) (e ∷ fs))
+  put_all Less e es fs q h g = All-cons P (k, v) (e ∷ es) new h
+  put_all Equal e es fs q h g = All-cons P (e.0, v) es (same e.0 q) (All-tail P e es h)
+  put_all Greater e es fs q h g = All-cons P e fs (All-head P e es h) g
+
+  pub insert_all : (es : List (K × X)) → All P es → All P (insert_entry cmp es k v)
+  insert_all [] h = All-cons P (k, v) [] new h
+  insert_all (e ∷ es) h = put_all (cmp k e.0) e es _ refl h (insert_all es (All-tail P e es h))
 
 pub insert_below : (n : ℕ) (es : List Member) (k : Bor (List ℕ)) (w : ℕ) → w < n
     → All (λ p. p.1 < n) es → All (λ p. p.1 < n) (insert_entry by_text es k w)
-insert_below n [] k w l h = All-cons (λ p. p.1 < n) (k, w) [] l h
-insert_below n (e ∷ es) k w l h = put_below n (by_text k e.0) es
-    (insert_entry by_text es k w) e k w l h
-    (insert_below n es k w l (All-tail (λ p. p.1 < n) e es h))
+insert_below n es k w l h = insert_all by_text (λ p. p.1 < n) k w l (λ j e. l) es h
 
 module _ (kinds : ℕ → Option Kind) where
   pub two_more : (xs : List ℕ) (i : ℕ) → i + 1 < length xs
@@ -73,9 +75,8 @@ module _ (kinds : ℕ → Option Kind) where
       rw (a, e, b, f) refl
 
   short : (ys : List ℕ) → length ys ≤ 1 → paired kinds ys ≡ []
-  short [] h = refl
-  short (y ∷ []) h = refl
   short (y ∷ z ∷ ys) h = absurd (omega arith)
+  short ys h = refl
 
   pub none_left : (xs : List ℕ) (i : ℕ) → length xs ≤ i + 1 → paired kinds (drop i xs) ≡ []
   none_left xs i h = short (drop i xs) (omega (arith, h, length-drop i xs))
@@ -96,15 +97,13 @@ pub settled_more : (all ks : List Kept) (ns : List Node) (k : Kept) (n : Node)
     → AreSettled all ks ns → Settles all k n → AreSettled all (ks ++ k ∷ []) (ns ++ n ∷ [])
 settled_more all [] [] k n h s = (s, tt)
 settled_more all (j ∷ ks) (m ∷ ns) k n h s = (h.0, settled_more all ks ns k n h.1 s)
-settled_more all [] (m ∷ ns) k n h s = absurd h
-settled_more all (j ∷ ks) [] k n h s = absurd h
+settled_more all ks ns k n h s = absurd h
 
 pub settled_length : (all ks : List Kept) (ns : List Node) → AreSettled all ks ns
     → length ns ≡ length ks
 settled_length all [] [] h = refl
 settled_length all (k ∷ ks) (n ∷ ns) h = ap suc (settled_length all ks ns h.1)
-settled_length all [] (n ∷ ns) h = absurd h
-settled_length all (k ∷ ks) [] h = absurd h
+settled_length all ks ns h = absurd h
 
 settled_content : (all ks : List Kept) (ns : List Node) → AreSettled all ks ns → (x : ℕ)
     → option_map content (slice_get ns x) ≡ option_map (λ k. held_by (kind_at all) k.given k.kind)
@@ -112,8 +111,7 @@ settled_content : (all ks : List Kept) (ns : List Node) → AreSettled all ks ns
 settled_content all [] [] h x = refl
 settled_content all (k ∷ ks) (n ∷ ns) h zero = ap Some h.0.content
 settled_content all (k ∷ ks) (n ∷ ns) h (suc x) = settled_content all ks ns h.1 x
-settled_content all [] (n ∷ ns) h x = absurd h
-settled_content all (k ∷ ks) [] h x = absurd h
+settled_content all ks ns h x = absurd h
 
 held_option : (kinds : ℕ → Option Kind) (o : Option Kept)
     → option_map (λ k. held_by kinds k.given k.kind) o
@@ -126,28 +124,16 @@ pub settled_heap : (all : List Kept) (ns : List Node) → AreSettled all all ns 
 settled_heap all ns h x = settled_content all all ns h x
     ∙ held_option (kind_at all) (slice_get all x)
 
-none_some : {A C : Type 0} (x : A) → None ≡ Some x → C
-none_some x e = cc
-
-abbrev node_or : Node → Option Node → Node
-node_or d (Some z) = z
-node_or d None = d
-
-some_same : (a b : Node) → Some a ≡ Some b → a ≡ b
-some_same a b e = ap (node_or a) e
-
 settled_node : (all ks : List Kept) (ns : List Node) → AreSettled all ks ns → (x : ℕ) (m : Node)
     → slice_get ns x ≡ Some m → IsBelow (length all) m × IsOrdered m
-settled_node all [] [] h x m e = none_some m e
+settled_node all [] [] h x m e = cc
 settled_node all (k ∷ ks) (n ∷ ns) h zero m e =
-    subst (λ z. IsBelow (length all) z × IsOrdered z) (some_same n m e) (h.0.below, h.0.ordered)
+    subst (λ z. IsBelow (length all) z × IsOrdered z) (same_Some n m e) (h.0.below, h.0.ordered)
 settled_node all (k ∷ ks) (n ∷ ns) h (suc x) m e = settled_node all ks ns h.1 x m e
-settled_node all [] (n ∷ ns) h x m e = absurd h
-settled_node all (k ∷ ks) [] h x m e = absurd h
+settled_node all ks ns h x m e = absurd h
 
 pub kept_length : (os : List Object) → length (kept_all os) ≡ length os
-kept_length [] = refl
-kept_length (o ∷ os) = ap suc (kept_length os)
+kept_length os = length-map os kept_of
 
 nodes_length : (ds : List Dict) (os : List Object) (ps : List ℕ)
     → length (nodes_from ds os ps) ≡ length os
@@ -162,8 +148,7 @@ module _ (all : List Kept) (s : Settled) (h : AreSettled all all (nodes_of s)) w
 
   pub settled_closed : IsClosed s
   unfolding IsClosed
-  settled_closed x m e = subst (λ z. IsBelow z m) (sym settled_size)
-      (settled_node all all (nodes_of s) h x m e).0
+  settled_closed x m e = rw settled_size (settled_node all all (nodes_of s) h x m e).0
 
   pub settled_ordered : AreOrdered s
   unfolding AreOrdered

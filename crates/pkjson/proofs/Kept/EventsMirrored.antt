@@ -7,7 +7,6 @@ use Rattle.pkops.specs.Spelling.{Instruction}
 use Rattle.pkmachine.specs.Runs.{Event, Import, Did}
 use Rattle.pkjson.specs.Contents.{Kind, same, kind_by_effect, kinds, maker, given_to, all_given}
 use Rattle.pkjson.specs.Contents.{held_by, contents, paired, standing, characters, OfItems, OfPairs}
-use Rattle.pkjson.specs.Contents.{OfValue}
 use Rattle.pkjson.specs.Unfolds.{Pairs}
 use Rattle.pkjson.specs.Private.Arena.{Kept, kept_by, kept_in, kind_at, given_at, holds, more_given}
 use Rattle.pkjson.specs.Private.Arena.{update}
@@ -77,7 +76,7 @@ mirrors_made ks es i xs m e h = rw e (record {
       (ap (λ l. all_given n es ++ l) (sym (append-nil _)) ∙ sym (given_append n es _));
 })
 
-kind_update : (ks : List Kept) (r : ℕ) (xs : List ℕ) (n : ℕ)
+pub kind_update : (ks : List Kept) (r : ℕ) (xs : List ℕ) (n : ℕ)
     → kind_at (update ks r (more_given xs)) n ≡ kind_at ks n
 kind_update [] r xs n = refl
 kind_update (k ∷ ks) zero xs zero = refl
@@ -88,8 +87,7 @@ kind_update (k ∷ ks) (suc r) xs (suc n) = kind_update ks r xs n
 kept_more : (kind : Kind) (gs xs : List ℕ) → kept_by kind (kept_by kind gs ++ xs)
     ≡ kept_by kind (gs ++ xs)
 kept_more OfItems gs xs = refl
-kept_more OfPairs gs xs = refl
-kept_more (OfValue v) gs xs = refl
+kept_more kind gs xs = refl
 
 given_update : (ks : List Kept) (r : ℕ) (xs gs : List ℕ) (n : ℕ) → r < length ks
     → given_at ks n ≡ kept_in (kind_at ks n) gs
@@ -119,24 +117,20 @@ mirrors_received ks es i r xs l h = record {
 
 paired_same : (f g : ℕ → Option Kind) (xs : List ℕ) → ((n : ℕ) → f n ≡ g n)
     → paired f xs ≡ paired g xs
-paired_same f g [] h = refl
-paired_same f g (k ∷ []) h = refl
 paired_same f g (k ∷ x ∷ xs) h = ap (λ o. (characters o, x) ∷ paired f xs) (h k)
     ∙ ap (λ l. (characters (g k), x) ∷ l) (paired_same f g xs h)
+paired_same f g xs h = refl
 
 held_same : (f g : ℕ → Option Kind) (xs : List ℕ) (o : Option Kind) → ((n : ℕ) → f n ≡ g n)
     → option_map (held_by f xs) o ≡ option_map (held_by g xs) o
-held_same f g xs None h = refl
-held_same f g xs (Some OfItems) h = refl
 held_same f g xs (Some OfPairs) h = ap (λ ps. Some (Pairs (standing [] ps))) (paired_same f g xs h)
-held_same f g xs (Some (OfValue v)) h = refl
+held_same f g xs o h = refl
 
 held_kept : (f : ℕ → Option Kind) (xs : List ℕ) (o : Option Kind)
     → option_map (held_by f (kept_in o xs)) o ≡ option_map (held_by f xs) o
 held_kept f xs None = refl
 held_kept f xs (Some OfItems) = refl
-held_kept f xs (Some OfPairs) = refl
-held_kept f xs (Some (OfValue v)) = refl
+held_kept f xs o = refl
 
 -- what the arena holds is what the objects hold
 pub mirrors_contents : (ks : List Kept) (es : List Event) → Mirrors ks es → (n : ℕ)

@@ -1,4 +1,5 @@
 -- What is taken from the stack, and that it is of objects that there are.
+use Rattle.std.proofs.lemmas.Option.{same_Some}
 use Rattle.std.proofs.Common.{◌≡◌, ℕ, zero, suc, ◌<◌, Bool, true, false, cond, List, [], ◌∷◌}
 use Rattle.std.proofs.Common.{length, Option, Some, None, Result, Ok, Err, refl, sym, ap, ◌∙◌}
 use Rattle.std.proofs.Common.{subst}
@@ -18,27 +19,19 @@ use Rattle.pkjson.specs.Private.PlainActions.{picked, found_above, move_of, Take
 use Rattle.pkjson.specs.Plain.{rest_of}
 use Rattle.pkjson.specs.Private.Mirrors.{AreBelow, EntriesBelow, CellsBelow, IsHeld}
 
-pub err_ok : {A C : Type 0} (b : Breach) (v : A) → Err b ≡ Ok v → C
-err_ok b v e = cc
-
-pub ok_value : {A : Type 0} → A → Result A Breach → A
-ok_value d (Ok a) = a
-ok_value d (Err b) = d
-
 pub ok_same : {A : Type 0} (a b : A) → ◌≡◌ {A = Result A Breach} (Ok a) (Ok b) → a ≡ b
-unfolding ok_value
-ok_same a b e = ap (ok_value a) e
+ok_same a b e = cc
 
 -- an answer that follows from another
 pub then_ok : {A B : Type 0} (x : Result A Breach) (f : A → Result B Breach) (b : B)
     → and_then x f ≡ Ok b → (a : A) × (x ≡ Ok a) × (f a ≡ Ok b)
 then_ok (Ok a) f b e = (a, refl, e)
-then_ok (Err r) f b e = err_ok r b e
+then_ok (Err r) f b e = cc
 
 unless_ok : {A : Type 0} (o : Option Breach) (x : Result A Breach) (v : A) → unless o x ≡ Ok v
     → x ≡ Ok v
 unless_ok None x v e = e
-unless_ok (Some b) x v e = err_ok b v e
+unless_ok (Some b) x v e = cc
 
 pub found_of : (t : Takes) (u : TakesOf) (es : List (Entry ℕ)) (v : Taken ℕ) → TakesSame t u
     → operands u es ≡ Ok v → picked t es ≡ Ok v
@@ -50,10 +43,8 @@ found_of t u es v h e = absurd h
 
 items_more : (k : ℕ) (es : List (Entry ℕ)) (above : List ℕ)
     → items (suc k) es above ≡ and_then (items k es above) (λ t. items 1 t.below t.operands)
-items_more zero es above = refl
 items_more (suc k) (Item x ∷ es) above = items_more k es (x ∷ above)
-items_more (suc k) (Mark ∷ es) above = refl
-items_more (suc k) [] above = refl
+items_more k es above = refl
 
 pub above_of : (t : Takes) (u : TakesOf) (es : List (Entry ℕ)) (v : Taken ℕ) → TakesAbove t u
     → operands u es ≡ Ok v → found_above t es ≡ Ok v
@@ -77,14 +68,13 @@ items_below : (n k : ℕ) (es : List (Entry ℕ)) (above : List ℕ) (v : Taken 
     → AreBelow n above → items k es above ≡ Ok v → TakenBelow n v
 items_below n zero es above v h g e = subst (TakenBelow n) (ok_same _ v e) (g, h)
 items_below n (suc k) (Item x ∷ es) above v h g e = items_below n k es (x ∷ above) v h.1 (h.0, g) e
-items_below n (suc k) (Mark ∷ es) above v h g e = err_ok _ v e
-items_below n (suc k) [] above v h g e = err_ok _ v e
+items_below n (suc k) es above v h g e = cc
 
 slice_below : (n : ℕ) (es : List (Entry ℕ)) (above : List ℕ) (v : Taken ℕ) → EntriesBelow n es
     → AreBelow n above → slice es above ≡ Ok v → TakenBelow n v
 slice_below n (Item x ∷ es) above v h g e = slice_below n es (x ∷ above) v h.1 (h.0, g) e
 slice_below n (Mark ∷ es) above v h g e = subst (TakenBelow n) (ok_same _ v e) (g, h)
-slice_below n [] above v h g e = err_ok _ v e
+slice_below n [] above v h g e = cc
 
 pub found_below : (n : ℕ) (t : Takes) (es : List (Entry ℕ)) (v : Taken ℕ) → EntriesBelow n es
     → picked t es ≡ Ok v → TakenBelow n v
@@ -101,12 +91,11 @@ above_below n t es v h e =
 pub top_below : (n : ℕ) (es : List (Entry ℕ)) (p : ℕ × List (Entry ℕ)) → EntriesBelow n es
     → top es ≡ Ok p → p.0 < n
 top_below n (Item x ∷ es) p h e = subst (λ z. z.0 < n) (ok_same _ p e) h.0
-top_below n (Mark ∷ es) p h e = err_ok _ p e
-top_below n [] p h e = err_ok _ p e
+top_below n es p h e = cc
 
 pop_below : (n : ℕ) (es : List (Entry ℕ)) (h g : Shape ℕ) → EntriesBelow n es → CellsBelow n h.memo
     → popped es h ≡ Ok g → IsHeld n g
-pop_below n [] h g b m e = err_ok _ g e
+pop_below n [] h g b m e = cc
 pop_below n (Mark ∷ es) h g b m e = subst (IsHeld n) (ok_same _ g e)
     (record { entries = b; memo = m })
 pop_below n (Item x ∷ es) h g b m e = subst (IsHeld n) (ok_same _ g e)
@@ -125,27 +114,19 @@ stored_below n k x [] l h = (l, tt)
 stored_below n k x (c ∷ cs) l h = put_below n k x (nat_cmp k c.0) c cs (stored k x cs) l h
     (stored_below n k x cs l h.1)
 
-none_some : {A C : Type 0} (x : A) → None ≡ Some x → C
-none_some x e = cc
-
-some_value : {A : Type 0} → A → Option A → A
-some_value d (Some a) = a
-some_value d None = d
-
 cond_below : (n : ℕ) (b : Bool) (y x : ℕ) (o : Option ℕ) → y < n → (o ≡ Some x → x < n)
     → cond b (Some y) o ≡ Some x → x < n
-unfolding some_value
-cond_below n true y x o l f e = subst (λ z. z < n) (ap (some_value y) e) l
+cond_below n true y x o l f e = subst (λ z. z < n) (same_Some y x e) l
 cond_below n false y x o l f e = f e
 
 recalled_below : (n k x : ℕ) (cs : List (ℕ × ℕ)) → CellsBelow n cs → recalled k cs ≡ Some x → x < n
-recalled_below n k x [] h e = none_some x e
+recalled_below n k x [] h e = cc
 recalled_below n k x (c ∷ cs) h e = cond_below n (is_eq (nat_cmp k c.0)) c.1 x (recalled k cs) h.0
     (recalled_below n k x cs h.1) e
 
 fetch_below : (n k : ℕ) (o : Option ℕ) (h g : Shape ℕ) → IsHeld n h → ((x : ℕ) → o ≡ Some x → x < n)
     → fetched o k h ≡ Ok g → IsHeld n g
-fetch_below n k None h g b f e = err_ok _ g e
+fetch_below n k None h g b f e = cc
 fetch_below n k (Some x) h g b f e = subst (IsHeld n) (ok_same _ g e)
     (record { entries = (f x refl, b.entries); memo = b.memo })
 
@@ -185,8 +166,7 @@ moved_below n move.Passes k h g b e = subst (IsHeld n) (ok_same _ g e) b
 items_one : (es : List (Entry ℕ)) (above : List ℕ) (v : Taken ℕ) → items 1 es above ≡ Ok v
     → (r : ℕ) × (fs : List (Entry ℕ)) × (v ≡ record { operands = r ∷ above; below = fs })
 items_one (Item r ∷ es) above v e = (r, es, sym (ok_same _ v e))
-items_one (Mark ∷ es) above v e = err_ok _ v e
-items_one [] above v e = err_ok _ v e
+items_one es above v e = cc
 
 -- what receives the rest stands first
 pub above_first : (t : Takes) (es : List (Entry ℕ)) (v : Taken ℕ) → found_above t es ≡ Ok v

@@ -1,6 +1,6 @@
 -- What can be built of the parts.
 use Rattle.std.proofs.Common.{◌≡◌, ℕ, suc, ◌+◌, ◌-◌, ◌<◌, ◌≤◌, List, [], ◌∷◌, ◌++◌, length, take}
-use Rattle.std.proofs.Common.{drop, get_or, refl, sym, ap, subst, arith, rules, Some, Bool, String}
+use Rattle.std.proofs.Common.{drop, get_or, refl, sym, ap, subst, arith, rules, Bool, String}
 use Rattle.std.proofs.Common.{Global, string_bytes}
 use Rattle.std.specs.Ordering.{nat_cmp}
 use Rattle.std.specs.Cmp.Lexicographic.{slice_cmp}
@@ -17,32 +17,34 @@ use Rattle.pkjson.specs.Private.Fits.{Fits, ItemsFit, MembersFit}
 use Rattle.pkjson.proofs.Values.OneValue.{as_sequence, as_pairs}
 use Rattle.pkjson.proofs.Parts.Weights.{snoc, snoc_member, unfold_snoc, member_snoc, at_seam}
 use Rattle.pkjson.proofs.Parts.Weights.{member_seam}
-use Rattle.pkjson.proofs.Parts.NodesHeld.{seam, named_seam, take_more, named_more}
+use Rattle.std.proofs.lemmas.List.{take_more}
+use Rattle.pkjson.proofs.Parts.NodesHeld.{Holds, seam, named_seam, named_more}
 
-module _ (h : Heap) (fuel : ℕ) where
-  pub fits_some : (x : ℕ) (xs : List ℕ) → h x ≡ Some (Sequence xs) → Fits h fuel x → 1 ≤ fuel
+module _ {h : Heap} {x : ℕ} (fuel : ℕ) where
+  pub fits_some : {xs : List ℕ} → Holds h x (Sequence xs) → Fits h fuel x → 1 ≤ fuel
   unfolding Fits
-  fits_some x xs e f = let i = as_sequence h x xs f.0 e f.1 in
+  fits_some {xs} e f = let i = as_sequence h x xs f.0 e.is f.1 in
       let d : depth f.0 ≡ suc (items_depth i.0) = ap depth i.1 in omega (arith, d, f.2)
 
-  pub fits_items : (x : ℕ) (xs : List ℕ) → h x ≡ Some (Sequence xs) → Fits h fuel x
+  pub fits_items : {xs : List ℕ} → Holds h x (Sequence xs) → Fits h fuel x
       → ItemsFit h (fuel - 1) xs
   unfolding Fits ItemsFit
-  fits_items x xs e f = let i = as_sequence h x xs f.0 e f.1 in
+  fits_items {xs} e f = let i = as_sequence h x xs f.0 e.is f.1 in
       let d : depth f.0 ≡ suc (items_depth i.0) = ap depth i.1 in (i.0, i.2, omega (arith, d, f.2))
 
-  pub fits_any : (x : ℕ) (ps : List (List ℕ × ℕ)) → h x ≡ Some (Pairs ps) → Fits h fuel x → 1 ≤ fuel
+  pub fits_any : {ps : List (List ℕ × ℕ)} → Holds h x (Pairs ps) → Fits h fuel x → 1 ≤ fuel
   unfolding Fits
-  fits_any x ps e f = let i = as_pairs h x ps f.0 e f.1 in
+  fits_any {ps} e f = let i = as_pairs h x ps f.0 e.is f.1 in
       let d : depth f.0 ≡ suc (members_depth i.0) = ap depth i.1 in omega (arith, d, f.2)
 
-  pub fits_members : (x : ℕ) (ps : List (List ℕ × ℕ)) → h x ≡ Some (Pairs ps) → Fits h fuel x
+  pub fits_members : {ps : List (List ℕ × ℕ)} → Holds h x (Pairs ps) → Fits h fuel x
       → MembersFit h (fuel - 1) ps
   unfolding Fits MembersFit
-  fits_members x ps e f = let i = as_pairs h x ps f.0 e f.1 in
+  fits_members {ps} e f = let i = as_pairs h x ps f.0 e.is f.1 in
       let d : depth f.0 ≡ suc (members_depth i.0) = ap depth i.1 in
       (i.0, i.2, omega (arith, d, f.2))
 
+module _ (h : Heap) (fuel : ℕ) where
   pub item_fits : (xs : List ℕ) (n : ℕ) → n < length xs → ItemsFit h fuel xs
       → Fits h fuel (get_or xs n 0)
   unfolding Fits ItemsFit
@@ -91,8 +93,7 @@ unfolding snoc_member
 put_last h [] p ys no_members v a u = refl
 put_last h (x ∷ xs) p ys (member k w ms) v a u =
     rw (← u.0, above x.0 xs p ys a.0) (ap (member x.0 w) (put_last h xs p ys ms v a.1 u.2))
-put_last h [] p ys (member k w ms) v a u = absurd u
-put_last h (x ∷ xs) p ys no_members v a u = absurd u
+put_last h xs p ys ms v a u = absurd u
 
 pub member_built : (h : Heap) (ps : List (Bor (List ℕ) × ℕ)) (n : ℕ) (d : Bor (List ℕ) × ℕ)
     (ms : Members) (v : Data) → n < length ps → Ascending (named_members ps)

@@ -1,22 +1,20 @@
 -- What a node at a place says of the heap.
-use Rattle.std.proofs.Common.{◌≡◌, ℕ, zero, suc, ◌+◌, ◌<◌, List, [], ◌∷◌, ◌++◌, length, take, drop}
-use Rattle.std.proofs.Common.{get_or, refl, sym, ap, ◌∙◌, subst, arith, Option, Some, add-one, ◌⊎◌}
-use Rattle.std.proofs.Common.{◌≢◌, inl, inr, get_or-set_same, get_or-set_other, drop-cons}
+use Rattle.std.proofs.lemmas.List.{take_more, take-append-drop, map-append}
+use Rattle.std.proofs.Common.{◌≡◌, ℕ, suc, ◌+◌, ◌<◌, List, [], ◌∷◌, ◌++◌, length, take, drop}
+use Rattle.std.proofs.Common.{get_or, refl, sym, ap, ◌∙◌, subst, Some, inl, inr, get_or-set_same}
+use Rattle.std.proofs.Common.{get_or-set_other, drop-cons, Vec, Global}
 use Rattle.std.specs.Prelude.{Vec, option_map, slice_get, slice_index}
-use Rattle.std.proofs.Common.{◌≡◌, ℕ, List, length, refl, sym, ap, ◌∙◌, subst, Vec, Global}
 use Rattle.std.specs.Borrow.{Bor}
 use Rattle.std.proofs.lemmas.Option.{slice_get_read, slice_get_within, get_or_from_slice_get}
 use Rattle.std.proofs.lemmas.Option.{slice_get-get_or}
-use Rattle.std.proofs.lemmas.List.{take-append-drop, map-append}
-use Rattle.std.proofs.Math.Seq.{take-suc}
-use Rattle.std.proofs.lemmas.Bool.{cases_lt}
+use Rattle.std.proofs.lemmas.Bool.{cases_eq}
 use Rattle.std.proofs.Math.ListN.{set, length-set}
 use Rattle.pkjson.specs.declared.node.Node.{Node}
 use Rattle.pkjson.specs.declared.judge.Weight.{Weight}
 use Rattle.pkjson.specs.declared.objects.Object.{Object}
 use Rattle.pkjson.specs.declared.settled.Settled.{Settled}
 use Rattle.pkjson.specs.Unfolds.{Content, Heap}
-use Rattle.pkjson.specs.Private.Nodes.{content, node_of, nodes_from, nodes_of, size, IsBelow}
+use Rattle.pkjson.specs.Private.Nodes.{content, heap, node_of, nodes_from, nodes_of, size, IsBelow}
 use Rattle.pkjson.specs.Private.Nodes.{IsClosed, IsNode, IsOrdered, Shows, AreOrdered}
 use Rattle.pkjson.specs.Private.Nodes.{named_members}
 use Rattle.pkjson.specs.Private.Weighs.{Weighs, IsTrusted, no_weight}
@@ -28,23 +26,26 @@ Member = Bor (List ℕ) × ℕ
 abbrev pub Dict : Type 0
 Dict = Vec Member Global
 
-pub held : (o : Option Content) (n m : Node) → o ≡ Some (content n) → n ≡ m → o ≡ Some (content m)
-held o n m e f = e ∙ ap (λ z. Some (content z)) f
+-- what an object holds
+pub record Holds (h : Heap) (x : ℕ) (c : Content) : Type 0 where
+  pub is : h x ≡ Some c
 
-pub below : (k : ℕ) (n m : Node) → IsBelow k n → n ≡ m → IsBelow k m
-below k n m b f = subst (IsBelow k) f b
+module _ {s : Settled} {x : ℕ} {n m : Node} (node : IsNode s x n) (same : n ≡ m) where
+  pub held : Holds (heap s) x (content m)
+  held = record { is = node.held ∙ ap (λ z. Some (content z)) same }
 
-pub ordered : (n m : Node) → IsOrdered n → n ≡ m → IsOrdered m
-ordered n m o f = subst IsOrdered f o
+  pub below : IsClosed s → IsBelow (size s) m
+  below closed = subst (IsBelow (size s)) same (node.below closed)
+
+  pub ordered : AreOrdered s → IsOrdered m
+  ordered each = subst IsOrdered same (node.ordered each)
 
 nodes_get : (ds : List Dict) (os : List Object) (ps : List ℕ) (x : ℕ)
     → slice_get (nodes_from ds os ps) x ≡ option_map (node_of ds (slice_index ps x))
     (slice_get os x)
-nodes_get ds [] ps x = refl
-nodes_get ds (o ∷ os) [] zero = refl
 nodes_get ds (o ∷ os) [] (suc x) = nodes_get ds os [] x
-nodes_get ds (o ∷ os) (p ∷ ps) zero = refl
 nodes_get ds (o ∷ os) (p ∷ ps) (suc x) = nodes_get ds os ps x
+nodes_get ds os ps x = refl
 
 -- an object read where it lies
 pub node_there : (s : Settled) (x : ℕ) (o : Object) (n : Node) → x < size s
@@ -68,20 +69,10 @@ pub seam : {A : Type 0} (xs : List A) (i : ℕ) (d : A) → i < length xs
     → take i xs ++ get_or xs i d ∷ drop (suc i) xs ≡ xs
 seam xs i d h = ap (λ l. take i xs ++ l) (sym (drop-cons xs i d h)) ∙ take-append-drop i xs
 
-pub take_more : {A : Type 0} (xs : List A) (i : ℕ) (d : A) → i < length xs
-    → take (i + 1) xs ≡ take i xs ++ get_or xs i d ∷ []
-take_more xs i d h = rw (add-one, take-suc xs i d h) refl
-
-nat_apart : (a b : ℕ) → (a ≡ b) ⊎ (a ≢ b)
-nat_apart a b = elim (cases_lt a b) [
-  | inl p ↦ inr (omega arith)
-  | inr p ↦ elim (cases_lt b a) [ inl q ↦ inr (omega arith) | inr q ↦ inl (omega arith) ]
-]
-
 pub trusted_set : (h : Heap) (cap : ℕ) (done : List Weight) (x : ℕ) (w : Weight) → x < length done
     → IsTrusted h cap done → Weighs h cap x w → IsTrusted h cap (set done x w)
 unfolding IsTrusted
-trusted_set h cap done x w l t d y v e some = elim (nat_apart y x) [
+trusted_set h cap done x w l t d y v e some = elim (cases_eq y x) [
   | inl q ↦ subst (λ z. Weighs h cap z v) (sym q) (subst (λ u. Weighs h cap x u)
       (sym (get_or-set_same done x w no_weight l)
       ∙ ap (λ z. get_or (set done x w) z no_weight) (sym q)

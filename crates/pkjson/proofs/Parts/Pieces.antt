@@ -9,8 +9,8 @@ use Rattle.std.proofs.lemmas.Bool.{lt-ltb}
 use Rattle.std.specs.List.{drop-map}
 use Rattle.std.proofs.lemmas.List.{take_at, take_all, take-map}
 use Rattle.std.proofs.lemmas.List.Edits.{length-between}
-use Rattle.serde_json.specs.Data.{array, object, string, Items, no_items, item}
-use Rattle.serde_json.specs.Data.{Members, no_members, member}
+use Rattle.serde_json.specs.Data.{array, object, string, Items, no_items, item, Members, no_members}
+use Rattle.serde_json.specs.Data.{member}
 use Rattle.serde_json.specs.Written.{comma_if, compact_text, items_text, members_text}
 use Rattle.pkjson.specs.Unfolds.{Sequence, Pairs, Heap, UnfoldItems, UnfoldMembers}
 use Rattle.pkjson.specs.Private.Nodes.{named_members}
@@ -18,7 +18,7 @@ use Rattle.pkjson.specs.Private.Parts.{IsArrayText, IsObjectText}
 use Rattle.pkjson.specs.Private.Pieces.{Writes, WritesItems, WritesMembers, items_inside}
 use Rattle.pkjson.specs.Private.Pieces.{members_inside}
 use Rattle.pkjson.specs.Private.Sends.{IsCompact}
-use Rattle.pkjson.proofs.Parts.NodesHeld.{Member, no_member}
+use Rattle.pkjson.proofs.Parts.NodesHeld.{Holds, Member, no_member}
 use Rattle.pkjson.proofs.Parts.Sent.{named_length}
 
 pub appends_none : (a : Option (List ℕ)) → Appends a a []
@@ -137,8 +137,7 @@ members_later_true (member k v vs) = members_later_true vs
 -- a list of one
 single : {A : Type 0} (xs : List A) (d : A) → length xs ≡ 1 → xs ≡ get_or xs 0 d ∷ []
 single (x ∷ []) d e = refl
-single [] d e = absurd (omega (arith, e))
-single (x ∷ y ∷ xs) d e = absurd (omega (arith, e))
+single xs d e = absurd (omega (arith, e))
 
 -- some of the members by their keys
 pub named_some : (ps : List Member) (n m : ℕ)
@@ -151,16 +150,14 @@ module _ (h : Heap) where
       → UnfoldItems h (xs ++ ys) (both vs ws)
   unfold_both [] ys no_items ws u t = t
   unfold_both (x ∷ xs) ys (item v vs) ws u t = (u.0, unfold_both xs ys vs ws u.1 t)
-  unfold_both [] ys (item v vs) ws u t = absurd u
-  unfold_both (x ∷ xs) ys no_items ws u t = absurd u
+  unfold_both xs ys vs ws u t = absurd u
 
   unfold_both_members : (xs ys : List (List ℕ × ℕ)) (vs ws : Members) → UnfoldMembers h xs vs
       → UnfoldMembers h ys ws → UnfoldMembers h (xs ++ ys) (both_members vs ws)
   unfold_both_members [] ys no_members ws u t = t
   unfold_both_members (x ∷ xs) ys (member k v vs) ws u t =
       (u.0, u.1, unfold_both_members xs ys vs ws u.2 t)
-  unfold_both_members [] ys (member k v vs) ws u t = absurd u
-  unfold_both_members (x ∷ xs) ys no_members ws u t = absurd u
+  unfold_both_members xs ys vs ws u t = absurd u
 
   -- the comma before the first of these stands apart
   items_apart : (xs : List ℕ) (vs : Items) (later : Bool) → 0 < length xs → UnfoldItems h xs vs
@@ -180,20 +177,18 @@ module _ (h : Heap) where
   items_begun : (n : ℕ) (xs : List ℕ) (vs : Items) → n ≤ length xs → UnfoldItems h (take n xs) vs
       → items_later false vs ≡ nat_lt 0 n
   items_begun zero xs no_items l u = refl
-  items_begun zero xs (item v vs) l u = absurd u
   items_begun (suc n) (x ∷ xs) (item v vs) l u =
       items_later_true vs ∙ sym (lt-ltb 0 (suc n) (omega arith))
-  items_begun (suc n) (x ∷ xs) no_items l u = absurd u
   items_begun (suc n) [] vs l u = absurd (omega (arith, l))
+  items_begun n xs vs l u = absurd u
 
   members_begun : (n : ℕ) (xs : List (List ℕ × ℕ)) (vs : Members) → n ≤ length xs
       → UnfoldMembers h (take n xs) vs → members_later false vs ≡ nat_lt 0 n
   members_begun zero xs no_members l u = refl
-  members_begun zero xs (member k v vs) l u = absurd u
   members_begun (suc n) (x ∷ xs) (member k v vs) l u =
       members_later_true vs ∙ sym (lt-ltb 0 (suc n) (omega arith))
-  members_begun (suc n) (x ∷ xs) no_members l u = absurd u
   members_begun (suc n) [] vs l u = absurd (omega (arith, l))
+  members_begun n xs vs l u = absurd u
 
   module _ (n m : ℕ) (a b c d : Option (List ℕ)) where
     pub more_items : (xs : List ℕ) → n < m → m ≤ length xs → WritesItems h (take n xs) a b
@@ -207,10 +202,8 @@ module _ (h : Heap) where
         (items_apart (slice_range xs n m) s.0 (items_later false w.0) some s.1
         ∙ ap (λ later. comma_if later ++ items_inside false s.0) begun) in (
           both w.0 s.0,
-          subst (λ ys. UnfoldItems h ys (both w.0 s.0)) (sym (grown xs n m l))
-              (unfold_both (take n xs) (slice_range xs n m) w.0 s.0 w.1 s.1),
-          subst (λ (t : List ℕ). Appends a d t) (sym is)
-              (appends_then a b d (items_inside false w.0) _ w.2
+          rw (grown xs n m l) (unfold_both (take n xs) (slice_range xs n m) w.0 s.0 w.1 s.1),
+          rw is (appends_then a b d (items_inside false w.0) _ w.2
               (appends_then b c d (comma_if (nat_lt 0 n)) (items_inside false s.0) p s.2)),
         )
 
@@ -228,8 +221,7 @@ module _ (h : Heap) where
           both_members w.0 s.0,
           subst (λ ys. UnfoldMembers h ys (both_members w.0 s.0)) (sym (grown xs n m l))
               (unfold_both_members (take n xs) (slice_range xs n m) w.0 s.0 w.1 s.1),
-          subst (λ (t : List ℕ). Appends a d t) (sym is)
-              (appends_then a b d (members_inside false w.0) _ w.2
+          rw is (appends_then a b d (members_inside false w.0) _ w.2
               (appends_then b c d (comma_if (nat_lt 0 n)) (members_inside false s.0) p s.2)),
         )
 
@@ -278,16 +270,14 @@ module _ (h : Heap) where
       ∙ ap (λ (t : List ℕ). key ++ 58 ∷ t) (sym (append-nil (compact_text w.0))) in (
         member k w.0 no_members,
         (refl, w.1, tt),
-        subst (λ (t : List ℕ). Appends a c t) is
-            (appends_then a b c (key ++ 58 ∷ []) (compact_text w.0) p w.2),
+        rw is at (appends_then a b c (key ++ 58 ∷ []) (compact_text w.0) p w.2),
       )
 
   pub one_member : (ps : List Member) (a b c : Option (List ℕ)) → length ps ≡ 1
       → Appends a b (compact_text (string (get_or ps 0 no_member).0.now) ++ 58 ∷ [])
       → Writes h (get_or ps 0 no_member).1 b c → WritesMembers h (named_members ps) a c
   one_member ps a b c l p w =
-      subst (λ qs. WritesMembers h (named_members qs) a c) (sym (single ps no_member l))
-      (one_pair _ _ a b c p w)
+      rw (single ps no_member l) (one_pair _ _ a b c p w)
 
   -- a part by its text
   pub whole_written : (x : ℕ) (text : List ℕ) (a b : Option (List ℕ)) → IsCompact h x text
@@ -310,8 +300,7 @@ module _ (h : Heap) where
   array_written xs text a b c p = (
     c.0,
     c.1,
-    subst (λ (t : List ℕ). Appends a b t)
-        (inside_of 91 93 (items_inside false c.0) text (c.2 ∙ array_closed c.0)) p,
+    rw (inside_of 91 93 (items_inside false c.0) text (c.2 ∙ array_closed c.0)) at p,
   )
 
   pub object_written : (ps : List (List ℕ × ℕ)) (text : List ℕ) (a b : Option (List ℕ))
@@ -321,30 +310,27 @@ module _ (h : Heap) where
   object_written ps text a b c p = (
     c.0,
     c.1,
-    subst (λ (t : List ℕ). Appends a b t)
-        (inside_of 123 125 (members_inside false c.0) text (c.2 ∙ object_closed c.0)) p,
+    rw (inside_of 123 125 (members_inside false c.0) text (c.2 ∙ object_closed c.0)) at p,
   )
 
-  -- the whole between its brackets
-  module _ (x : ℕ) (a b c d : Option (List ℕ)) where
-    pub list_written : (xs : List ℕ) → h x ≡ Some (Sequence xs) → Appends a b (91 ∷ [])
-        → WritesItems h xs b c → Appends c d (93 ∷ []) → Writes h x a d
-    unfolding Writes WritesItems
-    list_written xs e p w q = (
-      array w.0,
-      (xs, e, w.1),
-      subst (λ (t : List ℕ). Appends a d t) (sym (array_closed w.0))
-          (appends_then a b d (91 ∷ []) _ p
-          (appends_then b c d (items_inside false w.0) (93 ∷ []) w.2 q)),
-    )
+-- the whole between its brackets
+module _ {h : Heap} {x : ℕ} (a b c d : Option (List ℕ)) where
+  pub list_written : {xs : List ℕ} → Holds h x (Sequence xs) → Appends a b (91 ∷ [])
+      → WritesItems h xs b c → Appends c d (93 ∷ []) → Writes h x a d
+  unfolding Writes WritesItems
+  list_written {xs} e p w q = (
+    array w.0,
+    (xs, e.is, w.1),
+    rw (array_closed w.0) (appends_then a b d (91 ∷ []) _ p
+        (appends_then b c d (items_inside false w.0) (93 ∷ []) w.2 q)),
+  )
 
-    pub dict_written : (ps : List (List ℕ × ℕ)) → h x ≡ Some (Pairs ps) → Appends a b (123 ∷ [])
-        → WritesMembers h ps b c → Appends c d (125 ∷ []) → Writes h x a d
-    unfolding Writes WritesMembers
-    dict_written ps e p w q = (
-      object w.0,
-      (ps, e, w.1),
-      subst (λ (t : List ℕ). Appends a d t) (sym (object_closed w.0))
-          (appends_then a b d (123 ∷ []) _ p
-          (appends_then b c d (members_inside false w.0) (125 ∷ []) w.2 q)),
-    )
+  pub dict_written : {ps : List (List ℕ × ℕ)} → Holds h x (Pairs ps) → Appends a b (123 ∷ [])
+      → WritesMembers h ps b c → Appends c d (125 ∷ []) → Writes h x a d
+  unfolding Writes WritesMembers
+  dict_written {ps} e p w q = (
+    object w.0,
+    (ps, e.is, w.1),
+    rw (object_closed w.0) (appends_then a b d (123 ∷ []) _ p
+        (appends_then b c d (members_inside false w.0) (125 ∷ []) w.2 q)),
+  )

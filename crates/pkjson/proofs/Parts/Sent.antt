@@ -1,11 +1,11 @@
 -- What is sent of the parts makes what is sent of the whole.
+use Rattle.std.proofs.lemmas.List.{length-map, drop_all}
 use Rattle.std.proofs.Common.{◌≡◌, ℕ, suc, ◌+◌, ◌<◌, ◌≤◌, ℤ, Bool, false, List, [], ◌∷◌, length}
 use Rattle.std.proofs.Common.{drop, get_or, refl, ap, subst, Option, Some, None, add-one, drop-cons}
 use Rattle.std.specs.Prelude.{option_map, slice_get}
 use Rattle.std.specs.Borrow.{Bor}
 use Rattle.std.proofs.Props.{props}
 use mathlib.Core.HLevel.{Π_prop}
-use Rattle.std.proofs.lemmas.List.{drop_all}
 use Rattle.serde.specs.Event as event
 use Rattle.serde.specs.Event.{Log, Logs}
 use Rattle.serde.specs.declared.name.Case.TheVariants.{AsIs}
@@ -16,6 +16,7 @@ use Rattle.serde_json.specs.Find.{of_integer}
 use Rattle.serde_json.specs.Sent.{IsTextOf}
 use Rattle.serde_json.specs.Written.{has_float}
 use Rattle.serde_json.proofs.FreeTexts.{text_of_value}
+use Rattle.pkjson.proofs.Parts.NodesHeld.{Holds}
 use Rattle.pkjson.specs.declared.node.Node.{Node}
 use Rattle.pkjson.specs.declared.node.Node.TheVariants as node
 use Rattle.pkjson.specs.Unfolds.{Scalar, Sequence, Pairs, Heap, UnfoldItems, UnfoldMembers}
@@ -30,53 +31,54 @@ use Rattle.pkjson.specs.declared.writing.Part.TheVariants as part
 use Rattle.pkjson.proofs.Values.NoFloats.{floatless_in, integer_floatless, items_floatless}
 use Rattle.pkjson.proofs.Values.NoFloats.{members_floatless}
 
-module _ (h : Heap) (x : ℕ) (old new : Log) where
-  pub sends_null : h x ≡ Some (Scalar null) → Logs old new event.nothing → Sends h x old new
+module _ {h : Heap} {x : ℕ} (old new : Log) where
+  pub sends_null : Holds h x (Scalar null) → Logs old new event.nothing → Sends h x old new
   unfolding Sends
-  sends_null e t = (null, e, t)
+  sends_null e t = (null, e.is, t)
 
-  pub sends_bool : (b : Bool) → h x ≡ Some (Scalar (boolean b)) → Logs old new (event.boolean b)
+  pub sends_bool : {b : Bool} → Holds h x (Scalar (boolean b)) → Logs old new (event.boolean b)
       → Sends h x old new
   unfolding Sends
-  sends_bool b e t = (boolean b, e, t)
+  sends_bool {b} e t = (boolean b, e.is, t)
 
-  pub sends_text : (s : List ℕ) → h x ≡ Some (Scalar (string s)) → Logs old new (event.text s)
+  pub sends_text : {s : List ℕ} → Holds h x (Scalar (string s)) → Logs old new (event.text s)
       → Sends h x old new
   unfolding Sends
-  sends_text s e t = (string s, e, t)
+  sends_text {s} e t = (string s, e.is, t)
 
-  pub sends_int : (z : ℤ) (n : Num) → h x ≡ Some (Scalar (number (of_integer z))) → n ≡ of_integer z
-      → Logs old new (number_event n) → Sends h x old new
+  pub sends_int : (z : ℤ) (n : Num) → Holds h x (Scalar (number (of_integer z)))
+      → n ≡ of_integer z → Logs old new (number_event n) → Sends h x old new
   unfolding Sends
-  sends_int z n e is t = (number (of_integer z), e, subst (λ m. Logs old new (number_event m)) is t)
+  sends_int z n e is t = (
+    number (of_integer z),
+    e.is,
+    subst (λ m. Logs old new (number_event m)) is t,
+  )
 
-  pub sends_array : (xs : List ℕ) → h x ≡ Some (Sequence xs) → SendsArray h xs old new
+  pub sends_array : {xs : List ℕ} → Holds h x (Sequence xs) → SendsArray h xs old new
       → Sends h x old new
   unfolding Sends SendsArray
-  sends_array xs e w = (array w.0, (xs, e, w.1), w.2)
+  sends_array {xs} e w = (array w.0, (xs, e.is, w.1), w.2)
 
-  pub sends_object : (ps : List (List ℕ × ℕ)) → h x ≡ Some (Pairs ps) → SendsObject h ps old new
+  pub sends_object : {ps : List (List ℕ × ℕ)} → Holds h x (Pairs ps) → SendsObject h ps old new
       → Sends h x old new
   unfolding Sends SendsObject
-  sends_object ps e w = (object w.0, (ps, e, w.1), w.2)
+  sends_object {ps} e w = (object w.0, (ps, e.is, w.1), w.2)
 
 pub named_length : (ps : List (Bor (List ℕ) × ℕ)) → length (named_members ps) ≡ length ps
-named_length [] = refl
-named_length (p ∷ ps) = ap suc (named_length ps)
+named_length ps = length-map ps _
 
 module _ (h : Heap) where
   items_length : (xs : List ℕ) (vs : Items) → UnfoldItems h xs vs → items_len vs ≡ length xs
   items_length [] no_items u = refl
   items_length (x ∷ xs) (item v vs) u = ap suc (items_length xs vs u.1)
-  items_length [] (item v vs) u = absurd u
-  items_length (x ∷ xs) no_items u = absurd u
+  items_length xs vs u = absurd u
 
   members_length : (ps : List (List ℕ × ℕ)) (ms : Members) → UnfoldMembers h ps ms
       → members_len ms ≡ length ps
   members_length [] no_members u = refl
   members_length (p ∷ ps) (member k v ms) u = ap suc (members_length ps ms u.2)
-  members_length [] (member k v ms) u = absurd u
-  members_length (p ∷ ps) no_members u = absurd u
+  members_length ps ms u = absurd u
 
   -- whatever ends an array well from its n-th item on ends it well from the first one on
   abbrev pub ItemsSoFar : List ℕ → ℕ → Log → Log → Type 0
@@ -134,14 +136,12 @@ module _ (h : Heap) where
 -- whether each object names only objects that there are is a proposition
 below_prop : (n : ℕ) (m : Node) → IsProp (IsBelow n m)
 below_prop n (node.List v) = Prim.hlevel props
-below_prop n (node.Dict v) = Prim.hlevel props
 below_prop n _ = Prim.hlevel props
 
 -- so is whether a part does
 pub part_below_prop : (n : ℕ) (p : Part) → IsProp (IsPartBelow n p)
 part_below_prop n (part.Object x) = Prim.hlevel props
-part_below_prop n (part.Items xs) = Prim.hlevel props
-part_below_prop n (part.Members ps) = Prim.hlevel props
+part_below_prop n p = Prim.hlevel props
 
 pub closed_prop : (s : Settled) → IsProp (IsClosed s)
 unfolding IsClosed
@@ -156,8 +156,7 @@ node_floatless (node.Int z) d e = let is : number (of_integer z) ≡ d = cc in
     subst (λ v. has_float v ≡ false) is (integer_floatless z)
 node_floatless (node.Text t) d e = let is : string t.now ≡ d = cc in
     subst (λ v. has_float v ≡ false) is refl
-node_floatless (node.List v) d e = absurd cc
-node_floatless (node.Dict v) d e = absurd cc
+node_floatless n d e = absurd cc
 
 heap_floatless : (o : Option Node) (d : Data) → option_map content o ≡ Some (Scalar d)
     → has_float d ≡ false

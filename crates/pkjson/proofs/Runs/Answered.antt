@@ -10,6 +10,7 @@ use Rattle.pkops.specs.Limits.{Bounds}
 use Rattle.pkops.specs.Spelling.{Instruction}
 use Rattle.pkmachine.specs.Effects.{effect_of}
 use Rattle.pkstack.specs.Shape.{Entry, top}
+use Rattle.std.proofs.lemmas.Result.{IfErr-weaker, IfOk-weaker}
 use Rattle.pkjson.specs.declared.action.Action.TheVariants.{Stops}
 use Rattle.pkjson.specs.declared.arena.Arena.{Arena as Held}
 use Rattle.pkjson.specs.declared.error.ExportError.{ExportError}
@@ -19,8 +20,8 @@ use Rattle.pkjson.specs.declared.objects.Object.{Object}
 use Rattle.pkjson.specs.Private.PlainActions.{ActsAs}
 use Rattle.pkjson.specs.Private.Arena.{Kept, holds}
 use Rattle.pkjson.specs.Contents.{contents}
-use Rattle.pkjson.specs.Export.{AcceptedAs, AppendsText, Results, IsValueOf}
-use Rattle.pkjson.specs.Export.{IsTextOf, IsNotExported}
+use Rattle.pkjson.specs.Export.{AcceptedAs, AppendsText, Results, IsValueOf, IsTextOf}
+use Rattle.pkjson.specs.Export.{IsNotExported}
 use Rattle.pkjson.specs.Private.Held.{parts}
 use Rattle.pkjson.specs.Private.Nodes.{heap_of}
 use Rattle.pkjson.specs.Plain.{is_plain_data}
@@ -28,10 +29,9 @@ use Rattle.pkjson.specs.Private.Replayed.{Replays}
 use Rattle.pkjson.specs.Private.Result.{IsAnswered, IsValue, IsText, IsTooLarge}
 use Rattle.pkjson.specs.Private.Seen.{kept_all}
 use Rattle.pkjson.specs.Private.Settled.{AreGivenBelow, AreSettled}
-use Rattle.pkjson.specs.Private.ReplayProgress.{StandsAt}
+use Rattle.pkjson.proofs.Runs.PlainRun.{StandsAt, stops_here}
 use Rattle.pkjson.proofs.Values.NoFloats.{floatless}
 use Rattle.pkjson.proofs.Kept.EventsMirrored.{mirrors_contents}
-use Rattle.pkjson.proofs.Runs.PlainRun.{stops_here}
 use Rattle.pkjson.proofs.DictKeys.SettledMembers.{settled_heap, all_given_below, kept_length}
 use Rattle.pkjson.proofs.Kept.OperandsTaken.{ok_same, top_below}
 use Rattle.pkjson.proofs.Values.ByContents.{unfolds_same}
@@ -119,20 +119,17 @@ module _ (ks : List Kept) (ns : List Node) (s : AreSettled ks ks ns) (deepest mo
   refusal_in : {A : Type 0} (r : Result A ExportError)
       → IfErr r (IsTooLarge (heap_of ns) deepest most x)
       → IfErr r (IsTooLarge (holds ks) deepest most x)
-  refusal_in (Ok w) h = h
-  refusal_in (Err e) h = is_too_large e h
+  refusal_in r = IfErr-weaker r _ _ is_too_large
 
   value_in : (r : Result Value ExportError) → IfOk r
       (λ w. IsValue (heap_of ns) deepest most x (view w))
       → IfOk r (λ w. IsValue (holds ks) deepest most x (view w))
-  value_in (Ok w) h = is_value (view w) h
-  value_in (Err e) h = h
+  value_in r = IfOk-weaker r _ _ (λ w. is_value (view w))
 
   text_in : (r : Result (Vec ℕ Global) ExportError)
       → IfOk r (λ t. IsText (heap_of ns) deepest most x t.items)
       → IfOk r (λ t. IsText (holds ks) deepest most x t.items)
-  text_in (Ok t) h = is_text t.items h
-  text_in (Err e) h = h
+  text_in r = IfOk-weaker r _ _ (λ t. is_text t.items)
 
 -- the answer that was written is that of the objects
 pub answered_held : (ks : List Kept) (ns : List Node) (s : AreSettled ks ks ns) (limits : Bounds)
@@ -151,19 +148,16 @@ module _ (ks : List Kept) (ns : List Node) (s : AreSettled ks ks ns) (d m deepes
   pub value_held : (r : Result Value ExportError)
       → IfOk r (λ w. IsValue (heap_of ns) d m x (view w))
       → IfOk r (λ w. IsValue (holds ks) deepest most x (view w))
-  value_held r h = subst (λ k. IfOk r (λ w. IsValue (holds ks) deepest k x (view w))) f
-      (subst (λ k. IfOk r (λ w. IsValue (holds ks) k m x (view w))) e (value_in ks ns s d m x r h))
+  value_held r h = rw (← e, ← f) (value_in ks ns s d m x r h)
 
   pub text_held : (r : Result (Vec ℕ Global) ExportError)
       → IfOk r (λ t. IsText (heap_of ns) d m x t.items)
       → IfOk r (λ t. IsText (holds ks) deepest most x t.items)
-  text_held r h = subst (λ k. IfOk r (λ t. IsText (holds ks) deepest k x t.items)) f
-      (subst (λ k. IfOk r (λ t. IsText (holds ks) k m x t.items)) e (text_in ks ns s d m x r h))
+  text_held r h = rw (← e, ← f) (text_in ks ns s d m x r h)
 
   pub refusal_held : {A : Type 0} (r : Result A ExportError)
       → IfErr r (IsTooLarge (heap_of ns) d m x) → IfErr r (IsTooLarge (holds ks) deepest most x)
-  refusal_held r h = subst (λ k. IfErr r (IsTooLarge (holds ks) deepest k x)) f
-      (subst (λ k. IfErr r (IsTooLarge (holds ks) k m x)) e (refusal_in ks ns s d m x r h))
+  refusal_held r h = rw (← e, ← f) (refusal_in ks ns s d m x r h)
 
 -- it is that of the bytes
 module _ (limits : Bounds) (bytes : List ℕ) (os : List Object) (x : ℕ)
@@ -181,8 +175,8 @@ module _ (limits : Bounds) (bytes : List ℕ) (os : List Object) (x : ℕ)
     pub value_answered : (r : Result Value ExportError)
         → IfOk r (λ w. IsValue (holds (kept_all ls)) limits.depth limits.values x (view w))
         → IfOk r (λ w. IsValueOf limits bytes (view w))
-    value_answered (Ok w) h = is_value_of limits bytes (kept_all ls) x there (view w) h
-    value_answered (Err f) h = h
+    value_answered r = IfOk-weaker r _ _
+        (λ w. is_value_of limits bytes (kept_all ls) x there (view w))
 
     pub text_answered : (r : Result (Vec ℕ Global) ExportError)
         → IfOk r (λ t. IsText (holds (kept_all ls)) limits.depth limits.values x t.items)
@@ -193,8 +187,7 @@ module _ (limits : Bounds) (bytes : List ℕ) (os : List Object) (x : ℕ)
     pub refusal_answered : {A : Type 0} (r : Result A ExportError)
         → IfErr r (IsTooLarge (holds (kept_all ls)) limits.depth limits.values x)
         → IfErr r (IsNotExported limits bytes)
-    refusal_answered (Ok w) h = h
-    refusal_answered (Err f) h = is_refused limits bytes (kept_all ls) x there f h
+    refusal_answered r = IfErr-weaker r _ _ (is_refused limits bytes (kept_all ls) x there)
 
     module _ (old new : Option (List ℕ)) where
       pub text_appended : (r : Result (Result (Unit {0}) ExportError) Error)

@@ -1,6 +1,6 @@
 -- What the next instruction of an accepted pickle says, as it is followed.
-use Rattle.std.proofs.Common.{◌≡◌, ◌≢◌, ℕ, true, false, ◌+◌, ◌<◌, ◌≤◌, List, ◌++◌, length}
-use Rattle.std.proofs.Common.{drop, refl, sym, ap, ◌∙◌, subst, arith, Some, None, Ok, length-append}
+use Rattle.std.proofs.Common.{◌≡◌, ◌≢◌, ℕ, true, false, ◌+◌, ◌<◌, ◌≤◌, List, ◌++◌, length, drop}
+use Rattle.std.proofs.Common.{Option, refl, sym, ap, ◌∙◌, subst, arith, Some, None, Ok, length-append}
 use Rattle.pkops.specs.declared.Inst.{Inst}
 use Rattle.pkops.specs.declared.Op.{Op}
 use Rattle.pkops.specs.declared.Op.TheVariants as op
@@ -22,35 +22,40 @@ use Rattle.pkjson.specs.Private.Mirrors.{EntriesBelow}
 use Rattle.pkjson.specs.Plain.{Fault, OtherOpcode, is_plain_data}
 use Rattle.pkjson.specs.Private.Replayed.{Replays}
 use Rattle.pkjson.specs.Private.Fronts.{HasFront, IsFront}
-use Rattle.pkjson.specs.Private.ReplayProgress.{Stands, StandsAt}
+use Rattle.pkjson.proofs.Runs.PlainRun.{Stands, StandsAt, stands_at, other_opcode, faulty}
+use Rattle.pkjson.proofs.Runs.PlainRun.{lacks_nothing, stands_behind, stops_here}
 use Rattle.pkjson.proofs.Runs.Answered.{replays}
 use Rattle.pkjson.proofs.Runs.RunToStop.{rest_is}
-use Rattle.pkjson.proofs.Runs.PlainRun.{stands_at, other_opcode, faulty, lacks_nothing}
-use Rattle.pkjson.proofs.Runs.PlainRun.{stands_behind, stops_here}
-use Rattle.pkjson.proofs.Kept.OperandsTaken.{err_ok}
 
 only_stop : (action : Action) → ActsAs action effect.Stops → action ≡ Stops
 only_stop Stops w = refl
 only_stop action w = absurd w
 
-module _ (limits : Bounds) (bytes rest : List ℕ) (at : ℕ) (h : Held) (acc : IsAccepted limits bytes)
-    (inv : (p : List Instruction) → AcceptedAs limits bytes p
-    → Stands limits.counted p rest at (parts h)) where
+-- an accepted pickle was replayed up to these bytes, and these are its objects
+pub record Replaying (limits : Bounds) (bytes rest : List ℕ) (at : ℕ) (h : Held) : Type 0 where
+  pub stands : (p : List Instruction) → AcceptedAs limits bytes p
+      → Stands limits.counted p rest at (parts h)
+
+module _ {limits : Bounds} {bytes rest : List ℕ} {at : ℕ} {h : Held} (acc : IsAccepted limits bytes)
+    (r : Replaying limits bytes rest at h) where
   pub entries_there : EntriesBelow (length (parts h).kept) (parts h).shape.entries
-  entries_there = (inv acc.0 acc.1).mirrors.held.entries
+  entries_there = (r.stands acc.0 acc.1).mirrors.held.entries
 
   pub a_front : HasFront limits.counted rest
-  a_front = let s = stands_at limits.counted acc.0 rest at (parts h) (inv acc.0 acc.1) in
+  a_front = let s = stands_at limits.counted acc.0 rest at (parts h) (r.stands acc.0 acc.1) in
       (s.0, spellings s.1.after ++ s.1.tail, s.1.spelled, s.1.here)
 
-  pub no_front : IsFront limits.counted rest None → ⊥
-  no_front f = let s = stands_at limits.counted acc.0 rest at (parts h) (inv acc.0 acc.1) in
-      f s.0 (spellings s.1.after ++ s.1.tail) s.1.spelled s.1.here
+  pub no_front : {o : Option (Inst × ℕ)} → IsFront limits.counted rest o → o ≡ None → ⊥
+  no_front f none = (rw none at f) a_front.0 a_front.1 a_front.2 a_front.3
 
-  module _ (inst : Inst) (n : ℕ) (f : IsFront limits.counted rest (Some (inst, n))) where
+  module _ {front : Option (Inst × ℕ)} {inst : Inst} {n : ℕ}
+      (found : IsFront limits.counted rest front) (is_some : front ≡ Some (inst, n)) where
+    f : IsFront limits.counted rest (Some (inst, n))
+    f = subst (IsFront limits.counted rest) is_some found
+
     here : (p : List Instruction) → AcceptedAs limits bytes p
         → StandsAt limits.counted p rest at (parts h) (instruction_of inst)
-    here p w = let s = stands_at limits.counted p rest at (parts h) (inv p w) in
+    here p w = let s = stands_at limits.counted p rest at (parts h) (r.stands p w) in
         subst (StandsAt limits.counted p rest at (parts h))
         (sym (f s.0 (spellings s.1.after ++ s.1.tail) s.1.spelled s.1.here).0) s.1
 
@@ -70,7 +75,7 @@ module _ (limits : Bounds) (bytes rest : List ℕ) (at : ℕ) (h : Held) (acc : 
     pub some : 0 < n
     some = omega (arith, long)
 
-    module _ (o : Op) (is : o ≡ (instruction_of inst).op) where
+    module _ {o : Op} (is : o ≡ (instruction_of inst).op) where
       pub other : is_plain_data o ≡ false → FaultsAt limits bytes at (OtherOpcode o)
       other e = subst (λ z. FaultsAt limits bytes at (OtherOpcode z)) (sym is) (
         acc.0,
@@ -101,10 +106,7 @@ module _ (limits : Bounds) (bytes rest : List ℕ) (at : ℕ) (h : Held) (acc : 
             (kind_by_effect (instruction o arg))) (goes : action ≢ Stops) where
           kinds_here : KindsAgree action (instruction_of inst)
               (kind_by_effect (instruction_of inst))
-          kinds_here = subst
-              (λ z. KindsAgree action (instruction z (instruction_of inst).arg)
-              (kind_by_effect (instruction z (instruction_of inst).arg))) is
-              (kinds (instruction_of inst).arg)
+          kinds_here = rw is at (kinds (instruction_of inst).arg)
 
           not_stop : (instruction_of inst).op ≢ op.Stop
           not_stop e =
@@ -116,26 +118,26 @@ module _ (limits : Bounds) (bytes rest : List ℕ) (at : ℕ) (h : Held) (acc : 
 
           pub on : (g : Held) → (fault_acted action (instruction_of inst) (parts h) ≡ None)
               → (acted action (instruction_of inst) (parts h) ≡ Ok (parts g))
-              → (p : List Instruction) → AcceptedAs limits bytes p
-              → Stands limits.counted p (drop n rest) (at + n) (parts g)
-          on g e k p w =
-              let s = here p w in
-              let q = stands_behind limits.counted p rest at (parts h)
-              (instruction_of inst) s action plain_here acts_here kinds_here goes
-              (parts g) not_stop e k in
-              let l = rest_is rest (spellings s.after ++ s.tail)
-              (instruction_of inst) n s.spelled long in
-              subst (λ z. Stands limits.counted p z (at + n) (parts g)) (sym l)
-              (subst
-              (λ z. Stands limits.counted p (spellings s.after ++ s.tail) (at + z) (parts g))
-              (sym long) q)
+              → Replaying limits bytes (drop n rest) (at + n) g
+          on g e k = record {
+            stands = λ p w.
+                let s = here p w in
+                let q = stands_behind limits.counted p rest at (parts h) (instruction_of inst) s
+                action plain_here acts_here kinds_here goes (parts g) not_stop e k in
+                let l = rest_is rest (spellings s.after ++ s.tail)
+                (instruction_of inst) n s.spelled long in
+                subst (λ z. Stands limits.counted p z (at + n) (parts g)) (sym l)
+                (subst
+                (λ z. Stands limits.counted p (spellings s.after ++ s.tail) (at + z) (parts g))
+                (sym long) q);
+          }
 
       module _ (plain : is_plain_data o ≡ true) (acts : ActsAs Stops (effect_of o)) where
         pub never_empty : IsLacking (top (parts h).shape.entries) → ⊥
         never_empty b =
-            let r = stops_here limits.counted acc.0 rest at (parts h) (instruction_of inst)
+            let t = stops_here limits.counted acc.0 rest at (parts h) (instruction_of inst)
             (here acc.0 acc.1) (plain_here Stops plain acts) (acts_here Stops plain acts) in
-            err_ok b.0 r.0 (sym b.1 ∙ r.1)
+            let q = sym b.1 ∙ t.1 in cc
 
         pub ends : (x : ℕ) (es : List (Entry ℕ)) → top (parts h).shape.entries ≡ Ok (x, es)
             → Replays limits bytes (parts h).kept x

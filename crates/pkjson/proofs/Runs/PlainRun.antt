@@ -15,8 +15,8 @@ use Rattle.pkmachine.specs.declared.effect.Names.TheVariants.{NoName}
 use Rattle.pkmachine.specs.declared.effect.Wanted.TheVariants.{WantsList, WantsDict}
 use Rattle.pkmachine.specs.Effects.{Effect, effect_of}
 use Rattle.pkstack.specs.Shape.{Breach, Entry, Taken, operands, top}
-use Rattle.pkmachine.specs.Runs.{Object, State, Stepped, WentOn, Raised, Stopped, Stuck, step}
-use Rattle.pkmachine.specs.Runs.{perform, operate_step, effect_asks, class_at, start}
+use Rattle.pkmachine.specs.Runs.{Object, State, Stepped, WentOn, Stopped, Stuck, step, perform}
+use Rattle.pkmachine.specs.Runs.{operate_step, effect_asks, class_at, start}
 use Rattle.pkmachine.specs.WholeRuns.{Ended, EndedBy, EndsWell, run, go_on, outcomes_after}
 use Rattle.pkjson.specs.declared.action.Action.{Action}
 use Rattle.pkjson.specs.declared.action.Action.TheVariants.{Makes, Fills, Moves, Stops}
@@ -30,8 +30,9 @@ use Rattle.pkjson.specs.Private.Arena.{Kept, Arena, kind_at, is_text_kind, are_t
 use Rattle.pkjson.specs.Private.PlainActions.{acted, keys_acted, number_acted, fault_acted, ActsAs}
 use Rattle.pkjson.specs.Private.PlainActions.{KindsAgree}
 use Rattle.pkjson.specs.Private.Mirrors.{MirrorsState}
-use Rattle.pkjson.specs.Private.ReplayProgress.{HasStop, Stands, StandsAt}
-use Rattle.pkjson.proofs.Kept.OperandsTaken.{found_of, above_of, above_rest, err_ok, ok_same}
+use Rattle.std.specs.Prelude.{◌≡◌, ◌⊎◌, ℕ, Bool, List, [], ◌∷◌, ◌++◌, All}
+use Rattle.pkops.specs.declared.Op.TheVariants as op
+use Rattle.pkjson.proofs.Kept.OperandsTaken.{found_of, above_of, above_rest, ok_same}
 use Rattle.pkjson.proofs.Runs.PlainStep.{IsNotStuck, mirrors_step, stops_at}
 
 -- the plain run is the run in which every ask goes on
@@ -40,9 +41,7 @@ next_is : (is : List Instruction) (n : ℕ) (b : Bool) (st : Stepped) → length
     → go_on st (run is (outcomes_after b (goes_on ∷ replicate n goes_on))) ≡ go_on st (plain_run is)
 next_is is n true (WentOn t) l ih = ih n l t
 next_is is n false (WentOn t) l ih = ih (suc n) (omega arith) t
-next_is is n b (Raised t) l ih = refl
-next_is is n b (Stopped r t) l ih = refl
-next_is is n b (Stuck r) l ih = refl
+next_is is n b st l ih = refl
 
 pub run_is : (is : List Instruction) (n : ℕ) → length is ≤ n → (s : State)
     → run is (replicate n goes_on) s ≡ plain_run is s
@@ -54,10 +53,8 @@ run_is (i ∷ is) (suc n) l s = next_is is n (effect_asks (effect_of i.op)) (ste
 -- a run that ends well isn't stuck on its way
 not_stuck : (listed : List ℕ → List ℕ → Bool) (st : Stepped) (f : State → Ended)
     → EndsWell listed (go_on st f) → IsNotStuck st
-not_stuck listed (WentOn t) f h = tt
-not_stuck listed (Raised t) f h = tt
-not_stuck listed (Stopped r t) f h = tt
 not_stuck listed (Stuck b) f h = absurd h
+not_stuck listed st f h = tt
 
 -- the keys and the numbers of both
 texts_same : (ks : List Kept) (rs : List Object)
@@ -141,6 +138,43 @@ fault_same action i a s p w h n =
     (λ b. cond (are_text_kinds a.kept (keys_acted action a.shape.entries))
     (cond b None (Some LargeNumber)) (Some OtherKey)) m
 
+-- some instruction is STOP
+abbrev pub HasStop : List Instruction → Type 0
+HasStop [] = ⊥
+HasStop (i ∷ is) = (i.op ≡ op.Stop) ⊎ HasStop is
+
+-- the pickle p was replayed up to the bytes `rest`, which are at this offset; these are its
+-- objects, and no fault was found
+pub record Stands (limit : ℕ) (p : List Instruction) (rest : List ℕ) (at : ℕ)
+    (a : Arena) : Type 0 where
+  pub after : List Instruction
+  pub tail : List ℕ
+  pub spelled : rest ≡ spellings after ++ tail
+  pub allowed : All (IsAllowed limit) after
+  pub stops : HasStop after
+  pub state : State
+  pub listed : List ℕ → List ℕ → Bool
+  pub well : EndsWell listed (plain_run after state)
+  pub run : plain_run p start ≡ plain_run after state
+  pub fault : first_fault 0 p start ≡ first_fault at after state
+  pub mirrors : MirrorsState a state
+
+-- as Stands, with the next instruction
+pub record StandsAt (limit : ℕ) (p : List Instruction) (rest : List ℕ) (at : ℕ) (a : Arena)
+    (i : Instruction) : Type 0 where
+  pub after : List Instruction
+  pub tail : List ℕ
+  pub spelled : rest ≡ spelling i ++ (spellings after ++ tail)
+  pub here : IsAllowed limit i
+  pub allowed : All (IsAllowed limit) after
+  pub stops : (i.op ≡ op.Stop) ⊎ HasStop after
+  pub state : State
+  pub listed : List ℕ → List ℕ → Bool
+  pub well : EndsWell listed (plain_run (i ∷ after) state)
+  pub run : plain_run p start ≡ plain_run (i ∷ after) state
+  pub fault : first_fault 0 p start ≡ first_fault at (i ∷ after) state
+  pub mirrors : MirrorsState a state
+
 -- the next instruction
 pub stands_at : (limit : ℕ) (p : List Instruction) (rest : List ℕ) (at : ℕ) (a : Arena)
     → Stands limit p rest at a → (i : Instruction) × StandsAt limit p rest at a i
@@ -211,7 +245,7 @@ module _ (limit : ℕ) (p : List Instruction) (rest : List ℕ) (at : ℕ) (a : 
       -- nothing lacks
       pub lacks_nothing : (b : Breach) → acted action i a ≡ Err b → ⊥
       lacks_nothing b e = let r = mirrors_step i a h.state h.mirrors action acts kinds goes finds in
-          err_ok b r.0 (sym e ∙ r.1)
+          let q = sym e ∙ r.1 in cc
 
       -- on, behind it
       pub stands_behind : (b : Arena) → (i.op ≢ op.Stop) → fault_acted action i a ≡ None

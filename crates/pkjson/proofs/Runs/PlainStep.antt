@@ -28,11 +28,11 @@ use Rattle.pkjson.specs.Plain.{goes_on, is_known_text}
 use Rattle.pkjson.specs.Private.Arena.{Kept, Arena, kept_by, kind_at, update, more_given}
 use Rattle.pkjson.specs.Private.Arena.{is_text_kind}
 use Rattle.pkjson.specs.Private.PlainActions.{picked, found_above, made_of, filled_of, kind_made}
-use Rattle.pkjson.specs.Private.PlainActions.{move_of}
-use Rattle.pkjson.specs.Private.PlainActions.{acted, MakesSame, FillsSame, ActsAs, KindsAgree}
+use Rattle.pkjson.specs.Private.PlainActions.{move_of, acted, MakesSame, FillsSame, ActsAs}
+use Rattle.pkjson.specs.Private.PlainActions.{KindsAgree}
 use Rattle.pkjson.specs.Private.Mirrors.{Mirrors, AreBelow, EntriesBelow, CellsBelow, IsHeld}
 use Rattle.pkjson.specs.Private.Mirrors.{GivenBelow, MirrorsState}
-use Rattle.pkjson.proofs.Kept.EventsMirrored.{mirrors_made, mirrors_received}
+use Rattle.pkjson.proofs.Kept.EventsMirrored.{kind_update, mirrors_made, mirrors_received}
 use Rattle.pkjson.proofs.Kept.OperandsTaken.{found_of, above_of, found_below, above_below}
 use Rattle.pkjson.proofs.Kept.OperandsTaken.{above_first, moved_below, TakenBelow}
 
@@ -64,9 +64,8 @@ are_append n [] ys h g = g
 are_append n (x ∷ xs) ys h g = (h.0, are_append n xs ys h.1 g)
 
 are_kept : (n : ℕ) (kind : Kind) (xs : List ℕ) → AreBelow n xs → AreBelow n (kept_by kind xs)
-are_kept n OfItems xs h = h
-are_kept n OfPairs xs h = h
 are_kept n (OfValue v) xs h = tt
+are_kept n kind xs h = h
 
 given_update : (n : ℕ) (ks : List Kept) (r : ℕ) (xs : List ℕ) → GivenBelow n ks → AreBelow n xs
     → GivenBelow n (update ks r (more_given xs))
@@ -76,9 +75,8 @@ given_update n (k ∷ ks) zero xs h g =
 given_update n (k ∷ ks) (suc r) xs h g = (h.0, given_update n ks r xs h.1 g)
 
 length_update : {A : Type 0} (xs : List A) (n : ℕ) (f : A → A) → length (update xs n f) ≡ length xs
-length_update [] n f = refl
-length_update (x ∷ xs) zero f = refl
 length_update (x ∷ xs) (suc n) f = ap suc (length_update xs n f)
+length_update xs n f = refl
 
 -- which are texts
 texts_snoc : (ks : List Kept) (rs : List Object) (k : Kept) (r : Object) → length ks ≡ length rs
@@ -90,16 +88,7 @@ texts_snoc [] [] k r l h e (suc n) = refl
 texts_snoc (j ∷ ks) (q ∷ rs) k r l h e zero = h 0
 texts_snoc (j ∷ ks) (q ∷ rs) k r l h e (suc n) =
     texts_snoc ks rs k r (omega (arith, l)) (λ m. h (suc m)) e n
-texts_snoc [] (q ∷ rs) k r l h e n = absurd (omega (arith, l))
-texts_snoc (j ∷ ks) [] k r l h e n = absurd (omega (arith, l))
-
-kind_update : (ks : List Kept) (r : ℕ) (xs : List ℕ) (n : ℕ)
-    → kind_at (update ks r (more_given xs)) n ≡ kind_at ks n
-kind_update [] r xs n = refl
-kind_update (k ∷ ks) zero xs zero = refl
-kind_update (k ∷ ks) zero xs (suc n) = refl
-kind_update (k ∷ ks) (suc r) xs zero = refl
-kind_update (k ∷ ks) (suc r) xs (suc n) = kind_update ks r xs n
+texts_snoc ks rs k r l h e n = absurd (omega (arith, l))
 
 -- the state after an object was made, and after one was filled
 abbrev after_making : Instruction → Taken ℕ → ObjectClass → State → State
@@ -140,10 +129,8 @@ making i a s v k c q e h b =
         h.numbers,
       );
       texts = texts_snoc a.kept s.objects _ _ h.numbers h.texts e;
-      objects = subst
-          (λ z. Mirrors (a.kept ++ record { kind = z; given = kept_by z v.operands } ∷ [])
-          (s.events ++ Did i v.operands (Some (length s.objects)) ∷ [])) q
-          (mirrors_made a.kept s.events i v.operands (length s.objects) (sym h.numbers) h.objects);
+      objects = rw q at (mirrors_made a.kept s.events i v.operands (length s.objects)
+          (sym h.numbers) h.objects);
     }
 
 filling : (i : Instruction) (a : Arena) (s : State) (r : ℕ) (xs : List ℕ) (es : List (Entry ℕ))
@@ -178,49 +165,36 @@ abbrev pub WentAlike : Arena → Stepped → Type 0
 WentAlike b st = (t : State) × (st ≡ WentOn t) × MirrorsState b t
 
 module _ (i : Instruction) (a : Arena) (s : State) (h : MirrorsState a s) where
+  went : (v : Taken ℕ) (k : Kind) (c : ObjectClass) → kind_by_effect i ≡ k
+      → is_text_kind (Some k) ≡ is_known_text (Some c) → TakenBelow (length a.kept) v
+      → (u : Taken ℕ) × (◌≡◌ {A = Result (Taken ℕ) Breach} (Ok v) (Ok u))
+      × WentAlike (made_of k u a) (WentOn (after_making i v c s))
+  went v k c q e b = (v, refl, (_, refl, making i a s v k c q e h b))
+
   made_alike : (m : Made) (g : Gives) → MakesSame m g → kind_by_effect i ≡ kind_made m i
       → (x : Result (Taken ℕ) Breach) → ((v : Taken ℕ) → x ≡ Ok v → TakenBelow (length a.kept) v)
       → IsNotStuck (operate_step NoName g i goes_on s x)
       → (v : Taken ℕ) × (x ≡ Ok v) × WentAlike (made_of (kind_made m i) v a)
       (operate_step NoName g i goes_on s x)
   made_alike made.Items (gives.Makes class.List) w q (Ok v) b n =
-      (v, refl, (_, refl, making i a s v OfItems (Plain class.List) q refl h (b v refl)))
+      went v OfItems (Plain class.List) q refl (b v refl)
   made_alike made.Items (gives.Makes class.Tuple) w q (Ok v) b n =
-      (v, refl, (_, refl, making i a s v OfItems (Plain class.Tuple) q refl h (b v refl)))
+      went v OfItems (Plain class.Tuple) q refl (b v refl)
   made_alike made.NoPairs (gives.Makes class.Dict) w q (Ok v) b n =
-      (v, refl, (_, refl, making i a s v OfPairs (Plain class.Dict) q refl h (b v refl)))
+      went v OfPairs (Plain class.Dict) q refl (b v refl)
   made_alike made.Pairs (gives.MayMake class.Dict) w q (Ok v) b n =
-      (v, refl, (_, refl, making i a s v OfPairs (Plain class.Dict) q refl h (b v refl)))
-  made_alike made.Null (gives.Makes class.None) w q (Ok v) b n = (
-    v,
-    refl,
-    (_, refl, making i a s v (kind_made made.Null i) (Plain class.None) q refl h (b v refl)),
-  )
-  made_alike (made.Truth z) (gives.Makes class.Bool) w q (Ok v) b n = (
-    v,
-    refl,
-    (_, refl, making i a s v (kind_made (made.Truth z) i) (Plain class.Bool) q refl h (b v refl)),
-  )
-  made_alike made.Text gives.MakesText w q (Ok v) b n = (
-    v,
-    refl,
-    (_, refl, making i a s v (kind_made made.Text i) (Text (text i)) q refl h (b v refl)),
-  )
-  made_alike made.IntOrTruth gives.MakesIntOrBool w q (Ok v) b n = (
-    v,
-    refl,
-    (
-      _,
-      refl,
-      making i a s v (kind_made made.IntOrTruth i) (Plain (int_or_bool i)) q
-          (no_text (names_bool i) _ _ refl) h (b v refl),
-    ),
-  )
-  made_alike made.Int (gives.Makes class.Int) w q (Ok v) b n = (
-    v,
-    refl,
-    (_, refl, making i a s v (kind_made made.Int i) (Plain class.Int) q refl h (b v refl)),
-  )
+      went v OfPairs (Plain class.Dict) q refl (b v refl)
+  made_alike made.Null (gives.Makes class.None) w q (Ok v) b n =
+      went v (kind_made made.Null i) (Plain class.None) q refl (b v refl)
+  made_alike (made.Truth z) (gives.Makes class.Bool) w q (Ok v) b n =
+      went v (kind_made (made.Truth z) i) (Plain class.Bool) q refl (b v refl)
+  made_alike made.Text gives.MakesText w q (Ok v) b n =
+      went v (kind_made made.Text i) (Text (text i)) q refl (b v refl)
+  made_alike made.IntOrTruth gives.MakesIntOrBool w q (Ok v) b n =
+      went v (kind_made made.IntOrTruth i) (Plain (int_or_bool i)) q
+      (no_text (names_bool i) _ _ refl) (b v refl)
+  made_alike made.Int (gives.Makes class.Int) w q (Ok v) b n =
+      went v (kind_made made.Int i) (Plain class.Int) q refl (b v refl)
   made_alike m g w q (Err r) b n = absurd n
   made_alike m g w q (Ok v) b n = absurd w
 
@@ -235,7 +209,8 @@ module _ (i : Instruction) (a : Arena) (s : State) (h : MirrorsState a s) where
     (
       _,
       refl,
-      rw j.1.3 (filling i a s j.1.0 j.1.1 j.1.2 h (subst (TakenBelow (length a.kept)) j.1.3 j.0)),
+      rw j.1.3
+          (filling i a s j.1.0 j.1.1 j.1.2 h (subst (TakenBelow (length a.kept)) j.1.3 j.0)),
     ),
   )
   filled_alike filled.Pairs (gives.Leaves WantsDict) w (Ok v) b n = let j = b v refl in (
@@ -244,7 +219,8 @@ module _ (i : Instruction) (a : Arena) (s : State) (h : MirrorsState a s) where
     (
       _,
       refl,
-      rw j.1.3 (filling i a s j.1.0 j.1.1 j.1.2 h (subst (TakenBelow (length a.kept)) j.1.3 j.0)),
+      rw j.1.3
+          (filling i a s j.1.0 j.1.1 j.1.2 h (subst (TakenBelow (length a.kept)) j.1.3 j.0)),
     ),
   )
   filled_alike f g w (Err r) b n = absurd n

@@ -9,8 +9,7 @@ use Rattle.pkops.specs.declared.Op.TheVariants as op
 use Rattle.pkops.specs.Limits.{Bounds, holding_all}
 use Rattle.pkops.specs.Payloads.{is_passed, payload_limit}
 use Rattle.pkops.specs.Spelling.{Instruction, spelling}
-use Rattle.pkops.specs.Answer.{Answer, Whole, More, Bad, Answers}
-use Rattle.pkops.specs.declared.Fault.{Fault}
+use Rattle.pkops.specs.Answer.{Whole, Answers}
 use Rattle.pkops.specs.declared.Reason.{Reason}
 use Rattle.pkread.specs.Rows.{Sight, in_memory}
 use Rattle.pkmachine.specs.declared.OldStrings.TheVariants.{Unknown}
@@ -28,8 +27,7 @@ use Rattle.pkjson.specs.Private.Arena.{no_object}
 use Rattle.pkjson.specs.Private.Mirrors.{MirrorsState}
 use Rattle.pkjson.specs.Export.{AcceptedAs, IsAccepted, IsNotExported}
 use Rattle.pkjson.specs.Private.Result.{TellsRefusal}
-use Rattle.pkjson.specs.Private.ReplayProgress.{HasStop, Stands}
-use Rattle.pkjson.proofs.Runs.PlainRun.{run_is}
+use Rattle.pkjson.proofs.Runs.PlainRun.{HasStop, Stands, run_is}
 
 has_stop : (front : List Instruction) (last : Instruction) → last.op ≡ op.Stop
     → HasStop (front ++ last ∷ [])
@@ -53,8 +51,7 @@ nothing_yet = record {
 
 pub stands_first : (limits : Bounds) (bytes : List ℕ) (p : List Instruction)
     → AcceptedAs limits bytes p → Stands limits.counted p bytes 0 no_object
-stands_first limits bytes p h = subst (λ q. Stands limits.counted q bytes 0 no_object) h.is
-    (by_accepted h.accepted.instructions h.accepted.sequence
+stands_first limits bytes p h = rw h.is at (by_accepted h.accepted.instructions h.accepted.sequence
     (consumed bytes (spellings h.accepted.instructions) h.new.left h.accepted.bytes.bytes)
     h.accepted.sound)
   where
@@ -95,47 +92,25 @@ pub rest_is : (bytes more : List ℕ) (i : Instruction) (n : ℕ) → bytes ≡ 
     → n ≡ length (spelling i) → drop n bytes ≡ more
 rest_is bytes more i n e f = rw (f, e) (drop-append_seam (spelling i) more)
 
-abbrev instruction_in : Instruction → Answer → Instruction
-instruction_in d (Whole i n) = i
-instruction_in d a = d
-
-abbrev length_in : ℕ → Answer → ℕ
-length_in d (Whole i n) = n
-length_in d a = d
-
 pub whole_same : (i j : Instruction) (n m : ℕ) → Whole i n ≡ Whole j m → (j ≡ i) × (m ≡ n)
-whole_same i j n m e = (sym (ap (instruction_in i) e), sym (ap (length_in n) e))
-
-pub whole_more : (i : Instruction) (n : ℕ) → Whole i n ≡ More → ⊥
-whole_more i n e = cc
-
-pub whole_bad : (i : Instruction) (n : ℕ) (f : Fault) → Whole i n ≡ Bad f → ⊥
-whole_bad i n f e = cc
+whole_same i j n m e = (cc, cc)
 
 -- what `check` accepts, under the limits that hold all payloads
-pub accepted_as : (limits held : Bounds) (bytes : List ℕ) (old new : Sight) (taken : ℕ)
-    (imports : List Asked) → held ≡ holding_all limits → old ≡ in_memory bytes
+pub accepted_as : (limits : Bounds) (bytes : List ℕ) {held : Bounds} {old new : Sight} {taken : ℕ}
+    {imports : List Asked} → held ≡ holding_all limits → old ≡ in_memory bytes
     → Accepted Unknown None held old new taken imports → IsAccepted limits bytes
-accepted_as limits held bytes old new taken imports l e a =
-    let b : Accepted Unknown None (holding_all limits) (in_memory bytes) new taken imports = subst
-    (λ s. Accepted Unknown None (holding_all limits) s new taken imports) e
-    (subst (λ h. Accepted Unknown None h old new taken imports) l a) in (
+accepted_as limits bytes {held} {old} {new} {taken} {imports} l e a =
+    let b : Accepted Unknown None (holding_all limits) (in_memory bytes) new taken imports =
+    rw (l, e) at a in (
       b.instructions,
       record { new = new; taken = taken; imports = imports; accepted = b; is = refl },
     )
 
 -- and what it refuses
-pub refused_as : (limits held : Bounds) (bytes rest : List ℕ) (old : Sight) (at : ℕ) (why : Reason)
-    (pair : Option Asked) (e : ExportError) → held ≡ holding_all limits → old ≡ in_memory bytes
-    → Refused Unknown None held old (in_memory rest) at why pair → TellsRefusal at why e
-    → IsNotExported limits bytes e
-refused_as limits held bytes rest old at why pair e l s r (inl q) = rw q tt
-refused_as limits held bytes rest old at why pair e l s r (inr q) = rw q.1 (
-  (
-    rest,
-    pair,
-    subst (λ o. Refused Unknown None (holding_all limits) o (in_memory rest) at why pair) s
-        (subst (λ h. Refused Unknown None h old (in_memory rest) at why pair) l r),
-  ),
-  q.0,
-)
+pub refused_as : (limits : Bounds) (bytes rest : List ℕ) {held : Bounds} {old : Sight} {at : ℕ}
+    {why : Reason} {pair : Option Asked} (e : ExportError) → held ≡ holding_all limits
+    → old ≡ in_memory bytes → Refused Unknown None held old (in_memory rest) at why pair
+    → TellsRefusal at why e → IsNotExported limits bytes e
+refused_as limits bytes rest e l s r (inl q) = rw q tt
+refused_as limits bytes rest {pair = pair} e l s r (inr q) =
+    rw q.1 ((rest, pair, rw (l, s) at r), q.0)

@@ -13,16 +13,13 @@ module _ (h : Heap) where
   mutual
     pub derives : (x : ℕ) (v : Data) (d c : ℕ) → Derives h x v d c
         → Unfolds h x v × (d ≡ depth v) × (c ≡ count v)
-    derives x null d c (scalar y w e f) = (e, refl, refl)
-    derives x (boolean b) d c (scalar y w e f) = (e, refl, refl)
-    derives x (number b) d c (scalar y w e f) = (e, refl, refl)
-    derives x (string b) d c (scalar y w e f) = (e, refl, refl)
     derives x (array vs) d c (scalar y w e f) = absurd f
     derives x (object ms) d c (scalar y w e f) = absurd f
     derives x v d c (sequence y xs vs e n q i) = let r = derive_items xs vs e n i in
         ((xs, q, r.0), ap suc r.1, ap suc r.2)
     derives x v d c (pairs y ps ms e n q i) = let r = derive_members ps ms e n i in
         ((ps, q, r.0), ap suc r.1, ap suc r.2)
+    derives x v d c (scalar y w e f) = (e, refl, refl)
 
     pub derive_items : (xs : List ℕ) (vs : Items) (d c : ℕ) → DeriveItems h xs vs d c
         → UnfoldItems h xs vs × (d ≡ items_depth vs) × (c ≡ items_count vs)
@@ -52,8 +49,7 @@ module _ (h : Heap) where
     derived_items [] no_items u = nothing
     derived_items (x ∷ xs) (item v vs) u = further x xs v vs _ _ _ _ (derived x v u.0)
         (derived_items xs vs u.1)
-    derived_items [] (item v vs) u = absurd u
-    derived_items (x ∷ xs) no_items u = absurd u
+    derived_items xs vs u = absurd u
 
     pub derived_members : (ps : List (List ℕ × ℕ)) (ms : Members) → UnfoldMembers h ps ms
         → DeriveMembers h ps ms (members_depth ms) (members_count ms)
@@ -62,5 +58,4 @@ module _ (h : Heap) where
         (λ l. DeriveMembers h (p ∷ ps) (member l v ms) (max (depth v) (members_depth ms))
         (count v + members_count ms)) u.0
         (pair p.0 p.1 ps v ms _ _ _ _ (derived p.1 v u.1) (derived_members ps ms u.2))
-    derived_members [] (member k v ms) u = absurd u
-    derived_members (p ∷ ps) no_members u = absurd u
+    derived_members ps ms u = absurd u

@@ -2,8 +2,8 @@
 use Rattle.std.proofs.Common.{◌≡◌, ℕ, ℤ, pos, negsuc, Bool, true, false, cond, List, [], ◌∷◌}
 use Rattle.std.proofs.Common.{Option, Some, None, refl, subst}
 use Rattle.std.specs.Prelude.{option_map}
-use Rattle.serde_json.specs.Data.{Data, null, boolean, number, string, array, object, Items}
-use Rattle.serde_json.specs.Data.{no_items, item, Members, no_members, member}
+use Rattle.serde_json.specs.Data.{Data, boolean, number, array, object, Items, no_items, item}
+use Rattle.serde_json.specs.Data.{Members, no_members, member}
 use Rattle.serde_json.specs.Find.{of_integer}
 use Rattle.serde_json.specs.Written.{has_float, items_have_float, members_have_float}
 use Rattle.pkops.specs.Operands.{names_bool}
@@ -28,27 +28,23 @@ module _ (h : Heap) (scalars : (x : ℕ) (d : Data) → h x ≡ Some (Scalar d)
     → has_float d ≡ false) where
   mutual
     pub floatless_in : (x : ℕ) (v : Data) → Unfolds h x v → has_float v ≡ false
-    floatless_in x null u = refl
-    floatless_in x (boolean b) u = refl
     floatless_in x (number n) u = scalars x (number n) u
-    floatless_in x (string t) u = refl
     floatless_in x (array vs) u = items_floatless u.0 vs u.2
     floatless_in x (object ms) u = members_floatless u.0 ms u.2
+    floatless_in x v u = refl
 
     pub items_floatless : (xs : List ℕ) (vs : Items) → UnfoldItems h xs vs
         → items_have_float vs ≡ false
     items_floatless [] no_items u = refl
     items_floatless (x ∷ xs) (item v vs) u = rw (floatless_in x v u.0) (items_floatless xs vs u.1)
-    items_floatless [] (item v vs) u = absurd u
-    items_floatless (x ∷ xs) no_items u = absurd u
+    items_floatless xs vs u = absurd u
 
     pub members_floatless : (ps : List (List ℕ × ℕ)) (ms : Members) → UnfoldMembers h ps ms
         → members_have_float ms ≡ false
     members_floatless [] no_members u = refl
     members_floatless (p ∷ ps) (member k v ms) u =
         rw (floatless_in p.1 v u.1) (members_floatless ps ms u.2)
-    members_floatless [] (member k v ms) u = absurd u
-    members_floatless (p ∷ ps) no_members u = absurd u
+    members_floatless ps ms u = absurd u
 
 -- a kind whose scalar is no float
 abbrev IsFloatless : Kind → Type 0
@@ -74,10 +70,9 @@ given_floatless g i = integer_floatless (integer_named i.arg)
 
 held_floatless : (of : ℕ → Option Kind) (xs : List ℕ) (k : Kind) (d : Data) → IsFloatless k
     → held_by of xs k ≡ Scalar d → has_float d ≡ false
-held_floatless of xs OfItems d h e = absurd cc
-held_floatless of xs OfPairs d h e = absurd cc
 held_floatless of xs (OfValue v) d h e = let is : v ≡ d = cc in
     subst (λ w. has_float w ≡ false) is h
+held_floatless of xs k d h e = absurd cc
 
 made_floatless : (o : Option Instruction) (of : ℕ → Option Kind) (xs : List ℕ) (d : Data)
     → option_map (held_by of xs) (option_map kind_by_effect o) ≡ Some (Scalar d)

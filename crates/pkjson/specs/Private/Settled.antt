@@ -24,8 +24,7 @@ pub record Settles (all : List Kept) (k : Kept) (node : Node) : Type 0 where
 abbrev pub AreSettled : List Kept → List Kept → List Node → Type 0
 AreSettled all [] [] = Unit {0}
 AreSettled all (k ∷ ks) (n ∷ ns) = Settles all k n × AreSettled all ks ns
-AreSettled all [] (n ∷ ns) = ⊥
-AreSettled all (k ∷ ks) [] = ⊥
+AreSettled all ks ns = ⊥
 
 -- the members of a dict that was given these are added, unless these are none
 abbrev pub AddsMembers : List Kept → ℕ → List ℕ

@@ -7,14 +7,12 @@ use Rattle.pkjson.proofs.Runs.Answered.{refusal_answered}
 use Rattle.pkjson.proofs.exporting.export_text.Goals as goal
 
 pub settled_text-requires-clause-within : goal.settled_text-requires-clause-within
-settled_text-requires-clause-within c = subst (λ os. c.in_ok-objects.place < length os)
-    (sym c.deref.ensures.value)
+settled_text-requires-clause-within c = rw c.deref.ensures.value
     (result_within c.args.limits.now c.args.bytes.now c.in_ok-objects.objects.items
     c.in_ok-objects.place c.in_ok-objects.ensures.ok)
 
 pub settled_text-requires-clause-closed : goal.settled_text-requires-clause-closed
-settled_text-requires-clause-closed c = subst (λ os. AreGivenBelow (length os) (kept_all os))
-    (sym c.deref.ensures.value)
+settled_text-requires-clause-closed c = rw c.deref.ensures.value
     (result_closed c.args.limits.now c.args.bytes.now c.in_ok-objects.objects.items
     c.in_ok-objects.place c.in_ok-objects.ensures.ok)
 

@@ -11,9 +11,9 @@ pub returns-in_default-weigh-clause-err : goal.returns-in_default-weigh-clause-e
 returns-in_default-weigh-clause-err c = all_deeper _ _ _ c.in_default-weigh.ensures.weight
 
 pub returns-then-weight-most-clause-err : goal.returns-then-weight-most-clause-err
-returns-then-weight-most-clause-err c = too_many _ _ _ _ _ _ refl c.in-Some.ensures.weight
-    c.in-Some.ensures.bounds.depth c.if-weight-most.true
+returns-then-weight-most-clause-err c = too_many _ c.args.place _ _ _ _ refl
+    c.in-Some.ensures.weight c.in-Some.ensures.bounds.depth c.if-weight-most.true
 
 pub returns-clause-ok : goal.returns-clause-ok
-returns-clause-ok c = has_value _ _ _ _ _ _ refl c.in-Some.ensures.weight
+returns-clause-ok c = has_value _ c.args.place _ _ _ _ refl c.in-Some.ensures.weight
     c.in-Some.ensures.bounds.depth c.if-weight-most.false

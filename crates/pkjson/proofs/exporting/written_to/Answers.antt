@@ -6,6 +6,6 @@ pub write_value-requires-clause-fits : goal.write_value-requires-clause-fits
 write_value-requires-clause-fits g c = value_fits _ _ _ _ c.in-Ok.ensures.ok
 
 pub returns-in_ok-write_value-in-Ok : goal.returns-in_ok-write_value-in-Ok
-returns-in_ok-write_value-in-Ok g c = text_written _ c.args.limits.now _ _ _ _ _
+returns-in_ok-write_value-in-Ok g c = text_written _ c.args.limits.now c.args.place _ _ _ _
     c.deepest-levels.ensures.value c.most.ensures.value c.in-Ok.ensures.ok
     c.in_ok-write_value-in-Ok.ensures

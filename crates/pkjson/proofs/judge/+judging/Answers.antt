@@ -1,75 +1,75 @@
 -- An object weighs what its items or members weigh, and one more, or is too deep for its levels.
-use Rattle.std.proofs.Common.{arith, refl, rules, ◌∙◌, subst, ◌-◌}
-use Rattle.pkjson.specs.Private.Nodes.{heap}
-use Rattle.pkjson.specs.Private.Weighs.{AreDeeper, MembersDeeper}
-use Rattle.pkjson.proofs.Parts.Weights.{no_items_weigh, one_more, one_deeper, no_members_weigh}
-use Rattle.pkjson.proofs.Parts.Weights.{member_more, member_deeper, scalar_weighs, sequence_weighs}
-use Rattle.pkjson.proofs.Parts.Weights.{pairs_weigh, sequence_deeper, pairs_deeper}
-use Rattle.pkjson.proofs.Parts.Weights.{sequence_not_flat, pairs_not_flat, weighs_more}
-use Rattle.pkjson.proofs.Parts.Weights.{weighs_at_most, by_table}
-use Rattle.pkjson.proofs.Parts.NodesHeld.{held, below, trusted_set, take_more, seam, named_more}
-use Rattle.pkjson.proofs.Parts.NodesHeld.{named_seam, no_member}
+use Rattle.std.proofs.Common.{arith, refl, rules, ◌∙◌, ◌-◌}
+use Rattle.pkjson.proofs.Parts.Weights.{no_items_weigh, item_weighed, items_deeper}
+use Rattle.pkjson.proofs.Parts.Weights.{no_members_weigh, member_weighed, members_deeper}
+use Rattle.pkjson.proofs.Parts.Weights.{scalar_weighs, sequence_weighs, pairs_weigh}
+use Rattle.pkjson.proofs.Parts.Weights.{sequence_deeper, pairs_deeper, sequence_not_flat}
+use Rattle.pkjson.proofs.Parts.Weights.{pairs_not_flat, weighs_more, weighs_at_most, by_table}
+use Rattle.pkjson.proofs.Parts.NodesHeld.{held, below, trusted_set, no_member}
 use Rattle.pkjson.proofs.judge.+judging.Goals as goal
 
 pub weigh_node-returns-then-levels-eq0-clause-weight
     : goal.weigh_node-returns-then-levels-eq0-clause-weight
 weigh_node-returns-then-levels-eq0-clause-weight t c =
-    sequence_not_flat _ c.args.cap _ _ _ (omega arith) (held _ _ _ c.node.ensures.held c.in-List.is)
+    sequence_not_flat _ (omega arith) (held c.node.ensures c.in-List.is)
 
 pub weigh_node-returns-then-levels-eq0-2-clause-weight
     : goal.weigh_node-returns-then-levels-eq0-2-clause-weight
 weigh_node-returns-then-levels-eq0-2-clause-weight t c =
-    pairs_not_flat _ c.args.cap _ _ _ (omega arith) (held _ _ _ c.node.ensures.held c.in-Dict.is)
+    pairs_not_flat _ (omega arith) (held c.node.ensures c.in-Dict.is)
 
 pub weigh_node-returns-in-Null-clause-weight : goal.weigh_node-returns-in-Null-clause-weight
-weigh_node-returns-in-Null-clause-weight t c = let e = held _ _ _ c.node.ensures.held
-    c.in-Null.is in scalar_weighs _ _ _ _ _ c.requires.room.some e e refl refl
-    c.scalar.ensures.depth c.scalar.ensures.count
+weigh_node-returns-in-Null-clause-weight t c =
+    let e = held c.node.ensures c.in-Null.is in
+    scalar_weighs _ _ _ c.requires.room.some e e.is refl refl c.scalar.ensures.depth
+    c.scalar.ensures.count
 
 pub weigh_node-returns-in-Bool-clause-weight : goal.weigh_node-returns-in-Bool-clause-weight
-weigh_node-returns-in-Bool-clause-weight t c = let e = held _ _ _ c.node.ensures.held
-    c.in-Bool.is in scalar_weighs _ _ _ _ _ c.requires.room.some e e refl refl
-    c.scalar-in-Bool.ensures.depth c.scalar-in-Bool.ensures.count
+weigh_node-returns-in-Bool-clause-weight t c =
+    let e = held c.node.ensures c.in-Bool.is in
+    scalar_weighs _ _ _ c.requires.room.some e e.is refl refl c.scalar-in-Bool.ensures.depth
+    c.scalar-in-Bool.ensures.count
 
 pub weigh_node-returns-in-Int-clause-weight : goal.weigh_node-returns-in-Int-clause-weight
-weigh_node-returns-in-Int-clause-weight t c = let e = held _ _ _ c.node.ensures.held c.in-Int.is in
-    scalar_weighs _ _ _ _ _ c.requires.room.some e e refl refl
-    c.scalar-in-Int.ensures.depth c.scalar-in-Int.ensures.count
+weigh_node-returns-in-Int-clause-weight t c =
+    let e = held c.node.ensures c.in-Int.is in
+    scalar_weighs _ _ _ c.requires.room.some e e.is refl refl c.scalar-in-Int.ensures.depth
+    c.scalar-in-Int.ensures.count
 
 pub weigh_node-returns-in-Text-clause-weight : goal.weigh_node-returns-in-Text-clause-weight
-weigh_node-returns-in-Text-clause-weight t c = let e = held _ _ _ c.node.ensures.held
-    c.in-Text.is in scalar_weighs _ _ _ _ _ c.requires.room.some e e refl refl
-    c.scalar-in-Text.ensures.depth c.scalar-in-Text.ensures.count
+weigh_node-returns-in-Text-clause-weight t c =
+    let e = held c.node.ensures c.in-Text.is in
+    scalar_weighs _ _ _ c.requires.room.some e e.is refl refl c.scalar-in-Text.ensures.depth
+    c.scalar-in-Text.ensures.count
 
 pub weigh_node-weigh_items-requires : goal.weigh_node-weigh_items-requires
 weigh_node-weigh_items-requires t c = let b =
-    below _ _ _ (c.node.ensures.below c.requires.closed) c.in-List.is in search (rules, b)
+    below c.node.ensures c.in-List.is c.requires.closed in search (rules, b)
 
 pub weigh_node-weigh_members-requires : goal.weigh_node-weigh_members-requires
 weigh_node-weigh_members-requires t c = let b =
-    below _ _ _ (c.node.ensures.below c.requires.closed) c.in-Dict.is in search (rules, b)
+    below c.node.ensures c.in-Dict.is c.requires.closed in search (rules, b)
 
 pub weigh_node-returns-in-Some-clause-weight : goal.weigh_node-returns-in-Some-clause-weight
-weigh_node-returns-in-Some-clause-weight t c = sequence_weighs _ _ _ _ _ _
-    (held _ _ _ c.node.ensures.held c.in-List.is) c.in-Some.ensures.weight
-    c.raised.ensures.depth c.raised.ensures.count
+weigh_node-returns-in-Some-clause-weight t c = sequence_weighs _ _ _ _
+    (held c.node.ensures c.in-List.is) c.in-Some.ensures.weight c.raised.ensures.depth
+    c.raised.ensures.count
 
 pub weigh_node-returns-in-None-clause-weight : goal.weigh_node-returns-in-None-clause-weight
-weigh_node-returns-in-None-clause-weight t c = sequence_deeper _ c.args.cap _ _ _
-    (c.args.levels - 1) (omega arith) (held _ _ _ c.node.ensures.held c.in-List.is)
-    c.in-None.ensures.weight
+weigh_node-returns-in-None-clause-weight t c = sequence_deeper _
+    (c.args.levels - 1) (omega arith) (held c.node.ensures c.in-List.is) c.in-None.ensures.weight
 
 pub weigh_node-returns-in-Some-weigh_members-clause-weight
     : goal.weigh_node-returns-in-Some-weigh_members-clause-weight
 weigh_node-returns-in-Some-weigh_members-clause-weight t c =
-    pairs_weigh _ _ _ _ _ _ (held _ _ _ c.node.ensures.held c.in-Dict.is)
+    pairs_weigh _ _ _ _ (held c.node.ensures c.in-Dict.is)
     c.in-Some-weigh_members.ensures.weight c.raised-in-Some-weigh_members.ensures.depth
     c.raised-in-Some-weigh_members.ensures.count
 
 pub weigh_node-returns-in-None-weigh_members-clause-weight
     : goal.weigh_node-returns-in-None-weigh_members-clause-weight
-weigh_node-returns-in-None-weigh_members-clause-weight t c = pairs_deeper _ c.args.cap _ _ _
-    (c.args.levels - 1) (omega arith) (held _ _ _ c.node.ensures.held c.in-Dict.is)
+weigh_node-returns-in-None-weigh_members-clause-weight t c = pairs_deeper _
+    (c.args.levels - 1) (omega arith) (held c.node.ensures c.in-Dict.is)
     c.in-None-weigh_members.ensures.weight
 
 pub weigh-returns-then-known-levels-clause-weight
@@ -96,7 +96,7 @@ weigh-returns-else-known-levels-clause-weight t c = weighs_more _ c.args.cap _ _
     c.if-known-levels.false
 
 pub weigh-returns-in-Some-clause-trusted : goal.weigh-returns-in-Some-clause-trusted
-weigh-returns-in-Some-clause-trusted t c = trusted_set _ _ _ _ _
+weigh-returns-in-Some-clause-trusted t c = trusted_set _ _ _ c.args.place _
     (omega (arith, c.weigh_node.auto.done, c.requires.same)) c.in-Some.ensures.trusted
     c.in-Some.ensures.weight
 
@@ -119,10 +119,8 @@ weigh_members-loop-key-init t c = record {
 }
 
 pub weigh_items-returns-in-None-clause-weight : goal.weigh_items-returns-in-None-clause-weight
-weigh_items-returns-in-None-clause-weight t c = subst
-    (λ l. AreDeeper (heap c.args.nodes.now) c.args.levels l)
-    (seam c.args.items.now c.loop-item.item-index 0 c.loop-item-test.true)
-    (one_deeper _ c.args.cap _ _ _ _ c.in-None.ensures.weight)
+weigh_items-returns-in-None-clause-weight t c = items_deeper _ _ c.args.items.now
+    c.loop-item.item-index c.loop-item-test.true c.in-None.ensures.weight
 
 pub weigh_items-loop-item-preserved : goal.weigh_items-loop-item-preserved
 weigh_items-loop-item-preserved t c = record {
@@ -135,16 +133,14 @@ weigh_items-loop-item-preserved t c = record {
     c.loop-item.invariant.depth,
   );
   count = omega (arith, c.joined-sum.ensures.count);
-  sum = rw (take_more c.args.items.now c.loop-item.item-index 0 c.loop-item-test.true)
-      (one_more _ _ _ _ _ _ _ c.joined-sum.ensures.depth c.joined-sum.ensures.count
-      c.loop-item.invariant.sum c.in-Some.ensures.weight);
+  sum = item_weighed _ _ c.args.items.now c.loop-item.item-index _ _ _ c.loop-item-test.true
+      c.joined-sum.ensures.depth c.joined-sum.ensures.count c.loop-item.invariant.sum
+      c.in-Some.ensures.weight;
 }
 
 pub weigh_members-returns-in-None-clause-weight : goal.weigh_members-returns-in-None-clause-weight
-weigh_members-returns-in-None-clause-weight t c = subst
-    (λ l. MembersDeeper (heap c.args.nodes.now) c.args.levels l)
-    (named_seam c.args.members.now c.loop-key.key-index no_member c.loop-key-test.true)
-    (member_deeper _ c.args.cap _ _ _ _ _ c.in-None.ensures.weight)
+weigh_members-returns-in-None-clause-weight t c = members_deeper _ _ c.args.members.now
+    c.loop-key.key-index no_member c.loop-key-test.true c.in-None.ensures.weight
 
 pub weigh_members-loop-key-preserved : goal.weigh_members-loop-key-preserved
 weigh_members-loop-key-preserved t c = record {
@@ -158,9 +154,8 @@ weigh_members-loop-key-preserved t c = record {
     c.loop-key.invariant.depth,
   );
   count = omega (arith, c.joined-sum.ensures.count);
-  sum = rw (named_more c.args.members.now c.loop-key.key-index no_member c.loop-key-test.true)
-      (member_more _ _ _ _ _ _ _ _
-      (omega (arith, c.joined-sum.ensures.depth, c.keyed.ensures.depth))
+  sum = member_weighed _ _ c.args.members.now c.loop-key.key-index no_member _ _ _
+      c.loop-key-test.true (omega (arith, c.joined-sum.ensures.depth, c.keyed.ensures.depth))
       (omega (arith, c.joined-sum.ensures.count, c.keyed.ensures.count))
-      c.loop-key.invariant.sum c.in-Some.ensures.weight);
+      c.loop-key.invariant.sum c.in-Some.ensures.weight;
 }

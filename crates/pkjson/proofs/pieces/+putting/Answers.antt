@@ -1,6 +1,5 @@
 -- Pieces written one behind the other, with commas between, are the text of the whole.
-use Rattle.std.proofs.Common.{◌<◌, ◌-◌, ℕ, length, drop, get_or, arith}
-use Rattle.std.proofs.Common.{rules}
+use Rattle.std.proofs.Common.{◌<◌, ◌-◌, ℕ, length, drop, get_or, arith, rules}
 use Rattle.std.specs.Prelude.{All, slice_range}
 use Rattle.std.proofs.lemmas.List.Elements.{All-drop, All-get_or, All-take}
 use Rattle.std.proofs.lemmas.Result.{on_ok_weaker}
@@ -15,42 +14,42 @@ use Rattle.pkjson.proofs.Parts.SomeFit.{some_fit, some_members_fit}
 use Rattle.pkjson.proofs.pieces.+putting.Goals as goal
 
 pub write_value-overflow_sub-levels : goal.write_value-overflow_sub-levels
-write_value-overflow_sub-levels g t c = fits_some _ _ _ _
-    (held _ _ _ c.node.ensures.held c.in-List.is) c.requires.fits
+write_value-overflow_sub-levels g t c = fits_some _
+    (held c.node.ensures c.in-List.is) c.requires.fits
 
 pub write_value-overflow_sub-levels-in-Dict : goal.write_value-overflow_sub-levels-in-Dict
-write_value-overflow_sub-levels-in-Dict g t c = fits_any _ _ _ _
-    (held _ _ _ c.node.ensures.held c.in-Dict.is) c.requires.fits
+write_value-overflow_sub-levels-in-Dict g t c = fits_any _
+    (held c.node.ensures c.in-Dict.is) c.requires.fits
 
 pub write_value-write_items-requires : goal.write_value-write_items-requires
 write_value-write_items-requires g t c κs within =
-    let e = held _ _ _ c.node.ensures.held c.in-List.is in
-    let b = below _ _ _ (c.node.ensures.below c.requires.closed) c.in-List.is in
-    let f = fits_items _ _ _ _ e c.requires.fits in
-    let l = fits_some _ _ _ _ e c.requires.fits in
+    let e = held c.node.ensures c.in-List.is in
+    let b = below c.node.ensures c.in-List.is c.requires.closed in
+    let f = fits_items _ e c.requires.fits in
+    let l = fits_some _ e c.requires.fits in
     search (rules, b, f, l)
 
 pub write_value-write_members-requires : goal.write_value-write_members-requires
 write_value-write_members-requires g t c κs within =
-    let e = held _ _ _ c.node.ensures.held c.in-Dict.is in
-    let b = below _ _ _ (c.node.ensures.below c.requires.closed) c.in-Dict.is in
-    let f = fits_members _ _ _ _ e c.requires.fits in
-    let l = fits_any _ _ _ _ e c.requires.fits in
+    let e = held c.node.ensures c.in-Dict.is in
+    let b = below c.node.ensures c.in-Dict.is c.requires.closed in
+    let f = fits_members _ e c.requires.fits in
+    let l = fits_any _ e c.requires.fits in
     search (rules, b, f, l)
 
 pub write_value-returns-in_ok-write_items-in-List
     : goal.write_value-returns-in_ok-write_items-in-List
 write_value-returns-in_ok-write_items-in-List g t c = on_ok_weaker c.write_all-in-List.result
-    (λ close. list_written _ _ _ _ _ _ c.in-List.items.now
-    (held _ _ _ c.node.ensures.held c.in-List.is) c.in_ok-write_all-in-List.ensures.bytes
+    (λ close. list_written _ _ _ _
+    (held c.node.ensures c.in-List.is) c.in_ok-write_all-in-List.ensures.bytes
     c.in_ok-write_items-in-List.ensures close)
     c.write_all-in-List.ensures.bytes
 
 pub write_value-returns-in_ok-write_members-in-Dict
     : goal.write_value-returns-in_ok-write_members-in-Dict
 write_value-returns-in_ok-write_members-in-Dict g t c = on_ok_weaker c.write_all-in-Dict-2.result
-    (λ close. dict_written _ _ _ _ _ _ (named_members c.in-Dict.members.now)
-    (held _ _ _ c.node.ensures.held c.in-Dict.is) c.in_ok-write_all-in-Dict.ensures.bytes
+    (λ close. dict_written _ _ _ _
+    (held c.node.ensures c.in-Dict.is) c.in_ok-write_all-in-Dict.ensures.bytes
     c.in_ok-write_members-in-Dict.ensures close)
     c.write_all-in-Dict-2.ensures.bytes
 

@@ -14,8 +14,7 @@ returns g c =
     let is = text_of_str c.args.key.now sent.0 c.in-Ok.text.items sent.1 sent.2 in
     let before = g.W.Write.contents c.args.out.now in
     let between = g.W.Write.contents c.write_all.new.self in
-    let key = subst (λ (t : List ℕ). Appends before between t) (c.as_slice.ensures.value ∙ is)
-    c.in_ok-write_all.ensures.bytes in
+    let key = rw (c.as_slice.ensures.value ∙ is) at c.in_ok-write_all.ensures.bytes in
     on_ok_weaker c.write_all-2.result
     (λ colon. appends_then before between (g.W.Write.contents c.write_all-2.new.self)
     (compact_text (string c.args.key.now)) (58 ∷ []) key colon)

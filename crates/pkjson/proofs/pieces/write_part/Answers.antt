@@ -9,8 +9,7 @@ use Rattle.pkjson.proofs.pieces.write_part.Goals as goal
 
 pub returns-in-Object : goal.returns-in-Object
 returns-in-Object g c =
-    let text = subst (λ p. IsPartText (heap c.args.weighed.now.nodes.now) p c.in-Ok.text.items)
-    c.in-Object.is c.in-Ok.ensures in
+    let text = rw c.in-Object.is at c.in-Ok.ensures in
     rw c.in-Object.is
     (on_ok_weaker c.write_all.result
     (λ p. whole_written _ _ c.in-Ok.text.items _ _ text (rw (← c.as_slice.ensures.value) p))
@@ -18,14 +17,12 @@ returns-in-Object g c =
 
 pub write_inside-requires : goal.write_inside-requires
 write_inside-requires g c =
-    let text = subst (λ p. IsPartText (heap c.args.weighed.now.nodes.now) p c.in-Ok.text.items)
-    c.in-Items.is c.in-Ok.ensures in
+    let text = rw c.in-Items.is at c.in-Ok.ensures in
     rw c.as_slice-in-Items.ensures.value (array_long _ _ c.in-Ok.text.items text)
 
 pub returns-in-Items : goal.returns-in-Items
 returns-in-Items g c =
-    let text = subst (λ p. IsPartText (heap c.args.weighed.now.nodes.now) p c.in-Ok.text.items)
-    c.in-Items.is c.in-Ok.ensures in
+    let text = rw c.in-Items.is at c.in-Ok.ensures in
     rw c.in-Items.is
     (on_ok_weaker c.write_inside.result
     (λ p. array_written _ _ c.in-Ok.text.items _ _ text
@@ -34,14 +31,12 @@ returns-in-Items g c =
 
 pub write_inside-requires-in-Members : goal.write_inside-requires-in-Members
 write_inside-requires-in-Members g c =
-    let text = subst (λ p. IsPartText (heap c.args.weighed.now.nodes.now) p c.in-Ok.text.items)
-    c.in-Members.is c.in-Ok.ensures in
+    let text = rw c.in-Members.is at c.in-Ok.ensures in
     rw c.as_slice-in-Members.ensures.value (object_long _ _ c.in-Ok.text.items text)
 
 pub returns : goal.returns
 returns g c =
-    let text = subst (λ p. IsPartText (heap c.args.weighed.now.nodes.now) p c.in-Ok.text.items)
-    c.in-Members.is c.in-Ok.ensures in
+    let text = rw c.in-Members.is at c.in-Ok.ensures in
     rw c.in-Members.is
     (on_ok_weaker c.write_inside-in-Members.result
     (λ p. object_written _ _ c.in-Ok.text.items _ _ text

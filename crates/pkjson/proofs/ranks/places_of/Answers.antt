@@ -10,10 +10,9 @@ use Rattle.pkjson.proofs.ranks.places_of.Goals as goal
 
 pub loop-number-preserved : goal.loop-number-preserved
 loop-number-preserved c =
-    let s = subst (λ z. IfSome c.short-place.result (StandsIn c.args.texts.now z))
-    (c.text_at.ensures ∙ ap (λ i. characters (kind_at (kept_all c.args.objects.now) i))
-    (sym c.loop-number.invariant.0))
-    (short_place _ _ _ c.place_of.ensures c.short-place.ensures) in
+    let s = rw (c.text_at.ensures ∙ ap (λ i. characters (kind_at (kept_all c.args.objects.now) i))
+    (sym c.loop-number.invariant.0)) at (short_place _ _ _ c.place_of.ensures c.short-place.ensures)
+    in
     let m = length-append c.loop-number.places.items (c.short-place.result ∷ []) in
     let k = kept_length c.args.objects.now in
     rw c.in_ok-push.ensures.items (

@@ -7,10 +7,9 @@ use Rattle.pkjson.proofs.settle.settle.Goals as goal
 
 pub settle_one-requires-clause-given : goal.settle_one-requires-clause-given
 settle_one-requires-clause-given c =
-    subst (λ os. All (λ x. x < length os) (kept_of c.object-item.result).given)
-    (sym c.in_ok-ranks.ensures.objects)
-    (given_there (length c.args.objects.now) c.args.objects.now c.loop-object.object-index
-    c.object-item.result c.requires c.loop-object-test.true c.object-item.is)
+    rw c.in_ok-ranks.ensures.objects (given_there (length c.args.objects.now) c.args.objects.now
+    c.loop-object.object-index c.object-item.result c.requires c.loop-object-test.true
+    c.object-item.is)
 
 pub loop-object-init : goal.loop-object-init
 loop-object-init c = rw (c.new-dicts.ensures.items, c.in_ok-places.ensures.items)

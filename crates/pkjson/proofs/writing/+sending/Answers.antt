@@ -18,54 +18,54 @@ use Rattle.pkjson.proofs.writing.+sending.Goals as goal
 
 pub send-overflow_sub-levels : goal.send-overflow_sub-levels
 send-overflow_sub-levels g t c = ∥∥₁_elim c.requires.fits le_prop
-    (fits_some _ _ _ _ (held _ _ _ c.node.ensures.held c.in-List.is))
+    (fits_some _ (held c.node.ensures c.in-List.is))
 
 pub send-overflow_sub-levels-in-Dict : goal.send-overflow_sub-levels-in-Dict
 send-overflow_sub-levels-in-Dict g t c = ∥∥₁_elim c.requires.fits le_prop
-    (fits_any _ _ _ _ (held _ _ _ c.node.ensures.held c.in-Dict.is))
+    (fits_any _ (held c.node.ensures c.in-Dict.is))
 
 pub send-send_items-requires : goal.send-send_items-requires
 send-send_items-requires g t c =
-    let e = held _ _ _ c.node.ensures.held c.in-List.is in
-    let b = below _ _ _ (c.node.ensures.below c.requires.closed) c.in-List.is in
-    let f = ∥∥₁_map c.requires.fits (fits_items _ _ _ _ e) in
-    let l = ∥∥₁_elim c.requires.fits le_prop (fits_some _ _ _ _ e) in
+    let e = held c.node.ensures c.in-List.is in
+    let b = below c.node.ensures c.in-List.is c.requires.closed in
+    let f = ∥∥₁_map c.requires.fits (fits_items _ e) in
+    let l = ∥∥₁_elim c.requires.fits le_prop (fits_some _ e) in
     search (rules, b, f, l)
 
 pub send-send_members-requires : goal.send-send_members-requires
 send-send_members-requires g t c =
-    let e = held _ _ _ c.node.ensures.held c.in-Dict.is in
-    let b = below _ _ _ (c.node.ensures.below c.requires.closed) c.in-Dict.is in
-    let f = ∥∥₁_map c.requires.fits (fits_members _ _ _ _ e) in
-    let l = ∥∥₁_elim c.requires.fits le_prop (fits_any _ _ _ _ e) in
+    let e = held c.node.ensures c.in-Dict.is in
+    let b = below c.node.ensures c.in-Dict.is c.requires.closed in
+    let f = ∥∥₁_map c.requires.fits (fits_members _ e) in
+    let l = ∥∥₁_elim c.requires.fits le_prop (fits_any _ e) in
     (search (rules, b, f, l))
 
 pub send-returns-in-Null : goal.send-returns-in-Null
-send-returns-in-Null g t c = let e = held _ _ _ c.node.ensures.held c.in-Null.is in
-    on_ok_weaker c.unit.result (λ w. sends_null _ _ _ _ e w) c.unit.ensures
+send-returns-in-Null g t c = let e = held c.node.ensures c.in-Null.is in
+    on_ok_weaker c.unit.result (λ w. sends_null _ _ e w) c.unit.ensures
 
 pub send-returns-in-Bool : goal.send-returns-in-Bool
-send-returns-in-Bool g t c = let e = held _ _ _ c.node.ensures.held c.in-Bool.is in
-    on_ok_weaker c.bool.result (λ w. sends_bool _ _ _ _ _ e w) c.bool.ensures
+send-returns-in-Bool g t c = let e = held c.node.ensures c.in-Bool.is in
+    on_ok_weaker c.bool.result (λ w. sends_bool _ _ e w) c.bool.ensures
 
 pub send-returns-in-Int : goal.send-returns-in-Int
-send-returns-in-Int g t c = let e = held _ _ _ c.node.ensures.held c.in-Int.is in
+send-returns-in-Int g t c = let e = held c.node.ensures c.in-Int.is in
     let is : number_view c.from.result ≡ of_integer c.in-Int.number =
     search (rules, c.from.ensures) in
-    on_ok_weaker c.serialize.result (λ w. sends_int _ _ _ _ c.in-Int.number _ e is w)
+    on_ok_weaker c.serialize.result (λ w. sends_int _ _ c.in-Int.number _ e is w)
     c.serialize.ensures
 
 pub send-returns-in-Text : goal.send-returns-in-Text
-send-returns-in-Text g t c = let e = held _ _ _ c.node.ensures.held c.in-Text.is in
-    on_ok_weaker c.str.result (λ w. sends_text _ _ _ _ _ e w) c.str.ensures
+send-returns-in-Text g t c = let e = held c.node.ensures c.in-Text.is in
+    on_ok_weaker c.str.result (λ w. sends_text _ _ e w) c.str.ensures
 
 pub send-returns-in-List : goal.send-returns-in-List
-send-returns-in-List g t c = let e = held _ _ _ c.node.ensures.held c.in-List.is in
-    on_ok_weaker c.send_items.result (λ w. sends_array _ _ _ _ _ e w) c.send_items.ensures
+send-returns-in-List g t c = let e = held c.node.ensures c.in-List.is in
+    on_ok_weaker c.send_items.result (λ w. sends_array _ _ e w) c.send_items.ensures
 
 pub send-returns-in-Dict : goal.send-returns-in-Dict
-send-returns-in-Dict g t c = let e = held _ _ _ c.node.ensures.held c.in-Dict.is in
-    on_ok_weaker c.send_members.result (λ w. sends_object _ _ _ _ _ e w) c.send_members.ensures
+send-returns-in-Dict g t c = let e = held c.node.ensures c.in-Dict.is in
+    on_ok_weaker c.send_members.result (λ w. sends_object _ _ e w) c.send_members.ensures
 
 pub send_items-loop-item-init : goal.send_items-loop-item-init
 send_items-loop-item-init g t c = no_items_sent _ _ _

@@ -20,12 +20,7 @@ pub fill-requires-clause-within : goal.fill-requires-clause-within
 fill-requires-clause-within c =
     let f : FindsObject (found_above c.args.takes (seen_entries c.args.self.now.stack.items []))
     c.args.self.now.stack.items (Some (c.in-Some.place, c.in-Some.receiver)) =
-    subst
-    (λ l. FindsObject (found_above c.args.takes (seen_entries l [])) l
-    (Some (c.in-Some.place, c.in-Some.receiver))) c.deref.ensures.value
-    (subst
-    (λ o. FindsObject (found_above c.args.takes (seen_entries c.deref.result.now []))
-    c.deref.result.now o) c.in-Some.is c.receiver_of.ensures) in
+    rw c.deref.ensures.value at (rw c.in-Some.is at c.receiver_of.ensures) in
     let b = above_below (length (kept_all c.args.self.now.objects.items)) c.args.takes
     (seen_entries c.args.self.now.stack.items []) _ c.requires f.1 in
     subst (λ n. c.in-Some.receiver < n) (kept_length c.args.self.now.objects.items) b.0.0
@@ -34,12 +29,7 @@ pub returns-in-Ok-clause-ok : goal.returns-in-Ok-clause-ok
 returns-in-Ok-clause-ok c =
     let f : FindsObject (found_above c.args.takes (seen_entries c.args.self.now.stack.items []))
     c.args.self.now.stack.items (Some (c.in-Some.place, c.in-Some.receiver)) =
-    subst
-    (λ l. FindsObject (found_above c.args.takes (seen_entries l [])) l
-    (Some (c.in-Some.place, c.in-Some.receiver))) c.deref.ensures.value
-    (subst
-    (λ o. FindsObject (found_above c.args.takes (seen_entries c.deref.result.now []))
-    c.deref.result.now o) c.in-Some.is c.receiver_of.ensures) in
+    rw c.deref.ensures.value at (rw c.in-Some.is at c.receiver_of.ensures) in
     ap (λ x. and_then x (λ t. Ok (filled_of t (parts c.args.self.now)))) f.1
     ∙ filled c.args.self.now.memo _ _ _ _
     (sym (ap (λ l. seen_entries l []) c.in-Ok.ensures.stack ∙ f.2))

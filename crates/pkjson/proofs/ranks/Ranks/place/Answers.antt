@@ -9,11 +9,5 @@ use Rattle.pkjson.proofs.ranks.Ranks.place.Goals as goal
 
 pub returns-then-number-len : goal.returns-then-number-len
 returns-then-number-len c =
-    subst
-    (λ p. IfSome p
-    (StandsIn c.args.self.now.texts.items
-    (characters (kind_at (kept_all c.args.self.now.objects.now) c.args.number))))
-    (sym c.index.ensures)
-    (place_at c.args.self.now.texts.items (kept_all c.args.self.now.objects.now)
-    c.args.self.now.places.items c.requires.places c.args.number c.index.result.now
-    (omega arith))
+    rw c.index.ensures (place_at c.args.self.now.texts.items (kept_all c.args.self.now.objects.now)
+    c.args.self.now.places.items c.requires.places c.args.number c.index.result.now (omega arith))

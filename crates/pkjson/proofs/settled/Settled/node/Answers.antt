@@ -13,5 +13,4 @@ returns c =
     c.deref.ensures.value in
     let w = subst (λ x. Shows (node_of c.deref-2.result.now x o) n) p c.node_of.ensures in
     node_there c.args.self.now c.args.number o n c.requires c.index-objects-number.is
-    (subst (λ ds. Shows (node_of ds (slice_index c.args.self.now.places.items c.args.number) o) n)
-    c.deref-2.ensures.value w)
+    (rw c.deref-2.ensures.value at w)
