@@ -4,5 +4,4 @@ pub mod Followed
 pub mod NewNumbers
 pub mod WritesKept
 pub mod Parts
-pub mod Lengths
 pub mod EarlyReads

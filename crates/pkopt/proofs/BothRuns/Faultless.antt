@@ -27,8 +27,8 @@ use Rattle.pkcheck.specs.RunFaults.{HasRunFault}
 use Rattle.pkmachine.specs.Runs.{Event, State, Outcome, Raise, Stepped, WentOn, Raised, Stopped}
 use Rattle.pkmachine.specs.Runs.{effect_asks, move_step, perform, start, step}
 use Rattle.pkstack.specs.Shape.{Breach, Entry, Shape, moved}
-use Rattle.pkmachine.specs.WholeRuns.{Ended, EndedBy, EndsWell, Reached, Sound, first_outcome, go_on}
-use Rattle.pkmachine.specs.WholeRuns.{outcomes_after, run}
+use Rattle.pkmachine.specs.WholeRuns.{Ended, EndedBy, EndsWell, Reached, Sound, first_outcome}
+use Rattle.pkmachine.specs.WholeRuns.{go_on, outcomes_after, run}
 use Rattle.pkopt.proofs.BothRuns.AlikeSteps.{SameStep, perform_same, with_memo}
 use Rattle.pkopt.proofs.BothRuns.Origins.{Counterpart, IsMove}
 

@@ -12,7 +12,7 @@ use Rattle.pkmachine.specs.WholeRuns.{Ended, go_on, run, first_outcome, outcomes
 use Rattle.pkopt.specs.OneFrame.{is_proto, has_frame, frame_around, in_frame, optimized}
 use Rattle.pkopt.specs.RunsAlike.{RunsAlike}
 use Rattle.pkopt.specs.Slim.{renumbered, left_of, slim_from, slim}
-use Rattle.pkopt.specs.Writers.{Writes, after, sources, is_read, new_number, after_all}
+use Rattle.pkopt.specs.Writers.{Writes, after, sources, new_number, after_all}
 use Rattle.pkopt.proofs.BothRuns.AlikeSteps.{IsBlind}
 use Rattle.pkopt.proofs.SlimForm.NewForms.{NamesNumber, form_effect, left_by}
 use Rattle.pkopt.proofs.MemoWrites.NewNumbers.{after_all_le}
@@ -83,9 +83,6 @@ module _ (vs : List (Option ℕ)) where
 
   module _ (ws : Writes) (i : Instruction) (is : List Instruction) (j : Instruction)
       (back : List Instruction) where
-    rest_of : List Instruction
-    rest_of = slim_from vs (after i ws) is
-
     origin_by : (front l : List Instruction) → left_of vs ws (effect_of i.op) i ≡ l → IsShort l
         → l ++ slim_from vs (after i ws) is ≡ front ++ j ∷ back
         → ((f : List Instruction) → slim_from vs (after i ws) is ≡ f ++ j ∷ back

@@ -1,7 +1,7 @@
 -- The sources of reads, the first of which are kept as bytes.
 use Rattle.std.proofs.Common.{◌≡◌, ℕ, zero, suc, ◌<◌, ◌≤◌, ◌-◌, List, [], ◌∷◌, ◌++◌, length, take}
 use Rattle.std.proofs.Common.{get_or, set, Bool, true, false, Option, Some, None, refl, sym, ap}
-use Rattle.std.proofs.Common.{subst, ◌∙◌, arith, append_assoc, append-nil}
+use Rattle.std.proofs.Common.{◌∙◌, arith, append_assoc, append-nil}
 use Rattle.std.proofs.Math.Seq.{take-suc}
 use Rattle.std.proofs.lemmas.List.{get_or-append_right, get_or_append_left}
 use Rattle.pkopt.specs.Private.Passes.{AreKept, KeepsMore}
@@ -86,10 +86,6 @@ pub keeps_none : (first old : List Bool) (late : List (Option ℕ)) (m k : ℕ) 
     → KeepsMore first old (take k late) → KeepsMore first old (take m late)
 keeps_none first old late m k d is lt e h = λ vs first_so.
     rw (late_all vs late m k d None is lt e) (unmarked (vs ++ take k late) old (h vs first_so))
-
--- nothing is marked yet
-pub keeps_nothing : (kept : List Bool) → KeepsMore kept kept []
-keeps_nothing kept = λ vs h. subst (λ (l : List (Option ℕ)). AreKept l kept) (sym (append-nil vs)) h
 
 -- the list was lengthened first
 pub keeps_longer : (old longer new : List Bool) (more : List (Option ℕ))

@@ -1,8 +1,7 @@
 -- Following the memo writes along instructions.
-use Rattle.std.proofs.Common.{◌≡◌, ℕ, ◌+◌, cond, List, [], ◌∷◌, ◌++◌, length, Option, Some, Result}
-use Rattle.std.proofs.Common.{Ok, Err, inl, inr, refl, sym, ap, subst, ◌∙◌, arith}
+use Rattle.std.proofs.Common.{◌≡◌, ℕ, ◌+◌, cond, List, [], ◌∷◌, length, Some, inl, inr, refl, sym}
+use Rattle.std.proofs.Common.{ap, subst, ◌∙◌, arith}
 use Rattle.std.proofs.lemmas.Bool.Decides.{eqb_tells}
-use Rattle.std.specs.Prelude.{OnOk}
 use Rattle.pkops.specs.declared.Op.{Op}
 use Rattle.pkops.specs.declared.Op.TheVariants as op
 use Rattle.pkstack.specs.Shape.{recalled, stored}
@@ -11,8 +10,8 @@ use Rattle.pkmachine.specs.Effects.{Moves, effect_of}
 use Rattle.pkopt.specs.declared.memo.MemoUse.TheVariants.{Stores, StoresNext, Fetches}
 use Rattle.pkopt.specs.declared.trace.Trace.{Trace}
 use Rattle.pkopt.specs.Private.Memories.{HoldsWrites}
-use Rattle.pkopt.specs.Private.Passes.{FollowsWrites, NotesStep, memo_use}
-use Rattle.pkopt.specs.Writers.{Writes, last_write, different, more_if_none, read_by}
+use Rattle.pkopt.specs.Private.Passes.{FollowsWrites, memo_use}
+use Rattle.pkopt.specs.Writers.{Writes, last_write, different, more_if_none}
 use Rattle.pkopt.proofs.MemoWrites.Recalled.{recalled_same, recalled_other, rising_insert}
 use Rattle.pkopt.proofs.MemoWrites.Recalled.{length_insert}
 
@@ -64,17 +63,3 @@ effect_next o e = cc
 pub effect_fetches : (o : Op) → memo_use o ≡ Fetches → effect_of o ≡ Moves move.Fetches
 effect_fetches op.Get e = refl
 effect_fetches o e = cc
-
--- a step does the same to the memo from a trace that is alike
-module _ {A E : Type 0} (o : Op) (old new : Trace) (n : ℕ) where
-  pub step_from : (mid : Trace) (r : Result A E) → mid.writes ≡ old.writes → mid.memo ≡ old.memo
-      → mid.sources.items ≡ old.sources.items → OnOk r (NotesStep o n mid new)
-      → OnOk r (NotesStep o n old new)
-  step_from mid (Ok a) count same kept step = λ ws h.
-      let s = step ws
-      (record {
-        holds = subst (HoldsWrites ws) (sym same) h.holds;
-        count = count ∙ h.count;
-      }) in
-      (s.0, s.1 ∙ ap (λ (l : List (Option ℕ)). l ++ read_by (effect_of o) n ws) kept)
-  step_from mid (Err a) count same kept step = tt

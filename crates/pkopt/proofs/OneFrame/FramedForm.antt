@@ -1,7 +1,7 @@
 -- The optimized form is framed, and has the same runs.
 use Rattle.std.proofs.Common.{◌≡◌, ℕ, ◌+◌, ◌-◌, ◌<◌, Bool, true, false, cond, ◌||◌, List, [], ◌∷◌}
 use Rattle.std.proofs.Common.{◌++◌, length, map, Option, None, Some, option_map, All, ◌⊎◌, inl, inr}
-use Rattle.std.proofs.Common.{refl, sym, ap, subst, ◌∙◌, arith, MatchOption, length-append}
+use Rattle.std.proofs.Common.{refl, sym, ap, subst, ◌∙◌, arith, length-append}
 use Rattle.std.specs.Prelude.{◌≢◌}
 use Rattle.std.proofs.lemmas.Bool.{or_parts}
 use Rattle.std.proofs.lemmas.Bool.Decides.{nat_tests}
@@ -10,7 +10,7 @@ use Rattle.pkops.specs.declared.Op.{Op}
 use Rattle.pkops.specs.declared.Op.TheVariants as op
 use Rattle.pkops.specs.Spelling.{Instruction, spelling}
 use Rattle.pkread.specs.Framing.{Role, stop, other, total, counted, one_later, refused_at, Framed}
-use Rattle.pkread.specs.Framing.{FirstUnframed, CountingIsExact}
+use Rattle.pkread.specs.Framing.{CountingIsExact}
 use Rattle.pkread.specs.Genops.{is_stop}
 use Rattle.pkread.specs.Pieces.{role_of, number_of, piece_of}
 use Rattle.pkread.specs.Sequence.{spellings}

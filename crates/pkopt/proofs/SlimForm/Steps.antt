@@ -11,8 +11,7 @@ use Rattle.pkopt.specs.declared.memo.MemoUse.TheVariants.{Stores, Fetches}
 use Rattle.pkopt.specs.declared.place.Part.{Part}
 use Rattle.pkopt.specs.declared.place.Place.{Place}
 use Rattle.pkopt.specs.declared.slim.Pass.{Pass}
-use Rattle.pkopt.specs.Private.Fates.{fate_by, fate_in, reads_after, writes_after}
-use Rattle.pkopt.specs.Private.Passes.{memo_use}
+use Rattle.pkopt.specs.Private.Fates.{fate_by, reads_after, writes_after}
 use Rattle.pkopt.specs.Private.Places.{place_behind, places_behind, stays_as_is}
 use Rattle.pkopt.specs.Private.Produced.{emitted, fate_at, from_after, passed, produced}
 use Rattle.pkopt.proofs.SlimForm.PlainInstructions.{uses_none}
@@ -23,19 +22,6 @@ same_pass s t w r f =
     ap (λ n. record { writes = n; reads = s.reads; from = s.from }) w
     ∙ ap (λ n. record { writes = t.writes; reads = n; from = s.from }) r
     ∙ ap (λ n. record { writes = t.writes; reads = t.reads; from = n }) f
-
--- the pass has the fate that it finds, and goes on behind it
-module _ (plan : Plan) (x : Place) (s mid : Pass) (f : Fate)
-    (fate : f ≡ fate_in plan x.op s.writes s.reads) (from : mid.from ≡ s.from) where
-  pub emits : (bytes : List ℕ) → emitted f x bytes mid.from
-      ≡ emitted (fate_at plan x s) x bytes s.from
-  emits bytes = ap (λ n. emitted f x bytes n) from ∙ ap (λ f. emitted f x bytes s.from) fate
-
-  pub goes_behind : (new : Pass) → mid.writes ≡ writes_after (memo_use x.op) s.writes
-      → mid.reads ≡ reads_after (memo_use x.op) s.reads → new.writes ≡ mid.writes
-      → new.reads ≡ mid.reads → new.from ≡ from_after f x mid.from → new ≡ passed plan x s
-  goes_behind new w r nw nr nf = same_pass new (passed plan x s) (nw ∙ w) (nr ∙ r)
-      (nf ∙ ap (λ n. from_after f x n) from ∙ ap (λ f. from_after f x s.from) fate)
 
 -- what the step gives comes before what is produced behind it
 pub stepped : (plan : Plan) (bytes : List ℕ) (taken : ℕ) (x : Place) (xs : List Place)

@@ -196,7 +196,7 @@ module _ (bytes : List ℕ) (places : List Place) (taken : ℕ) (plan : Plan) (p
         (form_plain h.before next.plain (i ∷ next.others) out h.at next.all_plain h.begun
         (rw next.parts at h.stood))
 
-    -- it begins behind what is copied, and within the bytes
+    -- it begins behind what is copied
     pub begun_at : out.from ≤ place.at
     begun_at = let e = stands_at in let le = h.begun in omega (arith, e, le)
 
@@ -205,17 +205,6 @@ module _ (bytes : List ℕ) (places : List Place) (taken : ℕ) (plan : Plan) (p
         let one : spellings (i ∷ []) ≡ spelling i = append-nil (spelling i) in
         ap (λ n. take n (drop place.at bytes)) (size_so ∙ ap (λ (l : List ℕ). length l) (sym one))
         ∙ middle done (i ∷ []) next.others place.at there.here there.parts ∙ one
-
-    pub within_at : place.at + place.size ≤ length bytes
-    within_at =
-        let e = there.here in
-        let size = size_so in
-        let l = ap length (bytes_at done (i ∷ next.others) there.parts) in
-        let a = length-append (spellings done)
-        ((spelling i ++ spellings next.others) ++ aims.rest) in
-        let b = length-append (spelling i ++ spellings next.others) aims.rest in
-        let c = length-append (spelling i) (spellings next.others) in
-        omega (arith, e, size, l, a, b, c)
 
     abbrev fate : Fate
     fate = fate_in plan i.op out.writes out.reads

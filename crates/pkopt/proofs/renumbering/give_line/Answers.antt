@@ -1,6 +1,5 @@
 -- One digit is the numeral of a number below 10, and two digits that of one below 100.
-use Rattle.std.proofs.Common.{◌≡◌, ℕ, List, [], ◌∷◌, ◌++◌, ◌∙◌, ◌/◌, ◌%◌, ◌+◌, ap, sym, subst}
-use Rattle.std.proofs.Common.{arith}
+use Rattle.std.proofs.Common.{◌≡◌, ℕ, List, [], ◌∷◌, ◌++◌, ◌∙◌, ◌/◌, ◌%◌, ◌+◌, ap, sym, arith}
 use Rattle.std.specs.Fmt.{decimal}
 use Rattle.std.proofs.lemmas.Fmt.{decimal_digit, decimal_step}
 use Rattle.pkops.specs.Table.{code_of}

@@ -1,6 +1,5 @@
 -- Code, digits and line feed, given one after the other, are given as one line.
-use Rattle.std.proofs.Common.{ℕ, List, [], ◌∷◌, ◌++◌, subst, ◌∙◌}
-use Rattle.pkops.specs.Table.{code_of}
+use Rattle.std.proofs.Common.{[], ◌∷◌, ◌++◌, ◌∙◌}
 use Rattle.pkopt.proofs.Pieces.{on_ok}
 use Rattle.pkopt.proofs.renumbering.give_long_line.Goals as goal
 

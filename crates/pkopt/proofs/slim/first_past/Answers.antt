@@ -1,7 +1,6 @@
 -- Each part ends within 64 bits, because the last one does.
-use Rattle.std.proofs.Common.{arith, ap, subst, sym, ◌∙◌, ◌^◌, ◌<◌}
-use Rattle.pkopt.specs.declared.place.Part.{Part}
-use Rattle.pkopt.specs.Private.Places.{end_of, place_behind}
+use Rattle.std.proofs.Common.{arith, ap, ◌∙◌, ◌^◌}
+use Rattle.pkopt.specs.Private.Places.{place_behind}
 use Rattle.pkopt.proofs.MemoWrites.Parts.{ends_short, short_behind}
 use Rattle.pkopt.proofs.slim.first_past.Goals as goal
 

@@ -1,16 +1,9 @@
 -- A byte numbers a write below 256, and so far the list of marks reaches at once.
-use Rattle.std.proofs.Common.{arith, refl, sym, subst, true, ◌+◌, List, ℕ}
+use Rattle.std.proofs.Common.{arith, refl, sym, true, ◌+◌}
 use Rattle.std.proofs.lemmas.List.{length-set, take_all}
-use Rattle.pkopt.specs.Private.Passes.{KeepsMore}
 use Rattle.pkopt.specs.Private.Sourced.{in_bytes}
-use Rattle.pkopt.proofs.MemoWrites.EarlyReads.{keeps_early, keeps_longer, keeps_nothing}
+use Rattle.pkopt.proofs.MemoWrites.EarlyReads.{keeps_early, keeps_longer}
 use Rattle.pkopt.proofs.sources.keep_early.Goals as goal
-
-pub loop-write-init : goal.loop-write-init
-loop-write-init c = record {
-  marked = keeps_nothing c.reach.new.kept.items;
-  there = (let there = c.in_ok-reach.ensures.there in omega (arith, there));
-}
 
 pub loop-write-preserved : goal.loop-write-preserved
 loop-write-preserved c = let there = c.loop-write.invariant.there in record {

@@ -1,13 +1,8 @@
 -- A source marks its write once the list reaches it, and a read without a source marks none.
-use Rattle.std.proofs.Common.{arith, sym, subst, ◌∙◌, ◌+◌, List, Option, ℕ}
-use Rattle.std.proofs.lemmas.List.{take_all}
-use Rattle.pkopt.specs.Private.Passes.{KeepsMore}
-use Rattle.pkopt.proofs.MemoWrites.EarlyReads.{keeps_late, keeps_none, keeps_nothing}
+use Rattle.std.proofs.Common.{arith, sym, ◌∙◌, ◌+◌}
+use Rattle.pkopt.proofs.MemoWrites.EarlyReads.{keeps_late, keeps_none}
 use Rattle.pkopt.proofs.sources.keep_late.Goals as goal
 use Rattle.pkopt.proofs.sources.keep_late.Goals.{in-Some+in_ok-reach, in_default}
-
-pub loop-source-init : goal.loop-source-init
-loop-source-init c = record { marked = keeps_nothing c.args.kept.now.items }
 
 pub loop-source-preserved : goal.loop-source-preserved
 loop-source-preserved c =
@@ -30,7 +25,3 @@ loop-source-preserved c =
                 (sym c.source-item.is ∙ sym c.number.ensures ∙ w.in_default.is) before;
           })
     ]
-
-pub returns : goal.returns
-returns c = rw (take_all c.loop-source.source-index c.args.late.now c.loop-source-test.false) at
-    c.loop-source.invariant.marked

@@ -1,7 +1,7 @@
 -- Marking first what early reads read and then what late ones do marks all that is read.
-use Rattle.std.proofs.Common.{subst, List, Option, ℕ}
-use Rattle.pkopt.specs.Private.Passes.{AreKept, KeepsMore}
-use Rattle.pkopt.specs.Private.Sourced.{Sourced, in_bytes}
+use Rattle.std.proofs.Common.{subst}
+use Rattle.pkopt.specs.Private.Passes.{AreKept}
+use Rattle.pkopt.specs.Private.Sourced.{Sourced}
 use Rattle.pkopt.proofs.MemoWrites.EarlyReads.{keeps_all}
 use Rattle.pkopt.proofs.sources.Sources.kept_writes.Goals as goal
 

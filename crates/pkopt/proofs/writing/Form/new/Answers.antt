@@ -1,10 +1,7 @@
 -- The measure of the slim form gives the front and the length, with no sum past 64 bits.
-use Rattle.std.proofs.Common.{◌≡◌, ◌∙◌, ◌-◌, List, [], ap, arith, cond, refl, subst}
-use Rattle.std.specs.Prelude.{IfSome}
-use Rattle.pkopt.specs.declared.place.Part.{Part}
+use Rattle.std.proofs.Common.{◌∙◌, ◌-◌, [], ap, arith, cond, refl}
 use Rattle.pkopt.specs.Private.FrameBytes.{front_from, head_from}
 use Rattle.pkopt.specs.Private.Outputs.{slim_bytes}
-use Rattle.pkopt.specs.Private.Sinks.{Measures}
 use Rattle.pkopt.proofs.OneFrame.Fronts.{fronted, fronted_length}
 use Rattle.pkopt.proofs.writing.Form.new.Goals as goal
 
