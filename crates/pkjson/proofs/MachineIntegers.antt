@@ -1,7 +1,7 @@
 -- Integers that 64 bits hold.
 use Rattle.std.proofs.Common.{◌≡◌, ◌≢◌, ℕ, zero, suc, ◌+◌, ◌-◌, ◌*◌, ◌^◌, ◌<◌, ◌≤◌, Bool, true}
-use Rattle.std.proofs.Common.{false, cond, List, [], ◌∷◌, length, drop, get_or, refl, sym, ap, ◌∙◌}
-use Rattle.std.proofs.Common.{subst, arith, drop-cons}
+use Rattle.std.proofs.Common.{false, cond, List, [], ◌∷◌, length, drop, get_or, refl, ap, ◌∙◌}
+use Rattle.std.proofs.Common.{arith, drop-cons}
 use Rattle.std.specs.Prelude.{nat_eq, nat_le}
 use Rattle.std.proofs.lemmas.Bool.{ne_eqb}
 use Rattle.pkjson.specs.Integers.{decimal_after, natural, has_sign}

@@ -167,11 +167,6 @@ pub record Pairing (ts : List Member) (ks : List Kept) (n : ℕ) (given : List �
   pub below : All (λ m. m.1 < n) (values_of es)
 
 module _ (ts : List Member) (ks : List Kept) (n : ℕ) (given : List ℕ) where
-  pub pairing_begins : Pairing ts ks n given 0 []
-  unfolding IsStrictlySortedBy
-  pairing_begins =
-      record { within = omega arith; rest = refl; keys = tt; stands = All-nil _; below = All-nil _ }
-
   pub pairing_goes_on : (i : ℕ) (es fs : List (ℕ × Member)) (place : ℕ) (m : Member)
       → Ascending (named_members ts) → Pairing ts ks n given i es → i + 1 < length given
       → All (λ x. x < n) given → StandsIn ts (characters (kind_at ks (get_or given i 0))) place

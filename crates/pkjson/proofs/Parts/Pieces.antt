@@ -7,7 +7,7 @@ use Rattle.std.specs.Io.KnownBytes.{Appends}
 use Rattle.std.proofs.Math.Seq.{take-add}
 use Rattle.std.proofs.lemmas.Bool.{lt-ltb}
 use Rattle.std.specs.List.{drop-map}
-use Rattle.std.proofs.lemmas.List.{take_at, take_all, take-map}
+use Rattle.std.proofs.lemmas.List.{take_at, take-map}
 use Rattle.std.proofs.lemmas.List.Edits.{length-between}
 use Rattle.serde_json.specs.Data.{array, object, string, Items, no_items, item, Members, no_members}
 use Rattle.serde_json.specs.Data.{member}
@@ -241,14 +241,6 @@ module _ (h : Heap) where
   pub no_members_written : (a : Option (List ℕ)) → WritesMembers h [] a a
   unfolding WritesMembers
   no_members_written a = (no_members, tt, appends_none a)
-
-  pub all_items : (xs : List ℕ) (n : ℕ) (a b : Option (List ℕ)) → length xs ≤ n
-      → WritesItems h (take n xs) a b → WritesItems h xs a b
-  all_items xs n a b l w = subst (λ ys. WritesItems h ys a b) (take_all n xs l) w
-
-  pub all_members : (xs : List (List ℕ × ℕ)) (n : ℕ) (a b : Option (List ℕ)) → length xs ≤ n
-      → WritesMembers h (take n xs) a b → WritesMembers h xs a b
-  all_members xs n a b l w = subst (λ ys. WritesMembers h ys a b) (take_all n xs l) w
 
   -- one alone
   pub one_item : (xs : List ℕ) (a b : Option (List ℕ)) → length xs ≡ 1

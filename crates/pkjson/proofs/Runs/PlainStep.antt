@@ -30,8 +30,8 @@ use Rattle.pkjson.specs.Private.Arena.{is_text_kind}
 use Rattle.pkjson.specs.Private.PlainActions.{picked, found_above, made_of, filled_of, kind_made}
 use Rattle.pkjson.specs.Private.PlainActions.{move_of, acted, MakesSame, FillsSame, ActsAs}
 use Rattle.pkjson.specs.Private.PlainActions.{KindsAgree}
-use Rattle.pkjson.specs.Private.Mirrors.{Mirrors, AreBelow, EntriesBelow, CellsBelow, IsHeld}
-use Rattle.pkjson.specs.Private.Mirrors.{GivenBelow, MirrorsState}
+use Rattle.pkjson.specs.Private.Mirrors.{AreBelow, EntriesBelow, CellsBelow, IsHeld, GivenBelow}
+use Rattle.pkjson.specs.Private.Mirrors.{MirrorsState}
 use Rattle.pkjson.proofs.Kept.EventsMirrored.{kind_update, mirrors_made, mirrors_received}
 use Rattle.pkjson.proofs.Kept.OperandsTaken.{found_of, above_of, found_below, above_below}
 use Rattle.pkjson.proofs.Kept.OperandsTaken.{above_first, moved_below, TakenBelow}

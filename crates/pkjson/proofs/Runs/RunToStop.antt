@@ -10,12 +10,9 @@ use Rattle.pkops.specs.Limits.{Bounds, holding_all}
 use Rattle.pkops.specs.Payloads.{is_passed, payload_limit}
 use Rattle.pkops.specs.Spelling.{Instruction, spelling}
 use Rattle.pkops.specs.Answer.{Whole, Answers}
-use Rattle.pkops.specs.declared.Reason.{Reason}
 use Rattle.pkread.specs.Rows.{Sight, in_memory}
 use Rattle.pkmachine.specs.declared.OldStrings.TheVariants.{Unknown}
 use Rattle.pkimport.specs.Import.{Asked}
-use Rattle.pkcheck.specs.Refused.{Refused}
-use Rattle.pkjson.specs.declared.error.ExportError.{ExportError}
 use Rattle.pkread.specs.Admission.{IsAllowed}
 use Rattle.pkread.specs.Sequence.{IsSequence, spellings}
 use Rattle.pkmachine.specs.Runs.{Outcome, start}
@@ -25,8 +22,7 @@ use Rattle.pkcheck.specs.Accepted.{Accepted}
 use Rattle.pkjson.specs.Plain.{goes_on}
 use Rattle.pkjson.specs.Private.Arena.{no_object}
 use Rattle.pkjson.specs.Private.Mirrors.{MirrorsState}
-use Rattle.pkjson.specs.Export.{AcceptedAs, IsAccepted, IsNotExported}
-use Rattle.pkjson.specs.Private.Result.{TellsRefusal}
+use Rattle.pkjson.specs.Export.{AcceptedAs, IsAccepted}
 use Rattle.pkjson.proofs.Runs.PlainRun.{HasStop, Stands, run_is}
 
 has_stop : (front : List Instruction) (last : Instruction) → last.op ≡ op.Stop
@@ -105,12 +101,3 @@ accepted_as limits bytes {held} {old} {new} {taken} {imports} l e a =
       b.instructions,
       record { new = new; taken = taken; imports = imports; accepted = b; is = refl },
     )
-
--- and what it refuses
-pub refused_as : (limits : Bounds) (bytes rest : List ℕ) {held : Bounds} {old : Sight} {at : ℕ}
-    {why : Reason} {pair : Option Asked} (e : ExportError) → held ≡ holding_all limits
-    → old ≡ in_memory bytes → Refused Unknown None held old (in_memory rest) at why pair
-    → TellsRefusal at why e → IsNotExported limits bytes e
-refused_as limits bytes rest e l s r (inl q) = rw q tt
-refused_as limits bytes rest {pair = pair} e l s r (inr q) =
-    rw q.1 ((rest, pair, rw (l, s) at r), q.0)

@@ -1,7 +1,4 @@
 -- Replayed objects are closed, so the result has a value within the limits or a reason not to.
-use Rattle.std.proofs.Common.{subst, sym, ◌<◌, length}
-use Rattle.pkjson.specs.Private.Seen.{kept_all}
-use Rattle.pkjson.specs.Private.Settled.{AreGivenBelow}
 use Rattle.pkjson.proofs.Runs.Answered.{result_within, result_closed, value_answered}
 use Rattle.pkjson.proofs.Runs.Answered.{refusal_answered}
 use Rattle.pkjson.proofs.exporting.export.Goals as goal

@@ -1,7 +1,4 @@
 -- The text of the settled result is that of the pickle's value, and so is a refusal of it.
-use Rattle.std.proofs.Common.{subst, sym, ◌<◌, length}
-use Rattle.pkjson.specs.Private.Seen.{kept_all}
-use Rattle.pkjson.specs.Private.Settled.{AreGivenBelow}
 use Rattle.pkjson.proofs.Runs.Answered.{result_within, result_closed, text_answered}
 use Rattle.pkjson.proofs.Runs.Answered.{refusal_answered}
 use Rattle.pkjson.proofs.exporting.export_text.Goals as goal

@@ -1,8 +1,5 @@
 -- Of the text of an array or an object, all between its brackets is the part that is written.
-use Rattle.std.proofs.Common.{subst}
 use Rattle.std.proofs.lemmas.Result.{on_ok_weaker}
-use Rattle.pkjson.specs.Private.Nodes.{heap}
-use Rattle.pkjson.specs.Private.Parts.{IsPartText}
 use Rattle.pkjson.proofs.Parts.Pieces.{array_long, array_written, object_long, object_written}
 use Rattle.pkjson.proofs.Parts.Pieces.{whole_written}
 use Rattle.pkjson.proofs.pieces.write_part.Goals as goal

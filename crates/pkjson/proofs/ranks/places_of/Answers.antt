@@ -1,8 +1,7 @@
 -- Each turn adds a note: the position at which the object's text was found, or none.
-use Rattle.std.proofs.Common.{◌∙◌, ◌∷◌, [], ap, arith, sym, subst, IfSome, length-append}
+use Rattle.std.proofs.Common.{◌∙◌, ◌∷◌, [], ap, arith, sym, length-append}
 use Rattle.pkjson.specs.Private.Arena.{kind_at}
 use Rattle.pkjson.specs.Contents.{characters}
-use Rattle.pkjson.specs.Private.Ranks.{StandsIn}
 use Rattle.pkjson.specs.Private.Seen.{kept_all}
 use Rattle.pkjson.proofs.DictKeys.KeyPlaces.{places_more, short_place}
 use Rattle.pkjson.proofs.DictKeys.SettledMembers.{kept_length}

@@ -1,6 +1,6 @@
 -- Each turn settles one object, whose operands are all among the objects there are.
-use Rattle.std.proofs.Common.{◌≡◌, rules, sym, subst, ◌<◌, All, length}
-use Rattle.pkjson.specs.Private.Seen.{kept_all, kept_of}
+use Rattle.std.proofs.Common.{◌≡◌, rules, length}
+use Rattle.pkjson.specs.Private.Seen.{kept_all}
 use Rattle.pkjson.proofs.DictKeys.SettledMembers.{given_there}
 use Rattle.pkjson.proofs.DictKeys.DictsAdded.{all_settled, none_settled, settled_next}
 use Rattle.pkjson.proofs.settle.settle.Goals as goal

@@ -1,8 +1,5 @@
 -- The position noted for an object is where its text stands in the list.
-use Rattle.std.proofs.Common.{sym, subst, arith, IfSome}
-use Rattle.pkjson.specs.Private.Arena.{kind_at}
-use Rattle.pkjson.specs.Contents.{characters}
-use Rattle.pkjson.specs.Private.Ranks.{StandsIn}
+use Rattle.std.proofs.Common.{arith}
 use Rattle.pkjson.specs.Private.Seen.{kept_all}
 use Rattle.pkjson.proofs.DictKeys.KeyPlaces.{place_at}
 use Rattle.pkjson.proofs.ranks.Ranks.place.Goals as goal
