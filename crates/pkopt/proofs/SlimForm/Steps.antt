@@ -1,8 +1,6 @@
 -- One step of the second pass.
 use Rattle.std.proofs.Common.{◌≡◌, ℕ, ◌+◌, ◌<◌, ◌≤◌, Bool, true, false, cond, List, ◌∷◌, ◌++◌}
 use Rattle.std.proofs.Common.{length, drop, get_or, refl, sym, ap, ◌∙◌, arith, append_assoc}
-use Rattle.pkops.specs.declared.Op.{Op}
-use Rattle.pkops.specs.declared.Op.TheVariants as op
 use Rattle.pkopt.specs.declared.fate.Fate.{Fate}
 use Rattle.pkopt.specs.declared.fate.Fate.TheVariants.{Goes, Stays}
 use Rattle.pkopt.specs.declared.fate.Plan.{Plan}
