@@ -1,6 +1,6 @@
 -- What the verdicts for C mean.
-use Rattle.std.specs.Prelude.{◌≡◌, ◌≢◌, ◌≤◌, ◌++◌, ◌⊎◌, ℕ, List, length, drop, leb, if◌then◌else◌, codes}
-use Rattle.std.specs.Prelude.{Option, Some, None, Ok, Err, false, true}
+use Rattle.std.specs.Prelude.{◌≡◌, ◌≢◌, ◌≤◌, ◌++◌, ◌⊎◌, ℕ, List, length, drop, leb, codes, Option}
+use Rattle.std.specs.Prelude.{if◌then◌else◌, Some, None, Ok, Err, false, true}
 use Rattle.std.specs.Str.{IsUtf8}
 use Rattle.toml.specs.Data.{Members, get_member}
 use Rattle.toml.specs.Errors.{IsBlank}

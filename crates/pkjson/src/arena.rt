@@ -17,7 +17,7 @@ ghost use Rattle.pkjson.specs.Private.Held.{parts};
 use crate::action::{Action, Filled, Made, Takes};
 use crate::halt::Halt;
 use crate::kinds::{Kind, kind_of};
-use crate::moves::{Memo, apply};
+use crate::moves::{MemoTable, apply};
 use crate::objects::{Object, fill, make};
 use crate::slots::{Slot, place_of, receiver_of, top};
 use crate::texts::keys_are_texts;
@@ -27,7 +27,7 @@ use std::alloc::Global;
 /// The stack and the memo, which refer to objects by number, and the objects.
 pub struct Arena<'a> {
     pub stack: Vec<Slot>,
-    pub memo: Memo,
+    pub memo: MemoTable,
     pub objects: Vec<Object<'a>>,
 }
 
@@ -48,7 +48,7 @@ impl<'a> Arena<'a> {
     {
         Arena {
             stack: Vec::new(alloc),
-            memo: Memo::new(alloc, 0),
+            memo: MemoTable::new(alloc, 0),
             objects: Vec::new(alloc),
         }
     }

@@ -12,7 +12,7 @@ use crate::slots::{Slot, mark_place, top};
 use pkbase::NumberedMap;
 
 /// Object numbers by memo number.
-pub type Memo = NumberedMap<u32>;
+pub type MemoTable = NumberedMap<u32>;
 
 /// Pushes an entry.
 #[tactic(auto, using(crate::proofs::Entries::shown_append))]
@@ -28,7 +28,7 @@ fn push(stack: &mut Vec<Slot>, slot: Slot) -> Result<(), Halt>
 }
 
 /// Removes the topmost entry.
-fn pop(stack: &mut Vec<Slot>, memo: &Memo) -> Result<(), Halt>
+fn pop(stack: &mut Vec<Slot>, memo: &MemoTable) -> Result<(), Halt>
     ensures ok { OnOk result
         (moved (move_of Move.Pops) 0 (shape_seen stack.old.items memo.now)
         ≡ Ok (shape_seen stack.new.items memo.now)) }
@@ -44,7 +44,7 @@ fn pop(stack: &mut Vec<Slot>, memo: &Memo) -> Result<(), Halt>
 }
 
 /// Removes the topmost mark and everything above it.
-fn pop_mark(stack: &mut Vec<Slot>, memo: &Memo) -> Result<(), Halt>
+fn pop_mark(stack: &mut Vec<Slot>, memo: &MemoTable) -> Result<(), Halt>
     ensures ok { OnOk result
         (moved (move_of Move.PopsMark) 0 (shape_seen stack.old.items memo.now)
         ≡ Ok (shape_seen stack.new.items memo.now)) }
@@ -59,7 +59,7 @@ fn pop_mark(stack: &mut Vec<Slot>, memo: &Memo) -> Result<(), Halt>
 }
 
 /// Pushes the top again.
-fn duplicate(stack: &mut Vec<Slot>, memo: &Memo) -> Result<(), Halt>
+fn duplicate(stack: &mut Vec<Slot>, memo: &MemoTable) -> Result<(), Halt>
     ensures ok { OnOk result
         (moved (move_of Move.Duplicates) 0 (shape_seen stack.old.items memo.now)
         ≡ Ok (shape_seen stack.new.items memo.now)) }
@@ -73,7 +73,7 @@ fn duplicate(stack: &mut Vec<Slot>, memo: &Memo) -> Result<(), Halt>
 }
 
 /// Stores the top under a number.
-fn store(stack: &[Slot], memo: &mut Memo, number: u64) -> Result<(), Halt>
+fn store(stack: &[Slot], memo: &mut MemoTable, number: u64) -> Result<(), Halt>
     ensures ok { OnOk result
         (moved (move_of Move.Stores) number (shape_seen stack.now memo.old)
         ≡ Ok (shape_seen stack.now memo.new)) }
@@ -90,7 +90,7 @@ fn store(stack: &[Slot], memo: &mut Memo, number: u64) -> Result<(), Halt>
 }
 
 /// Pushes the memo entry of a number.
-fn fetch(stack: &mut Vec<Slot>, memo: &Memo, number: u32) -> Result<(), Halt>
+fn fetch(stack: &mut Vec<Slot>, memo: &MemoTable, number: u32) -> Result<(), Halt>
     ensures ok { OnOk result
         (moved (move_of Move.Fetches) number (shape_seen stack.old.items memo.now)
         ≡ Ok (shape_seen stack.new.items memo.now)) }
@@ -104,7 +104,12 @@ fn fetch(stack: &mut Vec<Slot>, memo: &Memo, number: u32) -> Result<(), Halt>
 }
 
 /// Applies a move.
-pub fn apply(stack: &mut Vec<Slot>, memo: &mut Memo, what: Move, number: u32) -> Result<(), Halt>
+pub fn apply(
+    stack: &mut Vec<Slot>,
+    memo: &mut MemoTable,
+    what: Move,
+    number: u32,
+) -> Result<(), Halt>
     ensures ok { OnOk result
         (moved (move_of what) number (shape_seen stack.old.items memo.old)
         ≡ Ok (shape_seen stack.new.items memo.new)) }

@@ -11,7 +11,7 @@ ghost use Rattle.pkload.specs.Tally.{with_keys};
 
 use crate::halt::Halt;
 use crate::making::tied;
-use crate::packed::{LIGHT, LIGHT_SALTED, Packed};
+use crate::packed::{LIGHT, LIGHT_SALTED, PackedHeft};
 use crate::stack::Stack;
 use crate::tally::Tally;
 
@@ -32,7 +32,7 @@ fn count_items(codes: &[u32], tally: &mut Tally) -> Result<(), Halt>
             if code == LIGHT_SALTED {
                 salted += 1;
             } else {
-                tally.add(Packed::from_code(code))?;
+                tally.add(PackedHeft::from_code(code))?;
             }
         }
     }
@@ -59,7 +59,7 @@ fn count_pairs(codes: &[u32], tally: &mut Tally) -> Result<(), Halt>
             if key == LIGHT_SALTED {
                 salted += 1;
             } else {
-                tally.add(Packed::from_code(key))?;
+                tally.add(PackedHeft::from_code(key))?;
             }
         }
     }
@@ -104,7 +104,7 @@ fn are_light(codes: &[u32]) -> bool
 /// What a tuple of these objects costs. Most tuples are of small ints and short texts.
 #[inline(always)]
 #[tactic(auto, using(crate::proofs::Lights::light_weights, crate::proofs::Lights::light_depths))]
-pub fn tied_all(codes: &[u32]) -> Result<Packed, Halt>
+pub fn tied_all(codes: &[u32]) -> Result<PackedHeft, Halt>
     ensures { IfOk result (IsTied (map unpacked codes.now)) }
 {
     if are_light(codes) {
@@ -118,7 +118,7 @@ const MOST_ITEMS: u64 = 17_592_186_044_415;
 
 /// What a tuple of any objects costs.
 #[inline(never)]
-fn tied_slowly(codes: &[u32]) -> Result<Packed, Halt>
+fn tied_slowly(codes: &[u32]) -> Result<PackedHeft, Halt>
     ensures { IfOk result (IsTied (map unpacked codes.now)) }
 {
     if codes.len() as u64 > MOST_ITEMS {
@@ -129,7 +129,7 @@ fn tied_slowly(codes: &[u32]) -> Result<Packed, Halt>
     let mut place = codes.len();
     'items: while place > 0 {
         place -= 1;
-        let heft = Packed::from_code(codes[place]);
+        let heft = PackedHeft::from_code(codes[place]);
         held += u64::from(heft.weight());
         deepest = deepest.max(heft.depth());
     }

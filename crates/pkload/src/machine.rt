@@ -16,13 +16,13 @@ mod slicing;
 
 use crate::action::{Action, action_of};
 use crate::halt::{Billing, Halt};
-use crate::memo::Memo;
+use crate::memo::MemoTable;
 use crate::memory::{after_move, after_stop, argument_bytes, number_kept, plus};
 use crate::moves::apply;
-use crate::packed::{LIGHT, Packed};
+use crate::packed::{LIGHT, PackedHeft};
 use crate::stack::Stack;
 use crate::tally::Tally;
-use pkcheck::Memo as Between;
+use pkcheck::Memo;
 use pkops::{Inst, Op};
 use pkstack::Move;
 use std::alloc::Global;
@@ -32,7 +32,7 @@ use std::marker::Model;
 /// takes, the highest memo number so far, and whether the pickle stopped.
 pub struct Machine {
     stack: Stack,
-    memo: Memo,
+    memo: MemoTable,
     tally: Tally,
     memory: u64,
     highest: u32,
@@ -73,7 +73,7 @@ impl Machine {
     {
         Machine {
             stack: Stack::new(alloc),
-            memo: Memo::new(alloc, Packed::from_code(LIGHT)),
+            memo: MemoTable::new(alloc, PackedHeft::from_code(LIGHT)),
             tally: Tally::new(),
             memory: 0,
             highest: 0,
@@ -104,15 +104,15 @@ impl Machine {
     }
 
     /// Begins the next pickle of a row.
-    pub fn begin_next(&mut self, between: Between)
+    pub fn begin_next(&mut self, between: Memo)
         ensures { self.new ≡ next_in between self.old }
     {
         match between {
-            Between::Fresh => {
+            Memo::Fresh => {
                 self.memo.clear();
                 self.highest = 0;
             }
-            Between::Kept => {}
+            Memo::Kept => {}
         }
         self.stack.clear();
         self.tally = Tally::new();
@@ -122,7 +122,7 @@ impl Machine {
 
     /// Pushes a new object, which costs this as a key and takes this much memory. Returns false.
     #[inline(always)]
-    fn make(&mut self, heft: Packed, more: u64) -> Result<bool, Halt>
+    fn make(&mut self, heft: PackedHeft, more: u64) -> Result<bool, Halt>
         ensures { OnOk result (self.new ≡ pushed heft more self.old) }
     {
         // In this order, nothing but the number of entries is kept over a call for more room.
@@ -215,8 +215,10 @@ impl Machine {
         ensures quiet { result ≡ Billing.Plain → IsQuiet self.old self.new }
     {
         match action_of(inst.op()) {
-            Action::Makes(more) => { Billing::of(self.make(Packed::new(1, 0, false, false), more)) }
-            Action::MakesTuple => Billing::of(self.make(Packed::new(1, 1, false, false), 16)),
+            Action::Makes(more) => {
+                Billing::of(self.make(PackedHeft::new(1, 0, false, false), more))
+            }
+            Action::MakesTuple => Billing::of(self.make(PackedHeft::new(1, 1, false, false), 16)),
             Action::Fetches => Billing::of(self.go_to(Move::Fetches, inst)),
             Action::StoresNext => Billing::of(self.go(Move::StoresNext, 0)),
             Action::Stores => Billing::of(self.go_to(Move::Stores, inst)),

@@ -3,20 +3,20 @@
 ghost use Rattle.std.specs.Prelude.{◌≡◌, ◌+◌, ◌/◌, ◌≤◌, false, min};
 ghost use Rattle.pkload.specs.Private.Billing.{string_heft};
 
-use crate::packed::Packed;
+use crate::packed::PackedHeft;
 
 /// What a text costs of so many bytes, or bytes.
 #[inline(always)]
-pub fn made_text(size: u64) -> Packed
+pub fn made_text(size: u64) -> PackedHeft
     ensures { result ≡ string_heft size }
 {
     let own = (size / 64).min(1_048_574) as u32;
-    Packed::new(1 + own, 0, true, false)
+    PackedHeft::new(1 + own, 0, true, false)
 }
 
 /// What an int of so many bytes or digits costs.
 #[inline(always)]
-pub fn made_long(size: u64) -> Packed
+pub fn made_long(size: u64) -> PackedHeft
     ensures { result ≡ record {
       weight = min 1_048_575 (1 + size / 8);
       depth = 0;
@@ -25,12 +25,12 @@ pub fn made_long(size: u64) -> Packed
     } }
 {
     let own = (size / 8).min(1_048_574) as u32;
-    Packed::new(1 + own, 0, false, false)
+    PackedHeft::new(1 + own, 0, false, false)
 }
 
 /// What a tuple costs whose items together weigh this much, and the deepest of them is this deep.
 #[inline(always)]
-pub fn tied(held: u32, deepest: u32) -> Packed
+pub fn tied(held: u32, deepest: u32) -> PackedHeft
     requires held { held ≤ 4_194_304 }
     requires deepest { deepest ≤ 1_023 }
     ensures { result ≡ record {
@@ -42,12 +42,12 @@ pub fn tied(held: u32, deepest: u32) -> Packed
 {
     let weight = (1 + held).min(1_048_575);
     let depth = (1 + deepest).min(1_023);
-    Packed::new(weight, depth, false, false)
+    PackedHeft::new(weight, depth, false, false)
 }
 
 /// What a frozenset costs whose items together weigh this much.
 #[inline(always)]
-pub fn frozen(held: u64) -> Packed
+pub fn frozen(held: u64) -> PackedHeft
     ensures { result ≡ record {
       weight = min 1_048_575 (1 + held);
       depth = 0;
@@ -56,5 +56,5 @@ pub fn frozen(held: u64) -> Packed
     } }
 {
     let held = held.min(1_048_574) as u32;
-    Packed::new(1 + held, 0, false, false)
+    PackedHeft::new(1 + held, 0, false, false)
 }

@@ -4,15 +4,15 @@ ghost use Rattle.std.specs.Prelude.{◌≡◌, length, IfOk, OnOk};
 ghost use Rattle.pkstack.specs.Shape.{stored};
 
 use crate::halt::Halt;
-use crate::packed::Packed;
+use crate::packed::PackedHeft;
 use pkbase::NumberedMap;
 
 /// What the stored objects cost, by number.
-pub type Memo = NumberedMap<Packed>;
+pub type MemoTable = NumberedMap<PackedHeft>;
 
 /// The next number, if it has 32 bits.
 #[inline(always)]
-pub fn next_number(memo: &Memo) -> Result<u32, Halt>
+pub fn next_number(memo: &MemoTable) -> Result<u32, Halt>
     ensures { IfOk result (λ next. next ≡ length memo.now) }
 {
     let next = memo.len();
@@ -24,7 +24,7 @@ pub fn next_number(memo: &Memo) -> Result<u32, Halt>
 
 /// Stores what an object costs.
 #[inline]
-pub fn store(memo: &mut Memo, number: u32, heft: Packed) -> Result<(), Halt>
+pub fn store(memo: &mut MemoTable, number: u32, heft: PackedHeft) -> Result<(), Halt>
     ensures { OnOk result (memo.new ≡ stored number heft memo.old) }
 {
     match memo.store(u64::from(number), heft) {

@@ -10,7 +10,7 @@ ghost use Rattle.pkload.specs.Memory.{held_memory, line_memory, move_memory, num
 ghost use Rattle.pkload.specs.Memory.{set_memory, text_memory};
 
 use crate::halt::Halt;
-use crate::memo::{self, Memo};
+use crate::memo::{self, MemoTable};
 use pkops::{Arg, Inst, Op, is_ascii, spells_itself};
 use pkstack::Move;
 
@@ -175,7 +175,7 @@ pub fn after_stop(memory: u64) -> Result<u64, Halt>
 
 /// The memo number under which a move stores, otherwise 0.
 #[inline(always)]
-pub fn number_kept(what: Move, number: u32, memo: &Memo) -> Result<u32, Halt>
+pub fn number_kept(what: Move, number: u32, memo: &MemoTable) -> Result<u32, Halt>
     ensures { IfOk result (λ kept. (entries : List (Entry Heft)) → kept ≡ number_kept what number
         (record { entries = entries; memo = memo.now })) }
 {

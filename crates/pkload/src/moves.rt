@@ -4,12 +4,12 @@ ghost use Rattle.std.specs.Prelude.{◌≡◌, OnOk, Ok};
 ghost use Rattle.pkstack.specs.Shape.{moved};
 
 use crate::halt::Halt;
-use crate::memo::{self, Memo};
+use crate::memo::{self, MemoTable};
 use crate::stack::Stack;
 use pkstack::Move;
 
 /// Removes the topmost entry.
-fn pop(stack: &mut Stack, memo: &Memo) -> Result<(), Halt>
+fn pop(stack: &mut Stack, memo: &MemoTable) -> Result<(), Halt>
     ensures { OnOk result
         (moved Move.Pops 0 (record { entries = stack.old; memo = memo.now })
         ≡ Ok (record { entries = stack.new; memo = memo.now })) }
@@ -18,7 +18,7 @@ fn pop(stack: &mut Stack, memo: &Memo) -> Result<(), Halt>
 }
 
 /// Removes the topmost mark and everything above it.
-fn pop_mark(stack: &mut Stack, memo: &Memo) -> Result<(), Halt>
+fn pop_mark(stack: &mut Stack, memo: &MemoTable) -> Result<(), Halt>
     ensures { OnOk result
         (moved Move.PopsMark 0 (record { entries = stack.old; memo = memo.now })
         ≡ Ok (record { entries = stack.new; memo = memo.now })) }
@@ -28,7 +28,7 @@ fn pop_mark(stack: &mut Stack, memo: &Memo) -> Result<(), Halt>
 }
 
 /// Pushes the top again.
-fn duplicate(stack: &mut Stack, memo: &Memo) -> Result<(), Halt>
+fn duplicate(stack: &mut Stack, memo: &MemoTable) -> Result<(), Halt>
     ensures { OnOk result
         (moved Move.Duplicates 0 (record { entries = stack.old; memo = memo.now })
         ≡ Ok (record { entries = stack.new; memo = memo.now })) }
@@ -41,7 +41,7 @@ fn duplicate(stack: &mut Stack, memo: &Memo) -> Result<(), Halt>
 
 /// Stores the top under a number.
 #[inline(always)]
-fn store(stack: &Stack, memo: &mut Memo, number: u32) -> Result<(), Halt>
+fn store(stack: &Stack, memo: &mut MemoTable, number: u32) -> Result<(), Halt>
     ensures { OnOk result
         (moved Move.Stores number (record { entries = stack.now; memo = memo.old })
         ≡ Ok (record { entries = stack.now; memo = memo.new })) }
@@ -54,7 +54,7 @@ fn store(stack: &Stack, memo: &mut Memo, number: u32) -> Result<(), Halt>
 
 /// Stores the top under the next number.
 #[inline(always)]
-fn store_next(stack: &Stack, memo: &mut Memo) -> Result<(), Halt>
+fn store_next(stack: &Stack, memo: &mut MemoTable) -> Result<(), Halt>
     ensures { OnOk result
         (moved Move.StoresNext 0 (record { entries = stack.now; memo = memo.old })
         ≡ Ok (record { entries = stack.now; memo = memo.new })) }
@@ -70,7 +70,7 @@ fn store_next(stack: &Stack, memo: &mut Memo) -> Result<(), Halt>
 
 /// Pushes the memo entry of a number.
 #[inline(always)]
-fn fetch(stack: &mut Stack, memo: &Memo, number: u32) -> Result<(), Halt>
+fn fetch(stack: &mut Stack, memo: &MemoTable, number: u32) -> Result<(), Halt>
     ensures { OnOk result
         (moved Move.Fetches number (record { entries = stack.old; memo = memo.now })
         ≡ Ok (record { entries = stack.new; memo = memo.now })) }
@@ -83,7 +83,7 @@ fn fetch(stack: &mut Stack, memo: &Memo, number: u32) -> Result<(), Halt>
 
 /// Applies a move.
 #[inline(always)]
-pub fn apply(stack: &mut Stack, memo: &mut Memo, what: Move, number: u32) -> Result<(), Halt>
+pub fn apply(stack: &mut Stack, memo: &mut MemoTable, what: Move, number: u32) -> Result<(), Halt>
     ensures { OnOk result
         (moved what number (record { entries = stack.old; memo = memo.old })
         ≡ Ok (record { entries = stack.new; memo = memo.new })) }

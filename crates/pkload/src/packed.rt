@@ -7,7 +7,7 @@ use std::marker::Model;
 
 /// The cost of an object. Stack and memo have an entry for each object of a pickle.
 #[derive(Clone, Copy)]
-pub struct Packed {
+pub struct PackedHeft {
     code: u32,
 }
 
@@ -17,7 +17,7 @@ pub const LIGHT: u32 = 4096;
 /// The code of an object that weighs one, with a salted hash, such as a short text.
 pub const LIGHT_SALTED: u32 = 4097;
 
-impl Model for Packed {
+impl Model for PackedHeft {
     ghost use Rattle.std.proofs.Common.{ap};
     ghost use Rattle.pkload.specs.Private.Packed.{packed, packed_unpacked, unpacked};
     ghost use Rattle.pkload.specs.Heft.{Heft};
@@ -31,10 +31,10 @@ impl Model for Packed {
     ghost inverse_ok = { λ p h. ap (λ code. record { code = code }) (packed_unpacked p.code) };
 }
 
-impl Packed {
+impl PackedHeft {
     /// The cost with these parts.
     #[inline]
-    pub fn new(weight: u32, depth: u32, salted: bool, imported: bool) -> Packed
+    pub fn new(weight: u32, depth: u32, salted: bool, imported: bool) -> PackedHeft
         requires weight { weight ≤ 1_048_575 }
         requires depth { depth ≤ 1_023 }
         ensures { result ≡ record {
@@ -44,17 +44,17 @@ impl Packed {
           imported = imported;
         } }
     {
-        Packed {
+        PackedHeft {
             code: flag(salted) + 2 * flag(imported) + 4 * depth + 4096 * weight,
         }
     }
 
     /// The cost with a code.
     #[inline]
-    pub fn from_code(code: u32) -> Packed
+    pub fn from_code(code: u32) -> PackedHeft
         ensures { result ≡ unpacked code }
     {
-        Packed { code }
+        PackedHeft { code }
     }
 
     /// The code.

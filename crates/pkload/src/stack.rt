@@ -7,7 +7,7 @@ ghost use Rattle.pkload.specs.Private.Billing.{HasItems, HasReplaced, HasSlice};
 ghost use Rattle.pkload.specs.Private.Shown.{HasObjects};
 
 use crate::halt::Halt;
-use crate::packed::Packed;
+use crate::packed::PackedHeft;
 use pkbase::StackVec;
 use std::alloc::Global;
 use std::marker::Model;
@@ -80,7 +80,7 @@ impl Stack {
     /// Pushes an object. Not `inline(always)`, which would count as part of `Machine::step`: that
     /// must stay small enough to be inlined itself.
     #[inline]
-    pub fn push(&mut self, heft: Packed) -> Result<(), Halt>
+    pub fn push(&mut self, heft: PackedHeft) -> Result<(), Halt>
         ensures { OnOk result (self.new ≡ Item heft ∷ self.old) }
     {
         let Ok(()) = self.codes.push(heft.code()) else {
@@ -91,7 +91,7 @@ impl Stack {
 
     /// The topmost entry, which must be an object.
     #[inline(always)]
-    pub fn top(&self) -> Option<Packed>
+    pub fn top(&self) -> Option<PackedHeft>
         ensures { IfSome result (λ heft. (below : List (Entry Heft))
             × (self.now ≡ Item heft ∷ below)) }
     {
@@ -99,13 +99,13 @@ impl Stack {
         if count <= self.fence as usize {
             return None;
         }
-        Some(Packed::from_code(self.codes.entries()[count - 1]))
+        Some(PackedHeft::from_code(self.codes.entries()[count - 1]))
     }
 
     /// Puts an object in place of the topmost entry, which must be an object.
     #[inline(always)]
     #[tactic(auto, using(crate::proofs::Slots::replaced))]
-    pub fn replace(&mut self, heft: Packed) -> Result<(), Halt>
+    pub fn replace(&mut self, heft: PackedHeft) -> Result<(), Halt>
         ensures { OnOk result ((entry : Entry Heft) (below : List (Entry Heft))
             → self.old ≡ entry ∷ below → self.new ≡ Item heft ∷ below) }
     {
@@ -119,7 +119,7 @@ impl Stack {
 
     /// Removes the topmost entry, which must be an object.
     #[inline(always)]
-    pub fn pop_object(&mut self) -> Option<Packed>
+    pub fn pop_object(&mut self) -> Option<PackedHeft>
         ensures { IfSome result (λ heft. self.old ≡ Item heft ∷ self.new) }
     {
         let count = self.codes.len();
@@ -128,7 +128,7 @@ impl Stack {
         }
         let code = self.codes.entries()[count - 1];
         self.codes.truncate(count - 1);
-        Some(Packed::from_code(code))
+        Some(PackedHeft::from_code(code))
     }
 
     /// Removes the topmost entry.
@@ -192,7 +192,7 @@ impl Stack {
     /// number.
     #[inline(always)]
     #[tactic(auto, using(crate::proofs::Slots::slice_replaced))]
-    pub fn replace_slice(&mut self, heft: Packed) -> Result<u64, Halt>
+    pub fn replace_slice(&mut self, heft: PackedHeft) -> Result<u64, Halt>
         ensures { IfOk result (HasReplaced self.old self.new heft) }
     {
         let fence = self.fence as usize;

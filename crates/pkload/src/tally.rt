@@ -6,7 +6,7 @@ ghost use Rattle.pkload.specs.Tally.{building, no_tally, with_key};
 
 use crate::halt::Halt;
 use crate::memory;
-use crate::packed::{LIGHT, Packed};
+use crate::packed::{LIGHT, PackedHeft};
 
 /// What the keys of dicts and the items of sets cost, and whether BUILD takes an imported object.
 #[derive(Clone, Copy, Debug, PartialEq, Eq)]
@@ -50,7 +50,7 @@ impl Tally {
 
     /// Counts one more key.
     #[inline(always)]
-    pub(crate) fn add(&mut self, key: Packed) -> Result<(), Halt>
+    pub(crate) fn add(&mut self, key: PackedHeft) -> Result<(), Halt>
         ensures { OnOk result (self.new ≡ with_key self.old key) }
     {
         if key.code() == LIGHT {

@@ -9,7 +9,7 @@ use std::alloc::{AllocError, Global};
 
 /// What stands in a form for the first bytes of the slim form.
 #[derive(Drop)]
-pub(crate) struct Front {
+pub(crate) struct FormFront {
     /// The bytes in the form.
     pub bytes: Vec<u8>,
     /// For how many bytes of the slim form they stand.
@@ -30,7 +30,7 @@ fn head_length(measure: Measure) -> usize
 }
 
 /// A leading PROTO, then the FRAME around the other bytes of the slim form.
-fn framed_front(alloc: Global, measure: Measure) -> Result<Front, AllocError>
+fn framed_front(alloc: Global, measure: Measure) -> Result<FormFront, AllocError>
     ensures bytes { IfOk result (λ front. front.bytes.items ≡ front_from measure) }
     ensures head { IfOk result (λ front. front.head ≡ head_from measure) }
     ensures fits { IfOk result (λ front. front.head ≤ measure.len) }
@@ -41,11 +41,15 @@ fn framed_front(alloc: Global, measure: Measure) -> Result<Front, AllocError>
     bytes.extend_from_slice(&[measure.first, measure.second][..head])?;
     bytes.push(row(Op::Frame).code)?;
     bytes.extend_from_slice(&contents.to_le_bytes())?;
-    Ok(Front { bytes, head })
+    Ok(FormFront { bytes, head })
 }
 
 /// The front of a form, given the measure of the slim form. Without a frame it is empty.
-pub(crate) fn front_of(alloc: Global, measure: Measure, framed: bool) -> Result<Front, AllocError>
+pub(crate) fn front_of(
+    alloc: Global,
+    measure: Measure,
+    framed: bool,
+) -> Result<FormFront, AllocError>
     ensures bytes { IfOk result (λ front.
         front.bytes.items ≡ cond framed (front_from measure) []) }
     ensures head { IfOk result (λ front. front.head ≡ cond framed (head_from measure) 0) }
@@ -55,7 +59,7 @@ pub(crate) fn front_of(alloc: Global, measure: Measure, framed: bool) -> Result<
     if framed {
         return framed_front(alloc, measure);
     }
-    Ok(Front {
+    Ok(FormFront {
         bytes: Vec::new(alloc),
         head: 0,
     })

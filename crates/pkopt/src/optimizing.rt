@@ -17,7 +17,7 @@ ghost use Rattle.pkopt.specs.Writers.{sources as sources_of};
 
 use crate::fate::Plan;
 use crate::numbers::new_numbers;
-use crate::packed::Packed;
+use crate::packed::PackedPart;
 use crate::slim::first_past;
 use crate::sources::Sources;
 use crate::trace::Trace;
@@ -113,7 +113,7 @@ fn heard_check(alloc: Global, bytes: &[u8], limits: &Limits) -> Result<Traced, R
 
 /// The offset of the first write that is read and whose number would be the limit, if there is one.
 /// Numbers are less than the number of writes.
-fn past_limit(parts: &[Packed], plan: &Plan, writes: u32) -> Option<u64>
+fn past_limit(parts: &[PackedPart], plan: &Plan, writes: u32) -> Option<u64>
     requires { end_behind 0 parts.now < 2 ^ 64 }
     ensures some { IfSome result (λ at.
         first_past plan.now (places_behind 0 parts.now) 0 0 ≡ Some at) }

@@ -33,7 +33,7 @@ const PLAIN: u8 = 152;
 
 /// A part of a pickle. A pickle has millions of these, so it has only two bytes.
 #[derive(Drop)]
-pub(crate) struct Packed {
+pub(crate) struct PackedPart {
     /// The gap; in a long part, which has none, the lower byte of the length.
     gap: u8,
     /// The opcode. In a short line the length is added to it, in a long part the upper byte of the
@@ -41,7 +41,7 @@ pub(crate) struct Packed {
     code: u8,
 }
 
-impl Model for Packed {
+impl Model for PackedPart {
     ghost use Rattle.pkopt.specs.declared.place.Part.{Part};
     ghost use Rattle.pkopt.specs.Private.Packing.{unpacked};
 
@@ -50,11 +50,11 @@ impl Model for Packed {
     ghost view = { λ p. unpacked p.gap p.code };
 }
 
-impl Packed {
+impl PackedPart {
     /// The part in two bytes, if it fits. It does if its opcode has one length and it has that one,
     /// or if it is a line of less than 64 bytes, or of less than 2,048 without a gap.
     #[inline(always)]
-    pub(crate) fn new(part: Part) -> Option<Packed>
+    pub(crate) fn new(part: Part) -> Option<PackedPart>
         ensures { IfSome result (λ packed. packed ≡ part) }
     {
         match part.op {
@@ -83,12 +83,12 @@ impl Packed {
 
 /// A part whose opcode has one length.
 #[inline(always)]
-fn with_length(part: Part, size: u16, code: u8) -> Option<Packed>
+fn with_length(part: Part, size: u16, code: u8) -> Option<PackedPart>
     requires { unpacked part.gap code ≡ part_with part.gap size part.op }
     ensures { IfSome result (λ packed. packed ≡ part) }
 {
     if part.size == size {
-        Some(Packed {
+        Some(PackedPart {
             gap: part.gap,
             code,
         })
@@ -99,7 +99,7 @@ fn with_length(part: Part, size: u16, code: u8) -> Option<Packed>
 
 /// A part that is a line.
 #[inline(always)]
-fn line(part: Part, short: u8, first: u8) -> Option<Packed>
+fn line(part: Part, short: u8, first: u8) -> Option<PackedPart>
     requires short { (gap size : ℕ) → size < 64
         → unpacked gap (short + size) ≡ part_with gap size part.op }
     requires long { (gap upper : ℕ) → upper < 8
@@ -109,7 +109,7 @@ fn line(part: Part, short: u8, first: u8) -> Option<Packed>
     ensures { IfSome result (λ packed. packed ≡ part) }
 {
     if is_short(part.size) {
-        return Some(Packed {
+        return Some(PackedPart {
             gap: part.gap,
             code: short + part.size as u8,
         });
@@ -127,7 +127,7 @@ pub(crate) fn is_short(size: u16) -> bool
 
 /// A part without a gap, of which the length takes two bytes.
 #[inline(never)]
-fn long(part: Part, first: u8, most: u8) -> Option<Packed>
+fn long(part: Part, first: u8, most: u8) -> Option<PackedPart>
     requires long { (gap upper : ℕ) → upper < most
         → unpacked gap (first + upper) ≡ long_part gap upper part.op }
     requires fits { first + most < 257 }
@@ -137,7 +137,7 @@ fn long(part: Part, first: u8, most: u8) -> Option<Packed>
     if part.gap != 0 || upper >= most {
         return None;
     }
-    Some(Packed {
+    Some(PackedPart {
         gap: lower,
         code: first + upper,
     })

@@ -10,7 +10,7 @@ ghost use Rattle.pkopt.specs.Private.Produced.{between, passed, produced, respel
 
 use crate::fate::{Fate, Plan, fetched_fate, next_fate, number_of, passed_fate, stored_fate};
 use crate::memo::{MemoUse, memo_use};
-use crate::packed::Packed;
+use crate::packed::PackedPart;
 use crate::place::{Place, is_plain};
 use crate::renumbering::{code, give_renumbered};
 use crate::sink::Sink;
@@ -263,7 +263,7 @@ impl Pass {
 #[inline(never)]
 pub(crate) fn give_slim<S: Sink>(
     bytes: &[u8],
-    parts: &[Packed],
+    parts: &[PackedPart],
     taken: usize,
     plan: &Plan,
     sink: &mut S,
@@ -286,7 +286,7 @@ pub(crate) fn give_slim<S: Sink>(
 
 /// The offset of the first write that is read and whose number would be the limit, if there is one.
 #[inline(never)]
-pub(crate) fn first_past(parts: &[Packed], plan: &Plan) -> Option<u64>
+pub(crate) fn first_past(parts: &[PackedPart], plan: &Plan) -> Option<u64>
     requires { end_behind 0 parts.now < 2 ^ 64 }
     ensures { result ≡ first_past plan.now (places_behind 0 parts.now) 0 0 }
 {

@@ -10,7 +10,7 @@ ghost use Rattle.pkopt.specs.Private.Places.{place, place_of, stays_as_is};
 ghost use Rattle.pkopt.specs.Slim.{is_frame};
 
 use crate::memo::{MemoUse, memo_use};
-use crate::packed::{Packed, is_short};
+use crate::packed::{PackedPart, is_short};
 use crate::place::{Part, is_plain, size_of, size_with};
 use crate::sources::Sources;
 use pkbase::NumberedMap;
@@ -70,7 +70,7 @@ pub(crate) struct Trace {
     /// For each read, the write that it reads.
     pub sources: Sources,
     /// The parts up to the last instruction that may change.
-    pub parts: Vec<Packed>,
+    pub parts: Vec<PackedPart>,
     /// The offset at which these parts end.
     pub end: u64,
     /// Whether one of them has a FRAME.
@@ -170,7 +170,7 @@ impl Trace {
             return Err(AllocError);
         };
         let (gap, op) = (0, Op::Stop);
-        let Some(part) = Packed::new(Part { size, gap, op }) else {
+        let Some(part) = PackedPart::new(Part { size, gap, op }) else {
             return Err(AllocError);
         };
         self.parts.push(part)?;
@@ -231,7 +231,7 @@ impl Trace {
             return Err(AllocError);
         };
         let gap = self.pass_to(at, most_before(size))?;
-        let Some(part) = Packed::new(Part { size, gap, op }) else {
+        let Some(part) = PackedPart::new(Part { size, gap, op }) else {
             return Err(AllocError);
         };
         self.parts.push(part)?;

@@ -7,10 +7,10 @@ ghost use Rattle.pkopt.specs.Private.Places.{end_behind, has_frames};
 ghost use Rattle.pkopt.specs.Private.Sinks.{Measures};
 
 use crate::fate::Plan;
-use crate::frame::{Front, front_of};
+use crate::frame::{FormFront, front_of};
 use crate::made::Made;
 use crate::measure::Measure;
-use crate::packed::Packed;
+use crate::packed::PackedPart;
 use crate::rest::Rest;
 use crate::sink::Sink;
 use crate::slim::give_slim;
@@ -27,7 +27,7 @@ const LONG: usize = 256;
 fn made_of(
     alloc: Global,
     bytes: &[u8],
-    parts: &[Packed],
+    parts: &[PackedPart],
     taken: usize,
     plan: &Plan,
 ) -> Result<Option<Made>, AllocError>
@@ -47,7 +47,7 @@ fn made_of(
 /// The measure of the slim form, which may have been made.
 fn measure_of(
     bytes: &[u8],
-    parts: &[Packed],
+    parts: &[PackedPart],
     taken: usize,
     plan: &Plan,
     made: &Option<Made>,
@@ -71,7 +71,7 @@ fn measure_of(
 #[derive(Drop)]
 pub(crate) struct Parts {
     /// The parts, in order.
-    pub list: Vec<Packed>,
+    pub list: Vec<PackedPart>,
     /// Whether one of them has a FRAME.
     pub framed: bool,
 }
@@ -84,11 +84,11 @@ pub struct Form<'a> {
     /// The length of the pickle.
     taken: usize,
     /// The parts up to its last instruction that may change.
-    parts: Vec<Packed>,
+    parts: Vec<PackedPart>,
     plan: Plan,
     /// The slim form, if it is made.
     made: Option<Made>,
-    front: Front,
+    front: FormFront,
     /// The length of the form.
     len: u64,
 }

@@ -7,7 +7,7 @@ ghost use Rattle.pkload.specs.Private.Billing.{IsAnswered, IsQuiet, op_billed};
 use super::Machine;
 use crate::halt::Halt;
 use crate::memory::plus;
-use crate::packed::Packed;
+use crate::packed::PackedHeft;
 use pkops::Op;
 
 impl Machine {
@@ -22,11 +22,11 @@ impl Machine {
             Op::List => self.list_slice(),
             Op::Dict => self.dict_slice(),
             Op::Build => self.build(),
-            Op::StackGlobal => self.answer(2, Packed::new(1, 0, true, true), 16),
-            Op::Reduce | Op::NewObj => self.answer(2, Packed::new(1, 0, true, false), 16),
-            Op::NewObjEx => self.answer(3, Packed::new(1, 0, true, false), 16),
-            Op::BinPersid => self.answer(1, Packed::new(1, 0, true, false), 16),
-            Op::ReadonlyBuffer => self.answer(1, Packed::new(1, 0, true, false), 496),
+            Op::StackGlobal => self.answer(2, PackedHeft::new(1, 0, true, true), 16),
+            Op::Reduce | Op::NewObj => self.answer(2, PackedHeft::new(1, 0, true, false), 16),
+            Op::NewObjEx => self.answer(3, PackedHeft::new(1, 0, true, false), 16),
+            Op::BinPersid => self.answer(1, PackedHeft::new(1, 0, true, false), 16),
+            Op::ReadonlyBuffer => self.answer(1, PackedHeft::new(1, 0, true, false), 496),
             Op::Inst => self.answer_slice(false),
             Op::Obj => self.answer_slice(true),
             _ => Err(Halt::Lost),
@@ -35,7 +35,7 @@ impl Machine {
 
     /// Takes so many objects and pushes another one, which takes this much memory. Returns false.
     #[inline(always)]
-    fn answer(&mut self, count: usize, heft: Packed, more: u64) -> Result<bool, Halt>
+    fn answer(&mut self, count: usize, heft: PackedHeft, more: u64) -> Result<bool, Halt>
         ensures answered { OnOk result (IsAnswered (items count self.old.shape.entries []) heft
             more self.old self.new) }
         ensures quiet { OnOk result (IsQuiet self.old self.new) }
@@ -55,7 +55,7 @@ impl Machine {
         if wants_some && count == 0 {
             return Err(Halt::Lost);
         }
-        self.make(Packed::new(1, 0, true, false), 16)
+        self.make(PackedHeft::new(1, 0, true, false), 16)
     }
 
     /// BUILD, which leaves the object. Returns true, since that may be imported.

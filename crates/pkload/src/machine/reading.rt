@@ -9,7 +9,7 @@ use super::Machine;
 use crate::halt::Halt;
 use crate::making::{made_long, made_text};
 use crate::memory::{MOST, after_text, line_memory};
-use crate::packed::Packed;
+use crate::packed::PackedHeft;
 use pkops::Op;
 
 impl Machine {
@@ -43,7 +43,7 @@ impl Machine {
         if size > MOST {
             return Err(Halt::Lost);
         }
-        self.make(Packed::new(1, 0, false, false), 112 + size)
+        self.make(PackedHeft::new(1, 0, false, false), 112 + size)
     }
 
     /// Pushes what is made of these bytes. What has an action of its own isn't read.
@@ -59,13 +59,13 @@ impl Machine {
         match op {
             Op::Long1 | Op::Long4 => self.make(made_long(size), 48 + size * 8 / 7),
             Op::Int | Op::Long => self.make(made_long(size), 48 + size / 2),
-            Op::Float => self.make(Packed::new(1, 0, false, false), 48),
+            Op::Float => self.make(PackedHeft::new(1, 0, false, false), 48),
             Op::String | Op::BinString | Op::ShortBinString => self.hold(size),
             Op::BinBytes | Op::ShortBinBytes | Op::BinBytes8 => self.hold(size),
             Op::ByteArray8 => self.hold_array(size),
             Op::Unicode => self.make(made_text(size), 16 + line_memory(bytes)),
-            Op::Global => self.make(Packed::new(1, 0, true, true), 16),
-            Op::PersId | Op::NextBuffer => self.make(Packed::new(1, 0, true, false), 16),
+            Op::Global => self.make(PackedHeft::new(1, 0, true, true), 16),
+            Op::PersId | Op::NextBuffer => self.make(PackedHeft::new(1, 0, true, false), 16),
             _ => Err(Halt::Lost),
         }
     }

@@ -8,7 +8,7 @@ use crate::gathering::{take_items, take_pairs, tied_all, with_receiver};
 use crate::halt::Halt;
 use crate::making::frozen;
 use crate::memory::after_operation;
-use crate::packed::Packed;
+use crate::packed::PackedHeft;
 use pkops::Op;
 
 impl Machine {
@@ -76,7 +76,7 @@ impl Machine {
     {
         let count = take_pairs(&mut self.stack, &mut self.tally)?;
         self.memory = after_operation(Op::Dict, count, self.memory)?;
-        self.stack.push(Packed::new(1, 0, false, false))?;
+        self.stack.push(PackedHeft::new(1, 0, false, false))?;
         Ok(true)
     }
 
@@ -88,7 +88,7 @@ impl Machine {
     {
         let count = self.stack.drop_slice()?;
         self.memory = after_operation(Op::List, count, self.memory)?;
-        self.stack.push(Packed::new(1, 0, false, false))?;
+        self.stack.push(PackedHeft::new(1, 0, false, false))?;
         Ok(false)
     }
 
