@@ -108,26 +108,8 @@ impl Gathering {
     }
 
     /// Takes a count and its payload.
-    #[inline(always)]
-    pub(crate) fn counted<R: Source>(
-        &mut self,
-        source: &mut R,
-        op: Op,
-        count: Count,
-    ) -> Result<(), Reason>
-        requires code { self.old.buffer.bytes ≡ code_of op ∷ [] }
-        requires lay { layout_at op ≡ layout.Counted count.width count.signed }
-        ensures keeps { KeepsRest self.old self.new }
-        ensures takes { TakesArgument count.limit op result
-            (intake R.left R.failures source.old self.old)
-            (intake R.left R.failures source.new self.new) }
-    {
-        self.counted_slowly(source, op, count)?;
-        Ok(())
-    }
-
     #[inline(never)]
-    fn counted_slowly<R: Source>(
+    pub(crate) fn counted<R: Source>(
         &mut self,
         source: &mut R,
         op: Op,
@@ -154,26 +136,8 @@ impl Gathering {
     }
 
     /// Takes an argument of one line.
-    #[inline(always)]
-    pub(crate) fn one_line<R: Source>(
-        &mut self,
-        source: &mut R,
-        op: Op,
-        most: usize,
-    ) -> Result<(), Reason>
-        requires code { self.old.buffer.bytes ≡ code_of op ∷ [] }
-        requires lay { layout_at op ≡ layout.Line most }
-        ensures keeps { KeepsRest self.old self.new }
-        ensures takes { (limit : ℕ) → TakesArgument limit op result
-            (intake R.left R.failures source.old self.old)
-            (intake R.left R.failures source.new self.new) }
-    {
-        self.one_line_slowly(source, op, most)?;
-        Ok(())
-    }
-
     #[inline(never)]
-    fn one_line_slowly<R: Source>(
+    pub(crate) fn one_line<R: Source>(
         &mut self,
         source: &mut R,
         op: Op,
@@ -196,25 +160,8 @@ impl Gathering {
     }
 
     /// Takes an argument of two lines, and returns the length of the first.
-    #[inline(always)]
-    pub(crate) fn two_lines<R: Source>(
-        &mut self,
-        source: &mut R,
-        op: Op,
-        most: usize,
-    ) -> Result<usize, Reason>
-        requires code { self.old.buffer.bytes ≡ code_of op ∷ [] }
-        requires lay { layout_at op ≡ layout.Pair most }
-        ensures keeps { KeepsRest self.old self.new }
-        ensures takes { (limit : ℕ) → TakesSplit limit op result
-            (intake R.left R.failures source.old self.old)
-            (intake R.left R.failures source.new self.new) }
-    {
-        Ok(self.two_lines_slowly(source, op, most)?)
-    }
-
     #[inline(never)]
-    fn two_lines_slowly<R: Source>(
+    pub(crate) fn two_lines<R: Source>(
         &mut self,
         source: &mut R,
         op: Op,

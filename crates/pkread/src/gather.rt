@@ -50,7 +50,7 @@ impl Gathering {
             Layout::U8 => self.fixed::<R, 8>(source, op)?,
             Layout::F8 => self.fixed::<R, 8>(source, op)?,
             Layout::Line(most) => self.one_line(source, op, most)?,
-            Layout::Pair(most) => return self.two_lines(source, op, most),
+            Layout::Pair(most) => return Ok(self.two_lines(source, op, most)?),
             Layout::Counted(width, signed) => {
                 let limit = self.limits().counted();
                 let count = Count {

@@ -42,21 +42,8 @@ fn is_skipped(op: Op, layout: Layout) -> bool
 impl Gathering {
     /// Skips the rest of a payload, by reading it only where the source can't pass over it. Rarely
     /// needed, so the loop is out of line.
-    #[inline(always)]
-    fn skip_rest<R: Source>(&mut self, source: &mut R, count: usize) -> Result<(), Reason>
-        requires { length self.old.buffer.bytes ≤ 9 }
-        ensures rises { RisesLittle self.old self.new }
-        ensures held { self.new.buffer.bytes ≡ self.old.buffer.bytes }
-        ensures skips { SkipsAll count result
-            (intake R.left R.failures source.old self.old)
-            (intake R.left R.failures source.new self.new) }
-    {
-        self.skip_rest_slowly(source, count)?;
-        Ok(())
-    }
-
     #[inline(never)]
-    fn skip_rest_slowly<R: Source>(&mut self, source: &mut R, count: usize) -> Result<(), Reason>
+    fn skip_rest<R: Source>(&mut self, source: &mut R, count: usize) -> Result<(), Reason>
         requires { length self.old.buffer.bytes ≤ 9 }
         ensures rises { RisesLittle self.old self.new }
         ensures held { self.new.buffer.bytes ≡ self.old.buffer.bytes }
@@ -98,21 +85,8 @@ impl Gathering {
     }
 
     /// Takes the count of a skipped payload, skips the payload, and returns its length.
-    #[inline(always)]
-    fn skip_argument<R: Source>(&mut self, source: &mut R, op: Op) -> Result<u64, Reason>
-        requires code { self.old.buffer.bytes ≡ code_of op ∷ [] }
-        requires skipped { is_passed op ≡ true }
-        ensures rises { RisesLittle self.old self.new }
-        ensures few { length self.new.buffer.bytes ≤ 9 }
-        ensures skips { SkipsArgument self.old.limits.passed op result
-            (intake R.left R.failures source.old self.old)
-            (intake R.left R.failures source.new self.new) }
-    {
-        Ok(self.skip_argument_slowly(source, op)?)
-    }
-
     #[inline(never)]
-    fn skip_argument_slowly<R: Source>(&mut self, source: &mut R, op: Op) -> Result<u64, Reason>
+    fn skip_argument<R: Source>(&mut self, source: &mut R, op: Op) -> Result<u64, Reason>
         requires code { self.old.buffer.bytes ≡ code_of op ∷ [] }
         requires skipped { is_passed op ≡ true }
         ensures rises { RisesLittle self.old self.new }

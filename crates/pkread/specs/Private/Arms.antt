@@ -125,10 +125,6 @@ pub record IsFront (limits : Bounds) (op : Op) (split n : ℕ) (bytes : List ℕ
   pub role : role_of op 0 ≡ other
   pub within : n ≤ length bytes
 
--- like IsFront, wherever its first line ends
-abbrev pub IsInFront : Bounds → Op → ℕ → List ℕ → Type 0
-IsInFront limits op n bytes = (split : ℕ) × IsFront limits op split n bytes
-
 -- behind the code stand a line that obeys the rule, and its line feed: n bytes with the code
 pub record HasLine (rule : Rule) (n : ℕ) (bytes : List ℕ) : Type 0 where
   pub line : List ℕ

@@ -3,7 +3,7 @@ use Rattle.std.proofs.Common.{refl}
 use Rattle.std.proofs.lemmas.Result.{err_from_is_err_and}
 use Rattle.pkread.proofs.Bytes.Judged.{all_find, all_stop}
 use Rattle.pkread.proofs.Bytes.LinesBehind.{both_grow, first_stops, second_stops}
-use Rattle.pkread.proofs.gathering.Gathering.two_lines_slowly.Goals as goal
+use Rattle.pkread.proofs.gathering.Gathering.two_lines.Goals as goal
 
 pub returns-in_err-take_line-clause-takes : goal.returns-in_err-take_line-clause-takes
 returns-in_err-take_line-clause-takes g c =

@@ -3,7 +3,7 @@ use Rattle.std.proofs.Common.{◌≡◌, ◌+◌, ◌++◌, length, List, ℕ}
 use Rattle.pkread.specs.Private.Progress.{intake}
 use Rattle.pkread.specs.Private.SkippedBytes.{RisesLittle, holding}
 use Rattle.pkread.specs.Private.Reads.{Took}
-use Rattle.pkread.proofs.gathering.Gathering.skip_rest_slowly.Given as goal
+use Rattle.pkread.proofs.gathering.Gathering.skip_rest.Given as goal
 
 abbrev pub invariant-blocks-2 : goal.invariant-blocks-2
 invariant-blocks-2 g l =

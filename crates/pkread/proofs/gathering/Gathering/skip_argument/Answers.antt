@@ -3,7 +3,7 @@ use Rattle.std.proofs.Common.{ap, ◌∙◌}
 use Rattle.std.proofs.lemmas.Result.{err_from_is_err_and}
 use Rattle.pkread.specs.Private.Progress.{intake}
 use Rattle.pkread.proofs.Bytes.Skipped.{payload_skips, payload_stops_skipping}
-use Rattle.pkread.proofs.gathering.Gathering.skip_argument_slowly.Goals as goal
+use Rattle.pkread.proofs.gathering.Gathering.skip_argument.Goals as goal
 
 pub returns-in_err-skip_payload-clause-skips : goal.returns-in_err-skip_payload-clause-skips
 returns-in_err-skip_payload-clause-skips g c =

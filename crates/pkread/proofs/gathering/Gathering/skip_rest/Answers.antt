@@ -3,7 +3,7 @@ use Rattle.std.proofs.Common.{◌++◌, length, take, ap, ◌∙◌, arith, leng
 use Rattle.std.proofs.lemmas.List.{take_at}
 use Rattle.std.proofs.lemmas.Result.{err_from_is_err_and}
 use Rattle.pkread.proofs.Bytes.Skipped.{lacks_over, took_over}
-use Rattle.pkread.proofs.gathering.Gathering.skip_rest_slowly.Goals as goal
+use Rattle.pkread.proofs.gathering.Gathering.skip_rest.Goals as goal
 
 pub returns-in_err-left-clause-skips : goal.returns-in_err-left-clause-skips
 returns-in_err-left-clause-skips g c =

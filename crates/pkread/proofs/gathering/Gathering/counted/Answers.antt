@@ -5,7 +5,7 @@ use Rattle.pkread.proofs.Bytes.Behind.{payload_grows, payload_stops}
 use Rattle.pkread.proofs.Bytes.Judged.{plain_finds}
 use Rattle.pkread.proofs.Bytes.Plain.{takes_any, takes_utf8}
 use Rattle.pkread.proofs.Bytes.Texts.{payload_in, text_finds, text_stops}
-use Rattle.pkread.proofs.gathering.Gathering.counted_slowly.Goals as goal
+use Rattle.pkread.proofs.gathering.Gathering.counted.Goals as goal
 
 pub returns-in_err-take_payload-clause-takes : goal.returns-in_err-take_payload-clause-takes
 returns-in_err-take_payload-clause-takes g c =

@@ -2,7 +2,7 @@
 use Rattle.std.proofs.lemmas.Result.{err_from_is_err_and}
 use Rattle.pkread.proofs.Bytes.LinesBehind.{one_stops}
 use Rattle.pkread.proofs.Bytes.Texts.{line_finds, line_in, line_stops, line_suits}
-use Rattle.pkread.proofs.gathering.Gathering.one_line_slowly.Goals as goal
+use Rattle.pkread.proofs.gathering.Gathering.one_line.Goals as goal
 
 pub returns-in_err-take_line-clause-takes : goal.returns-in_err-take_line-clause-takes
 returns-in_err-take_line-clause-takes g c =
