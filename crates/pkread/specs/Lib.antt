@@ -8,6 +8,7 @@ pub mod Core
 pub mod ReaderCalls
 pub mod Heads
 pub mod AtHand
+pub mod Returned
 pub mod Again
 pub mod Sequence
 pub mod Sequences

@@ -1,6 +1,6 @@
 //! The instructions of a source, one at a time.
 
-ghost use Rattle.std.specs.Prelude.{◌≡◌, ◌+◌, ◌≤◌, [], IfSome, length, true};
+ghost use Rattle.std.specs.Prelude.{◌≡◌, ◌+◌, ◌≤◌, IfSome, length, true};
 ghost use Rattle.std.specs.Borrow.{sem};
 ghost use Rattle.pkread.specs.ReaderCalls.{source_name, source_of};
 ghost use Rattle.pkops.specs.Scans.{longest};
@@ -73,16 +73,12 @@ impl<'r, R, B: Drop> Drop for Reader<'r, R, B> {
 }
 
 impl<'r, R: Source> Reader<'r, R> {
-    ghost use mir.Syntax.{named};
-    ghost use Rattle.std.specs.Io.BufRead.{Rests};
-    ghost use Rattle.pkread.specs.contracts.reader.Reader.{the_row};
-    ghost use Rattle.pkread.specs.contracts.state.Core.{the_row as core_row};
     ghost use Rattle.pkread.specs.Again.{StepsAgain, TakesOneAhead};
     ghost use Rattle.pkread.specs.Heads.{ShowsAHead, StepsHead};
     ghost use Rattle.pkread.specs.AtHand.{AreNext, beyond};
-    ghost use Rattle.pkread.specs.ReaderCalls.{KeepsSource, LeavesSource, Shows, Steps};
-    ghost use Rattle.pkread.specs.ReaderCalls.{TakesNoneAhead};
-    ghost use Rattle.pkread.specs.ReaderCalls.{begun, has_ended, source_of, state};
+    ghost use Rattle.pkread.specs.ReaderCalls.{KeepsSource, Shows, Steps, TakesNoneAhead, begun};
+    ghost use Rattle.pkread.specs.ReaderCalls.{has_ended, source_of, state};
+    ghost use Rattle.pkread.specs.Returned.{OnceReturned};
 
     /// A reader at the start of the source.
     pub fn new(alloc: Global, source: &'r mut R, limits: &Limits) -> Reader<'r, R>
@@ -129,10 +125,8 @@ impl<'r, R: Source> Reader<'r, R> {
     /// `OutOfMemory`. A failed read is not retried.
     pub fn next(&mut self) -> Result<Next<'_>, Refusal>
         ensures shows { Shows (state R.left R.failures self.old) result }
-        ensures* after { sem 𝓛 (Rests (the_row (record { mir = named 1; lft = [] }) R.row core_row)
-            self.entry (λ new. KeepsSource self.old new
-            × Steps (state R.left R.failures self.old) result (state R.left R.failures new)
-            × LeavesSource self.old new × TakesNoneAhead new)) }
+        ensures* after { sem 𝓛 (OnceReturned R.row R.Source self.entry
+            (λ old new. Steps old result new)) }
     {
         match self.core.phase() {
             Phase::Ended => return Ok(Next::Ended),
@@ -156,10 +150,8 @@ impl<'r, R: Source> Reader<'r, R> {
     /// whose payload is held.
     pub fn next_head(&mut self) -> Result<Head<'_>, Refusal>
         ensures shows { ShowsAHead (state R.left R.failures self.old) result }
-        ensures* after { sem 𝓛 (Rests (the_row (record { mir = named 1; lft = [] }) R.row core_row)
-            self.entry (λ new. KeepsSource self.old new
-            × StepsHead (state R.left R.failures self.old) result (state R.left R.failures new)
-            × LeavesSource self.old new × TakesNoneAhead new)) }
+        ensures* after { sem 𝓛 (OnceReturned R.row R.Source self.entry
+            (λ old new. StepsHead old result new)) }
     {
         match self.core.phase() {
             Phase::Ended => return Ok(Head::Ended),
