@@ -3,12 +3,11 @@ pub mod Numerals
 pub mod Floats
 pub mod EachByte
 pub mod Names
+pub mod Loop
 pub mod OldStringsSpelled
-pub mod OldStringsLoop
 pub mod OldStrings
 pub mod FormsRead
 pub mod EscapesSpelled
-pub mod EscapeLoop
 pub mod EscapesRead
 pub mod EscapesPlain
 pub mod Decided

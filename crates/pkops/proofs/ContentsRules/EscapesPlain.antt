@@ -10,8 +10,8 @@ use Rattle.std.proofs.lemmas.Bool.{and_parts, and_from}
 use Rattle.std.proofs.lemmas.Str.{encodes-IsAscii}
 use Rattle.pkops.specs.declared.contents.escapes.State.TheVariants.{Outside}
 use Rattle.pkops.specs.Escapes.{is_plain_ascii, points_of}
-use Rattle.pkops.proofs.ContentsRules.EscapeLoop.{code_points}
-use Rattle.pkops.proofs.ContentsRules.EscapesRead.{named_is}
+use Rattle.pkops.proofs.ContentsRules.EscapesRead.{code_points, named_is}
+use Rattle.pkops.proofs.ContentsRules.Loop.{items_from}
 use Rattle.pkops.proofs.ContentsRules.Names.{ascii_is}
 
 not_so : (b : Bool) → not b ≡ true → b ≡ false
@@ -29,7 +29,7 @@ plain_ascii line e = ascii_is line (all_ascii line e)
 
 plain_read : (line : List ℕ) → list_all is_plain_ascii line ≡ true
     → code_points Outside line ≡ Some line
-unfolding code_points
+unfolding items_from
 plain_read [] e = refl
 plain_read (byte ∷ line) e =
     let p = and_parts (is_plain_ascii byte) _ e in

@@ -1,10 +1,10 @@
 -- What is read of a line of text with escapes is exactly the text that it spells.
-use Rattle.std.proofs.Common.{◌≡◌, ◌⊎◌, ℕ, ◌+◌, ◌-◌, ◌*◌, ◌<◌, ◌≤◌, true, false, eqb, ltb, leb}
+use Rattle.std.proofs.Common.{◌≡◌, ◌≢◌, ℕ, ◌+◌, ◌-◌, ◌*◌, ◌<◌, ◌≤◌, Bool, true, false, eqb, ltb, leb}
 use Rattle.std.proofs.Common.{List, [], ◌∷◌, ◌++◌, length, map, Option, Some, None, refl, sym, ap}
 use Rattle.std.proofs.Common.{subst, ◌∙◌, append_assoc, arith, inl, inr}
-use Rattle.std.specs.Prelude.{encode_utf8_all}
+use Rattle.std.specs.Prelude.{IfSome, encode_utf8, encode_utf8_all}
 use Rattle.std.specs.List.{All, list_all, flat_map}
-use Rattle.std.specs.Option.{option_map, option_and_then}
+use Rattle.std.specs.Option.{option_map}
 use Rattle.std.specs.Char.{IsScalar, is_ascii_hexdigit, digit_value}
 use Rattle.std.specs.Str.Parse.{digits_value, digits_value_after}
 use Rattle.std.proofs.lemmas.Bool.{and_parts, and_from, or_cases, cases_Bool, eqb-true, eqb-false}
@@ -18,9 +18,34 @@ use Rattle.pkops.specs.declared.contents.escapes.State.TheVariants.{Outside, Beh
 use Rattle.pkops.specs.Escapes.{Character, plain, short, long, print_character, code_point}
 use Rattle.pkops.specs.Escapes.{IsEscape, IsCharacter, SpellsText, points_of}
 use Rattle.pkops.specs.Private.EscapeSteps.{is_scalar, escape_step}
-use Rattle.pkops.proofs.ContentsRules.EscapeLoop.{with_point, code_points, text_named, one_step}
-use Rattle.pkops.proofs.ContentsRules.EscapeLoop.{joined}
 use Rattle.pkops.proofs.ContentsRules.EscapesSpelled.{points_of_spelled, spelled_points}
+use Rattle.pkops.proofs.ContentsRules.Loop.{Machine, alike, completes, items_from, joined, passes}
+use Rattle.pkops.proofs.ContentsRules.Loop.{read_so, with_item}
+
+abbrev pub ended : State → Bool
+ended Outside = true
+ended Behind = false
+ended (Digits left value) = false
+
+pub not_ended : (state : State) → state ≢ Outside → ended state ≡ false
+not_ended Outside h = absurd (h refl)
+not_ended Behind h = refl
+not_ended (Digits left value) h = refl
+
+-- how a line is read, and its code points written as text
+abbrev pub escapes : Machine
+escapes = record {
+  Point = State;
+  ended = ended;
+  step = escape_step;
+  write = encode_utf8_all;
+  one = encode_utf8;
+  more = λ point points. refl;
+}
+
+-- the code points of the characters that bytes end, from a state on; none if they end inside one
+abbrev pub code_points : State → List ℕ → Option (List ℕ)
+code_points state bytes = items_from escapes state bytes
 
 -- ---- code points
 
@@ -77,32 +102,12 @@ one_more character bytes points h (characters, all, line, named) = (
   ap (λ (rest : List ℕ). code_point character ∷ rest) named,
 )
 
--- the letter of an escape, and how many digits it has
-abbrev IsForm : (letter count : ℕ) → Type 0
-IsForm letter count = ((letter ≡ 117) × (count ≡ 4)) ⊎ ((letter ≡ 85) × (count ≡ 8))
-
-escape_spelled : (letter count : ℕ) (digits bytes points : List ℕ) → IsForm letter count
-    → length digits ≡ count → list_all is_ascii_hexdigit digits ≡ true
-    → IsScalar (digits_value 16 digits) → SpellsText bytes points
-    → SpellsText (92 ∷ letter ∷ (digits ++ bytes)) (digits_value 16 digits ∷ points)
-escape_spelled letter count digits bytes points (inl form) len all scalar spelled =
-    subst (λ (l : ℕ). SpellsText (92 ∷ l ∷ (digits ++ bytes)) (digits_value 16 digits ∷ points))
-    (sym form.0)
-    (one_more (short digits) bytes points
-    (record {
-      count = len ∙ form.1;
-      hexadecimal = AllPass-from_list_all is_ascii_hexdigit digits all;
-      scalar = scalar;
-    }) spelled)
-escape_spelled letter count digits bytes points (inr form) len all scalar spelled =
-    subst (λ (l : ℕ). SpellsText (92 ∷ l ∷ (digits ++ bytes)) (digits_value 16 digits ∷ points))
-    (sym form.0)
-    (one_more (long digits) bytes points
-    (record {
-      count = len ∙ form.1;
-      hexadecimal = AllPass-from_list_all is_ascii_hexdigit digits all;
-      scalar = scalar;
-    }) spelled)
+-- the letter of an escape with so many digits, and the characters that it makes
+record IsForm (letter count : ℕ) : Type 0 where
+  make : List ℕ → Character
+  prints : (digits : List ℕ) → print_character (make digits) ≡ 92 ∷ letter ∷ digits
+  good : (digits : List ℕ) → IsEscape count digits → IsCharacter (make digits)
+  point : (digits : List ℕ) → code_point (make digits) ≡ digits_value 16 digits
 
 -- the digits so far of an escape of which so many are left
 record IsSoFar (letter size : ℕ) (digits : List ℕ) (left value : ℕ) : Type 0 where
@@ -120,158 +125,98 @@ Completes (Digits left value) bytes points =
     (letter size : ℕ) (digits : List ℕ) → IsSoFar letter size digits left value
     → SpellsText (92 ∷ letter ∷ (digits ++ bytes)) points
 
-some_mapped : (point : Option ℕ) (read : Option (List ℕ)) (points : List ℕ)
-    → option_map (with_point point) read ≡ Some points → (rest : List ℕ) × (read ≡ Some rest)
-    × (with_point point rest ≡ points)
-some_mapped point None points e = absurd cc
-some_mapped point (Some rest) points e = (rest, refl, cc)
+at_end : (state : State) → ended state ≡ true → Completes state [] []
+at_end Outside e = ([], All-nil IsCharacter, refl, refl)
+at_end Behind e = absurd cc
+at_end (Digits left value) e = absurd cc
 
-abbrev Read : State → (bytes points : List ℕ) → Type 0
-Read state bytes points = code_points state bytes ≡ Some points
+-- no digit of an escape yet
+begun : (letter size : ℕ) → IsForm letter size → 1 ≤ size → IsSoFar letter size [] size 0
+begun letter size form some =
+    record { form = form; some = some; count = omega arith; all = refl; value_is = refl }
 
-abbrev Stepped : State → ℕ → (bytes points : List ℕ) → Type 0
-Stepped state byte bytes points =
-    option_and_then (λ next. option_map (with_point next.1) (code_points next.0 bytes))
-    (escape_step state byte) ≡ Some points
+-- the last digit of an escape
+last : (left value byte letter size : ℕ) (digits bytes points : List ℕ)
+    → IsSoFar letter size digits left value → is_ascii_hexdigit byte ≡ true → left < 2
+    → is_scalar (value * 16 + digit_value byte) ≡ true → SpellsText bytes points
+    → SpellsText (92 ∷ letter ∷ (digits ++ byte ∷ bytes)) ((value * 16 + digit_value byte) ∷ points)
+last left value byte letter size digits bytes points far h lt s spelled =
+    let all = digits ++ byte ∷ [] in
+    let some = far.some in
+    let count = far.count in
+    let named : digits_value 16 all ≡ value * 16 + digit_value byte = value_snoc 0 digits byte
+    ∙ ap (λ (v : ℕ). v * 16 + digit_value byte) far.value_is in
+    let more = one_more (far.form.make all) bytes points
+    (far.form.good all (record {
+      count = omega (arith, length-append digits (byte ∷ []));
+      hexadecimal = AllPass-from_list_all is_ascii_hexdigit all (all_snoc digits byte far.all h);
+      scalar = subst IsScalar (sym named) (scalar_is (value * 16 + digit_value byte) s);
+    })) spelled in
+    subst (λ (t : List ℕ). SpellsText (92 ∷ letter ∷ t) ((value * 16 + digit_value byte) ∷ points))
+    (append_assoc digits (byte ∷ []) bytes)
+    (rw (far.form.prints all, far.form.point all, named) at more)
 
--- one more digit
-digit_leads : (left value byte : ℕ) (bytes points : List ℕ)
-    → ((next : State) (rest : List ℕ) → Read next bytes rest → Completes next bytes rest)
-    → Stepped (Digits left value) byte bytes points
-    → Completes (Digits left value) (byte ∷ bytes) points
-digit_leads left value byte bytes points ih e letter size digits far =
-    elim (cases_Bool (is_ascii_hexdigit byte)) [
-      | inr n ↦ absurd (let f = rw n at e in cc)
-      | inl h ↦
-          let now = value * 16 + digit_value byte in
-          let more = digits ++ byte ∷ [] in
-          let now_is : digits_value 16 more ≡ now = value_snoc 0 digits byte
-          ∙ ap (λ (v : ℕ). v * 16 + digit_value byte) far.value_is in
-          let grouped : more ++ bytes ≡ digits ++ byte ∷ bytes =
-          append_assoc digits (byte ∷ []) bytes in
-          let len : length more ≡ length digits + 1 = length-append digits (byte ∷ []) in
-          let some = far.some in
-          let count = far.count in
-          elim (cases_Bool (ltb left 2)) [
-            | inl last ↦
-                let lt = ltb-true left 2 last in
-                elim (cases_Bool (is_scalar now)) [
-                  | inl s ↦
-                      let m = some_mapped (Some now) (code_points Outside bytes) points
-                      (rw (h, last, s) at e) in
-                      let scalar : IsScalar (digits_value 16 more) =
-                      subst IsScalar (sym now_is) (scalar_is now s) in
-                      let spelled = escape_spelled letter size more bytes m.0 far.form
-                      (omega (arith, len)) (all_snoc digits byte far.all h) scalar
-                      (ih Outside m.0 m.1) in
-                      let points_is : digits_value 16 more ∷ m.0 ≡ points =
-                      ap (λ (v : ℕ). v ∷ m.0) now_is ∙ m.2 in
-                      subst (λ (p : List ℕ). SpellsText (92 ∷ letter ∷ (digits ++ byte ∷ bytes)) p)
-                      points_is
-                      (subst
-                      (λ (t : List ℕ). SpellsText (92 ∷ letter ∷ t) (digits_value 16 more ∷ m.0))
-                      grouped spelled)
-                  | inr n ↦ absurd (let f = rw (h, last, n) at e in cc)
-                ]
-            | inr longer ↦
-                let ge = ltb-false left 2 longer in
-                elim (cases_Bool (ltb now 1114112)) [
-                  | inl small ↦
-                      let m = some_mapped None (code_points (Digits (left - 1) now) bytes) points
-                      (rw (h, longer, small) at e) in
-                      let next : IsSoFar letter size more (left - 1)
-                      now = record {
-                        form = far.form;
-                        some = omega arith;
-                        count = omega (arith, len);
-                        all = all_snoc digits byte far.all h;
-                        value_is = now_is;
-                      } in
-                      let spelled = ih (Digits (left - 1) now) m.0 m.1 letter size more next in
-                      subst (λ (p : List ℕ). SpellsText (92 ∷ letter ∷ (digits ++ byte ∷ bytes)) p)
-                      m.2 (subst (λ (t : List ℕ). SpellsText (92 ∷ letter ∷ t) m.0) grouped spelled)
-                  | inr n ↦ absurd (let f = rw (h, longer, n) at e in cc)
-                ]
-          ]
-    ]
+-- a digit that isn't the last
+further : (left value byte letter size : ℕ) (digits : List ℕ)
+    → IsSoFar letter size digits left value → is_ascii_hexdigit byte ≡ true → 2 ≤ left
+    → IsSoFar letter size (digits ++ byte ∷ []) (left - 1) (value * 16 + digit_value byte)
+further left value byte letter size digits far h ge =
+    let count = far.count in
+    record {
+      form = far.form;
+      some = omega (arith, ge);
+      count = omega (arith, ge, count, length-append digits (byte ∷ []));
+      all = all_snoc digits byte far.all h;
+      value_is = value_snoc 0 digits byte
+          ∙ ap (λ (v : ℕ). v * 16 + digit_value byte) far.value_is;
+    }
 
-leads : (state : State) (byte : ℕ) (bytes points : List ℕ)
-    → ((next : State) (rest : List ℕ) → Read next bytes rest → Completes next bytes rest)
-    → Stepped state byte bytes points → Completes state (byte ∷ bytes) points
-leads Outside byte bytes points ih e = elim (cases_Bool (eqb byte 92)) [
-  | inl b ↦
-      let m = some_mapped None (code_points Behind bytes) points (rw b at e) in
-      subst (λ (x : ℕ). SpellsText (x ∷ bytes) points) (sym (eqb-true byte 92 b))
-      (subst (λ (p : List ℕ). SpellsText (92 ∷ bytes) p) m.2 (ih Behind m.0 m.1))
-  | inr n ↦
-      let m = some_mapped (Some byte) (code_points Outside bytes) points (rw n at e) in
-      subst (λ (p : List ℕ). SpellsText (byte ∷ bytes) p) m.2
-      (one_more (plain byte) bytes m.0 (eqb-false byte 92 n) (ih Outside m.0 m.1))
+leads : (state : State) (byte : ℕ) (bytes points : List ℕ) → IfSome (escape_step state byte)
+    (λ next. Completes next.0 bytes points → Completes state (byte ∷ bytes) (with_item next.1 points))
+leads Outside byte bytes points = elim (cases_Bool (eqb byte 92)) [
+  | inl b ↦ rw b (λ ih. subst (λ (x : ℕ). SpellsText (x ∷ bytes) points)
+      (sym (eqb-true byte 92 b)) ih)
+  | inr n ↦ rw n (λ ih. one_more (plain byte) bytes points (eqb-false byte 92 n) ih)
 ]
-leads Behind byte bytes points ih e = elim (cases_Bool (eqb byte 117)) [
-  | inl u ↦
-      let m = some_mapped None (code_points (Digits 4 0) bytes) points (rw u at e) in
-      subst (λ (p : List ℕ). SpellsText (92 ∷ byte ∷ bytes) p) m.2
-      (ih (Digits 4 0) m.0 m.1 byte 4 []
-      (record {
-        form = inl (eqb-true byte 117 u, refl);
-        some = omega arith;
-        count = refl;
-        all = refl;
-        value_is = refl;
-      }))
+leads Behind byte bytes points = elim (cases_Bool (eqb byte 117)) [
+  | inl u ↦ rw u (λ ih. ih byte 4 [] (begun byte 4 (rw (eqb-true byte 117 u) (record {
+    make = short;
+    prints = λ digits. refl;
+    good = λ digits is. is;
+    point = λ digits. refl;
+  })) (omega arith)))
   | inr nu ↦ elim (cases_Bool (eqb byte 85)) [
-    | inl u ↦
-        let m = some_mapped None (code_points (Digits 8 0) bytes) points (rw (nu, u) at e) in
-        subst (λ (p : List ℕ). SpellsText (92 ∷ byte ∷ bytes) p) m.2
-        (ih (Digits 8 0) m.0 m.1 byte 8 []
-        (record {
-          form = inr (eqb-true byte 85 u, refl);
-          some = omega arith;
-          count = refl;
-          all = refl;
-          value_is = refl;
-        }))
-    | inr n ↦ absurd (let f = rw (nu, n) at e in cc)
+    | inl u ↦ rw (nu, u) (λ ih. ih byte 8 [] (begun byte 8 (rw (eqb-true byte 85 u) (record {
+      make = long;
+      prints = λ digits. refl;
+      good = λ digits is. is;
+      point = λ digits. refl;
+    })) (omega arith)))
+    | inr n ↦ rw (nu, n) tt
   ]
 ]
-leads (Digits left value) byte bytes points ih e = digit_leads left value byte bytes points ih e
-
-completes : (bytes : List ℕ) (state : State) (points : List ℕ) → Read state bytes points
-    → Completes state bytes points
-unfolding code_points
-completes [] Outside points e =
-    (let none : [] ≡ points = cc in subst (λ (p : List ℕ). SpellsText [] p) none
-    ([], All-nil IsCharacter, refl, refl))
-completes [] Behind points e = absurd cc
-completes [] (Digits left value) points e = absurd cc
-completes (byte ∷ bytes) state points e = leads state byte bytes points (completes bytes)
-    (sym (one_step state byte bytes) ∙ e)
-
-read_is_spelled : (line points : List ℕ) → text_named line ≡ Some points → SpellsText line points
-read_is_spelled line points e = completes line Outside points e
+leads (Digits left value) byte bytes points = elim (cases_Bool (is_ascii_hexdigit byte)) [
+  | inr n ↦ rw n tt
+  | inl h ↦ elim (cases_Bool (ltb left 2)) [
+    | inl lt ↦ elim (cases_Bool (is_scalar (value * 16 + digit_value byte))) [
+      | inl s ↦ rw (h, lt, s) (λ ih letter size digits far.
+          last left value byte letter size digits bytes points far h (ltb-true left 2 lt) s ih)
+      | inr n ↦ rw (h, lt, n) tt
+    ]
+    | inr ge ↦ elim (cases_Bool (ltb (value * 16 + digit_value byte) 1114112)) [
+      | inl small ↦ rw (h, ge, small) (λ ih letter size digits far.
+          subst (λ (t : List ℕ). SpellsText (92 ∷ letter ∷ t) points)
+          (append_assoc digits (byte ∷ []) bytes) (ih letter size (digits ++ byte ∷ [])
+          (further left value byte letter size digits far h (ltb-false left 2 ge))))
+      | inr n ↦ rw (h, ge, n) tt
+    ]
+  ]
+]
 
 -- ---- what is spelled is read
 
 abbrev after : ℕ → List ℕ → Option (List ℕ)
-after point bytes = option_map (with_point (Some point)) (code_points Outside bytes)
-
-nothing_added : (read : Option (List ℕ)) → option_map (with_point None) read ≡ read
-nothing_added None = refl
-nothing_added (Some points) = refl
-
--- a byte leads to a state, and ends no character
-passes : (state next : State) (byte : ℕ) (bytes : List ℕ)
-    → escape_step state byte ≡ Some (next, None)
-    → code_points state (byte ∷ bytes) ≡ code_points next bytes
-passes state next byte bytes e = one_step state byte bytes
-    ∙ (rw e refl ∙ nothing_added (code_points next bytes))
-
--- a byte ends a character
-ends : (state : State) (byte point : ℕ) (bytes : List ℕ)
-    → escape_step state byte ≡ Some (Outside, Some point)
-    → code_points state (byte ∷ bytes) ≡ after point bytes
-ends state byte point bytes e = one_step state byte bytes ∙ rw e refl
+after point bytes = option_map (with_item (Some point)) (code_points Outside bytes)
 
 digits_read : (digits : List ℕ) (value : ℕ) (bytes : List ℕ) → 1 ≤ length digits
     → list_all is_ascii_hexdigit digits ≡ true → IsScalar (digits_value_after 16 value digits)
@@ -282,7 +227,7 @@ digits_read (digit ∷ []) value bytes some all scalar =
     let h = (and_parts (is_ascii_hexdigit digit) true all).0 in
     let now = value * 16 + digit_value digit in
     let s : is_scalar now ≡ true = is_scalar_of now scalar in
-    ends (Digits 1 value) digit now bytes (rw (h, s) refl)
+    completes escapes (Digits 1 value) Outside digit now bytes (rw (h, s) refl)
 digits_read (digit ∷ next ∷ digits) value bytes some all scalar =
     let p = and_parts (is_ascii_hexdigit digit) (list_all is_ascii_hexdigit (next ∷ digits)) all in
     let now = value * 16 + digit_value digit in
@@ -291,7 +236,7 @@ digits_read (digit ∷ next ∷ digits) value bytes some all scalar =
     let small : ltb now 1114112 ≡ true = lt-ltb now 1114112 (omega arith) in
     let long : ltb (length (digit ∷ next ∷ digits)) 2 ≡ false = le-ltb _ _ (omega arith) in
     let left : length (digit ∷ next ∷ digits) - 1 ≡ length (next ∷ digits) = omega arith in
-    passes (Digits (length (digit ∷ next ∷ digits)) value)
+    passes escapes (Digits (length (digit ∷ next ∷ digits)) value)
     (Digits (length (next ∷ digits)) now) digit ((next ∷ digits) ++ bytes)
     (rw (p.0, long, small, left) refl)
     ∙ digits_read (next ∷ digits) now bytes (omega arith) p.1 scalar
@@ -302,52 +247,47 @@ escape_read : (letter size : ℕ) (digits bytes : List ℕ) → 1 ≤ size
 escape_read letter size digits bytes some step h =
     let count = h.count in
     let same : size ≡ length digits = sym count in
-    passes Outside Behind 92 (letter ∷ (digits ++ bytes)) refl
-    ∙ (passes Behind (Digits size 0) letter (digits ++ bytes) step
+    passes escapes Outside Behind 92 (letter ∷ (digits ++ bytes)) refl
+    ∙ (passes escapes Behind (Digits size 0) letter (digits ++ bytes) step
     ∙ (ap (λ (n : ℕ). code_points (Digits n 0) (digits ++ bytes)) same
     ∙ digits_read digits 0 bytes (omega arith)
     (list_all-from_AllPass is_ascii_hexdigit digits h.hexadecimal) h.scalar))
 
 character_read : (character : Character) (bytes : List ℕ) → IsCharacter character
     → code_points Outside (print_character character ++ bytes) ≡ after (code_point character) bytes
-character_read (plain byte) bytes h = ends Outside byte byte bytes (rw (ne_eqb byte 92 h) refl)
+character_read (plain byte) bytes h =
+    completes escapes Outside Outside byte byte bytes (rw (ne_eqb byte 92 h) refl)
 character_read (short digits) bytes h = escape_read 117 4 digits bytes (omega arith) refl h
 character_read (long digits) bytes h = escape_read 85 8 digits bytes (omega arith) refl h
 
 characters_read : (characters : List Character) → All IsCharacter characters
-    → text_named (flat_map print_character characters) ≡ Some (map code_point characters)
-unfolding code_points
+    → code_points Outside (flat_map print_character characters) ≡ Some (map code_point characters)
+unfolding items_from
 characters_read [] h = refl
 characters_read (character ∷ characters) h =
     character_read character (flat_map print_character characters)
     (All-head IsCharacter character characters h)
-    ∙ ap (option_map (with_point (Some (code_point character))))
+    ∙ ap (option_map (with_item (Some (code_point character))))
     (characters_read characters (All-tail IsCharacter character characters h))
 
-spelled_is_read : (line points : List ℕ) → SpellsText line points → text_named line ≡ Some points
+spelled_is_read : (line points : List ℕ) → SpellsText line points → code_points Outside line ≡ Some points
 spelled_is_read line points (characters, all, line_is, points_is) =
-    ap text_named line_is
+    ap (code_points Outside) line_is
     ∙ (characters_read characters all ∙ ap (λ (p : List ℕ). Some p) (sym points_is))
 
 -- ---- what is read byte by byte is what is read character by character
 
-alike : {A : Type 0} (a b : Option A) → ((x : A) → a ≡ Some x → b ≡ Some x)
-    → ((x : A) → b ≡ Some x → a ≡ Some x) → a ≡ b
-alike (Some x) b forth back = sym (forth x refl)
-alike None None forth back = refl
-alike None (Some x) forth back = back x refl
-
-pub named_is : (line : List ℕ) → text_named line ≡ points_of line
+pub named_is : (line : List ℕ) → code_points Outside line ≡ points_of line
 named_is line =
-    alike (text_named line) (points_of line)
-    (λ points e. points_of_spelled line points (read_is_spelled line points e))
+    alike (code_points Outside line) (points_of line)
+    (λ points e. points_of_spelled line points (read_so escapes Completes at_end leads line Outside points e))
     (λ points e. spelled_is_read line points (spelled_points line points e))
 
-nothing_before : (read : Option (List ℕ)) → joined [] read ≡ option_map encode_utf8_all read
+nothing_before : (read : Option (List ℕ)) → joined escapes [] read ≡ option_map encode_utf8_all read
 nothing_before None = refl
 nothing_before (Some points) = refl
 
 pub joined_is : (text line : List ℕ) → text ≡ []
-    → joined text (text_named line) ≡ option_map encode_utf8_all (points_of line)
-joined_is text line e = ap (λ (t : List ℕ). joined t (text_named line)) e
-    ∙ (nothing_before (text_named line) ∙ ap (option_map encode_utf8_all) (named_is line))
+    → joined escapes text (code_points Outside line) ≡ option_map encode_utf8_all (points_of line)
+joined_is text line e = ap (λ (t : List ℕ). joined escapes t (code_points Outside line)) e
+    ∙ (nothing_before (code_points Outside line) ∙ ap (option_map encode_utf8_all) (named_is line))

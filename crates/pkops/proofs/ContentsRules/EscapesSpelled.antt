@@ -1,6 +1,6 @@
 -- Text with escapes, read from left to right, is the text that the line spells.
 use Rattle.std.proofs.Common.{◌≡◌, ℕ, true, eqb, List, [], ◌∷◌, ◌++◌, length, map, take, drop}
-use Rattle.std.proofs.Common.{Option, Some, None, refl, sym, ap, subst, ◌∙◌, arith, inl, inr}
+use Rattle.std.proofs.Common.{Some, refl, sym, ap, subst, ◌∙◌, arith, inl, inr}
 use Rattle.std.specs.List.{list_all}
 use Rattle.std.specs.Option.{option_map}
 use Rattle.std.specs.Char.{is_ascii_hexdigit}
@@ -12,6 +12,7 @@ use Rattle.pkops.specs.Escapes.{Character, plain, short, long, print_character, 
 use Rattle.pkops.specs.Escapes.{IsEscape, IsCharacter, SpellsText, is_escape, digits_at, escape_at}
 use Rattle.pkops.specs.Escapes.{character_at, points_of}
 use Rattle.pkops.specs.Forms.{forms_of}
+use Rattle.pkops.proofs.ContentsRules.Loop.{mapped}
 use Rattle.pkops.proofs.ContentsRules.FormsRead.{IsRead, IsPrinted, AreInverse, read_of, printed_of}
 
 -- ---- one escape
@@ -47,11 +48,6 @@ digits_back n text digits e = elim (cases_Bool (is_escape n (take n text))) [
         sym (take-append-drop n text) ∙ ap (λ (front : List ℕ). front ++ drop n text) same,
       )
 ]
-
-mapped : {A B : Type 0} (f : A → B) (o : Option A) (y : B) → option_map f o ≡ Some y
-    → (x : A) × (o ≡ Some x) × (f x ≡ y)
-mapped f None y e = absurd cc
-mapped f (Some x) y e = (x, refl, cc)
 
 -- ---- one character
 

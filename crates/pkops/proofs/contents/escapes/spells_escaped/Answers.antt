@@ -1,8 +1,8 @@
 -- A byte that no step allows, or an end inside an escape, shows that the line names no text.
 use Rattle.std.proofs.Common.{sym, ap, ◌∙◌, arith}
 use Rattle.std.specs.Prelude.{is_some}
-use Rattle.pkops.proofs.ContentsRules.EscapeLoop.{not_ended, stops, some_at_end, some_goes_on}
-use Rattle.pkops.proofs.ContentsRules.EscapesRead.{named_is}
+use Rattle.pkops.proofs.ContentsRules.EscapesRead.{escapes, named_is, not_ended}
+use Rattle.pkops.proofs.ContentsRules.Loop.{stops, some_at_end, some_goes_on}
 use Rattle.pkops.proofs.contents.escapes.spells_escaped.Goals as goal
 
 pub bytes-init : goal.bytes-init
@@ -11,22 +11,22 @@ bytes-init c = record { kept = ap is_some (named_is c.args.line.now); small = tt
 pub returns-in_default : goal.returns-in_default
 returns-in_default c =
     sym (ap is_some
-    (stops c.bytes.state c.args.line.now c.bytes.byte-index
+    (stops escapes c.bytes.state c.args.line.now c.bytes.byte-index
     (omega arith) c.in_default.ensures.step)) ∙ c.bytes.invariant.kept
 
 pub bytes-preserved : goal.bytes-preserved
 bytes-preserved c = record {
-  kept = some_goes_on c.bytes.state c.in-Some.next c.in-Some.field-0-1 c.args.line.now
+  kept = some_goes_on escapes c.bytes.state c.in-Some.next c.in-Some.field-0-1 c.args.line.now
       c.bytes.byte-index (omega arith) c.in-Some.ensures.step ∙ c.bytes.invariant.kept;
   small = c.in-Some.ensures.small;
 }
 
 pub returns-in-Outside : goal.returns-in-Outside
 returns-in-Outside c =
-    rw c.in-Outside.is at (some_at_end c.bytes.state c.args.line.now c.bytes.byte-index _
+    rw c.in-Outside.is at (some_at_end escapes c.bytes.state c.args.line.now c.bytes.byte-index _
     (omega arith) c.bytes.invariant.kept)
 
 pub returns-in_default-matches : goal.returns-in_default-matches
-returns-in_default-matches c = let e = some_at_end c.bytes.state c.args.line.now c.bytes.byte-index
+returns-in_default-matches c = let e = some_at_end escapes c.bytes.state c.args.line.now c.bytes.byte-index
     _ (omega arith) c.bytes.invariant.kept in let n =
     not_ended c.bytes.state c.in_default-matches.not-Outside in sym n ∙ e

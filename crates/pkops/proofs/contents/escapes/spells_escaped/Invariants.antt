@@ -3,7 +3,7 @@ use Rattle.std.proofs.Common.{◌≡◌, drop}
 use Rattle.std.specs.Prelude.{is_some}
 use Rattle.pkops.specs.Private.EscapeSteps.{IsPointSoFar}
 use Rattle.pkops.specs.Escapes.{points_of}
-use Rattle.pkops.proofs.ContentsRules.EscapeLoop.{code_points}
+use Rattle.pkops.proofs.ContentsRules.EscapesRead.{code_points}
 use Rattle.pkops.proofs.contents.escapes.spells_escaped.Given as goal
 
 abbrev pub invariant-bytes : goal.invariant-bytes

@@ -3,7 +3,7 @@ use Rattle.std.proofs.Common.{◌≡◌, drop}
 use Rattle.std.specs.Prelude.{is_some}
 use Rattle.pkops.specs.RuleTests.{are_items}
 use Rattle.pkops.specs.Private.Places.{HoldsDigit}
-use Rattle.pkops.proofs.ContentsRules.OldStringsLoop.{spelled}
+use Rattle.pkops.proofs.ContentsRules.OldStrings.{spelled}
 use Rattle.pkops.proofs.contents.old_string.are_items.Given as goal
 
 -- what is left spells bytes from the place on exactly where the whole does from the beginning
