@@ -1,6 +1,5 @@
 -- What an argument may contain: the rules that hold beyond its layout.
-use Rattle.std.specs.Prelude.{ℕ, ◌<◌, List, length, ⊤}
-use Rattle.std.specs.Str.{IsAscii, IsUtf8}
+use Rattle.std.specs.Prelude.{ℕ, ◌<◌, List, length, ⊤, IsAscii, IsUtf8}
 use Rattle.pkops.specs.declared.op.Op.{Op}
 use Rattle.pkops.specs.declared.op.Op.TheVariants as op
 use Rattle.pkops.specs.declared.contents.Rule.{Rule}

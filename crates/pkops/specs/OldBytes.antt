@@ -1,9 +1,8 @@
 -- The bytes of Python 2 strings (type `str`): the payload of BINSTRING and SHORT_BINSTRING, and
 -- what the line of STRING spells between its quotes, as Python's codec `string_escape` reads it.
 use Rattle.std.specs.Prelude.{◌≡◌, ℕ, ◌-◌, Bool, ◌&&◌, ◌==◌, nat_le, if◌then◌else◌, List, [], ◌∷◌}
-use Rattle.std.specs.Prelude.{◌++◌, length, take, drop, map, slice_index, Option, Some, None}
-use Rattle.std.specs.List.{All, flat_map}
-use Rattle.std.specs.Option.{option_map}
+use Rattle.std.specs.Prelude.{◌++◌, length, take, drop, map, slice_index, Option, Some, None, All}
+use Rattle.std.specs.Prelude.{flat_map, option_map}
 use Rattle.std.specs.Str.Parse.{digits_value}
 use Rattle.pkops.specs.declared.op.Op.{Op}
 use Rattle.pkops.specs.declared.op.Op.TheVariants as op

@@ -1,6 +1,5 @@
 -- The text that an instruction holds.
-use Rattle.std.specs.Prelude.{◌≡◌, ℕ, List, Option, Some, None, encode_utf8_all}
-use Rattle.std.specs.Option.{option_map}
+use Rattle.std.specs.Prelude.{◌≡◌, ℕ, List, Option, Some, None, encode_utf8_all, option_map}
 use Rattle.pkops.specs.declared.contents.Rule.{Rule}
 use Rattle.pkops.specs.declared.contents.Rule.TheVariants as rule
 use Rattle.pkops.specs.Contents.{rule_of}

@@ -1,6 +1,5 @@
 -- What begins an instruction is begun by each of its fronts.
-use Rattle.std.proofs.Common.{ℕ, List, ◌++◌, ◌∙◌, append_assoc, arith}
-use Rattle.std.proofs.lemmas.List.{length-append, length-drop}
+use Rattle.std.proofs.Common.{ℕ, List, ◌++◌, ◌∙◌, append_assoc, arith, length-append, length-drop}
 use Rattle.pkops.specs.Scans.{Begun}
 use Rattle.pkops.proofs.ExactReaders.Fields.{not_nil, some_left}
 

@@ -1,9 +1,8 @@
 -- Bytes that grow to an instruction, field by field.
 use Rattle.std.proofs.Common.{◌≡◌, ℕ, ◌<◌, ◌≤◌, Bool, List, [], ◌∷◌, ◌++◌, length, take, drop, Ok}
-use Rattle.std.proofs.Common.{Err, refl, sym, ap, ◌∙◌, arith}
-use Rattle.std.specs.Int.{w32, cast_signed}
-use Rattle.std.proofs.lemmas.List.{take_at, drop_at, take_all, length-append, take-append-drop}
-use Rattle.std.proofs.lemmas.List.{length-drop, append-nil}
+use Rattle.std.proofs.Common.{Err, refl, sym, ap, ◌∙◌, arith, w32, take_at, drop_at, take_all}
+use Rattle.std.proofs.Common.{length-append, take-append-drop, length-drop, append-nil}
+use Rattle.std.specs.Int.{cast_signed}
 use Rattle.byteorder.specs.Endian.{little_number}
 use Rattle.byteorder.specs.Numbers.{little_from-take}
 use Rattle.pkops.specs.declared.fault.Fault.TheVariants.{BadArgument, TooLarge}

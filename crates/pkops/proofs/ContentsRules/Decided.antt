@@ -1,6 +1,5 @@
 -- Each test of contents holds exactly where its rule does.
-use Rattle.std.proofs.Common.{◌≡◌, ℕ, true, MatchBool, List, Option, Some, None, refl, ap}
-use Rattle.std.specs.Prelude.{is_some}
+use Rattle.std.proofs.Common.{◌≡◌, ℕ, true, MatchBool, List, Option, Some, None, refl, ap, is_some}
 use Rattle.std.proofs.lemmas.Bool.{and_parts, and_from, cases_from_iff}
 use Rattle.std.proofs.lemmas.Str.{is_utf8-from_IsUtf8, IsUtf8-from_is_utf8}
 use Rattle.pkops.specs.declared.contents.Rule.{Rule}

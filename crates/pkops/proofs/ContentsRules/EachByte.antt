@@ -1,9 +1,8 @@
 -- A fold that keeps whether each byte so far passes a test, and tests of both ends.
 use Rattle.std.proofs.Common.{◌≡◌, Bool, true, false, ℕ, List, [], ◌∷◌, ◌&&◌, ◌≤◌, ap, sym, ◌∙◌}
-use Rattle.std.proofs.Common.{arith, drop, refl, suc, take, zero}
-use Rattle.std.specs.List.{list_all, fold}
+use Rattle.std.proofs.Common.{arith, drop, refl, suc, take, zero, fold, take-append-drop}
+use Rattle.std.specs.List.{list_all}
 use Rattle.std.proofs.Math.Bool.{and-true, and_assoc}
-use Rattle.std.proofs.lemmas.List.{take-append-drop}
 use Rattle.std.proofs.lemmas.List.Folds.{list_all-append}
 
 pub fold_all : (test : ℕ → Bool) (so_far : Bool) (bytes : List ℕ)

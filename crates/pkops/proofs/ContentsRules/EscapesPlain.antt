@@ -1,11 +1,8 @@
 -- A line of plain bytes spells itself.
 use Rattle.std.proofs.Common.{◌≡◌, Bool, true, false, eqb, List, [], ◌∷◌, ℕ, Some, refl, sym, ap}
-use Rattle.std.proofs.Common.{◌∙◌}
-use Rattle.std.specs.Prelude.{encode_utf8_all, not}
+use Rattle.std.proofs.Common.{◌∙◌, encode_utf8_all, not, option_map, IsAscii}
 use Rattle.std.specs.Char.{is_ascii}
 use Rattle.std.specs.List.{list_all}
-use Rattle.std.specs.Option.{option_map}
-use Rattle.std.specs.Str.{IsAscii}
 use Rattle.std.proofs.lemmas.Bool.{and_parts, and_from}
 use Rattle.std.proofs.lemmas.Str.{encodes-IsAscii}
 use Rattle.pkops.specs.declared.contents.escapes.State.TheVariants.{Outside}

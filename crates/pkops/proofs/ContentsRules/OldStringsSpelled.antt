@@ -1,8 +1,6 @@
 -- Strings in quotes, read from left to right, are those of the grammar.
 use Rattle.std.proofs.Common.{◌≡◌, ℕ, true, false, ◌&&◌, not, eqb, leb, List, [], ◌∷◌, Option, Some}
-use Rattle.std.proofs.Common.{None, refl, sym, ap, subst, ◌∙◌, inl, inr}
-use Rattle.std.specs.Prelude.{is_some}
-use Rattle.std.specs.List.{All, flat_map}
+use Rattle.std.proofs.Common.{None, refl, sym, ap, subst, ◌∙◌, inl, inr, is_some, All, flat_map}
 use Rattle.std.specs.Char.{is_ascii_hexdigit}
 use Rattle.std.proofs.lemmas.Bool.{and_parts, cases_Bool, eqb-true, eqb-false, ne_eqb, leb-true}
 use Rattle.std.proofs.lemmas.Bool.{le-leb, both_ways}

@@ -1,9 +1,7 @@
 -- The reader of an argument is exact, whatever its layout.
 use Rattle.std.proofs.Common.{◌≡◌, ◌≢◌, ℕ, ◌^◌, ◌<◌, Bool, List, [], ◌++◌, length, Ok, refl, sym}
-use Rattle.std.proofs.Common.{ap, subst, arith}
-use Rattle.std.specs.Prelude.{FitsSigned}
-use Rattle.std.specs.Int.{w32, cast_signed, cast_unsigned}
-use Rattle.std.proofs.lemmas.List.{length-append}
+use Rattle.std.proofs.Common.{ap, subst, arith, FitsSigned, w32, length-append}
+use Rattle.std.specs.Int.{cast_signed, cast_unsigned}
 use Rattle.std.proofs.lemmas.Int.{to_z-of_z, of_z-to_z}
 use Rattle.std.proofs.Math.Facts.{Fits-of_z, Fits-of_lt, sfits_to_z}
 use Rattle.byteorder.specs.Endian.{little_bytes}

@@ -1,9 +1,7 @@
 -- What the reader of an argument finds, said of the instruction.
 use Rattle.std.proofs.Common.{◌≡◌, ℕ, suc, ◌-◌, ◌≤◌, List, [], ◌∷◌, ◌++◌, length, take, drop}
 use Rattle.std.proofs.Common.{get_or, Option, Some, None, Result, Ok, Err, refl, sym, ap, subst}
-use Rattle.std.proofs.Common.{◌∙◌, arith, inl, inr}
-use Rattle.std.proofs.lemmas.List.{length-append, take_at, append-nil}
-use Rattle.std.specs.Prelude.{SomeIff}
+use Rattle.std.proofs.Common.{◌∙◌, arith, inl, inr, length-append, take_at, append-nil, SomeIff}
 use Rattle.pkops.specs.declared.op.Op.{Op}
 use Rattle.pkops.specs.declared.op.Op.TheVariants as op
 use Rattle.pkops.specs.declared.fault.Fault.{Fault}
@@ -12,13 +10,12 @@ use Rattle.pkops.specs.declared.reading.Unread.{Unread}
 use Rattle.pkops.specs.declared.reading.Unread.TheVariants.{Short, Bad}
 use Rattle.pkops.specs.declared.layout.Layout.{Layout}
 use Rattle.pkops.specs.declared.op.Kind.{Kind}
-use Rattle.pkops.specs.Answer.{Answer}
+use Rattle.pkops.specs.Answer.{Answer, IsWhole, Answers}
 use Rattle.pkops.specs.Table.{code_of, kind_of}
 use Rattle.pkops.specs.Spelling.{Argument, Nothing, Instruction, instruction, laid, layout_of}
 use Rattle.pkops.specs.Spelling.{layout_at, spelling}
 use Rattle.pkops.specs.Contents.{IsGood}
 use Rattle.pkops.specs.Scans.{Begun, HasFault}
-use Rattle.pkops.specs.Answer.{IsWhole, Answers}
 use Rattle.pkops.specs.Private.FirstFaults.{IsUnread, arg_at}
 use Rattle.pkops.proofs.ExactReaders.Exact.{IsBytes, Takes}
 use Rattle.pkops.proofs.ExactReaders.Fields.{not_nil}

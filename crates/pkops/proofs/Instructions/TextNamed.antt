@@ -1,9 +1,7 @@
 -- The text of an instruction as a function is the one that it names.
 use Rattle.std.proofs.Common.{MatchOption, ◌≡◌, ◌↔◌, ℕ, List, Option, Some, None, refl, sym, ap}
-use Rattle.std.proofs.Common.{◌∙◌, true}
-use Rattle.std.specs.Prelude.{encode_utf8_all}
+use Rattle.std.proofs.Common.{◌∙◌, true, encode_utf8_all, option_map}
 use Rattle.std.specs.List.{list_all}
-use Rattle.std.specs.Option.{option_map}
 use Rattle.pkops.specs.declared.op.Op.TheVariants as op
 use Rattle.pkops.specs.declared.contents.Rule.{Rule}
 use Rattle.pkops.specs.declared.contents.Rule.TheVariants as rule

@@ -1,11 +1,8 @@
 -- The instruction at the front of the bytes that a source has at hand.
 use Rattle.std.proofs.Common.{◌≡◌, ℕ, suc, zero, ◌+◌, ◌-◌, ◌*◌, ◌<◌, ◌≤◌, Bool, false, true, List}
-use Rattle.std.proofs.Common.{[], ◌∷◌, ◌++◌, length, take, drop, get_or, None, refl}
-use Rattle.std.proofs.Common.{sym, ap, subst, ◌∙◌, arith}
-use Rattle.std.specs.Prelude.{slice_index}
-use Rattle.std.specs.Str.{IsUtf8}
-use Rattle.std.proofs.Math.Seq.{take-add}
-use Rattle.std.proofs.lemmas.List.{get_or-take, length-drop, length-take}
+use Rattle.std.proofs.Common.{[], ◌∷◌, ◌++◌, length, take, drop, get_or, None, refl, sym, ap, subst}
+use Rattle.std.proofs.Common.{◌∙◌, arith, slice_index, IsUtf8, take-add, get_or-take, length-drop}
+use Rattle.std.proofs.Common.{length-take}
 use Rattle.byteorder.specs.Endian.{little_bytes, little_from}
 use Rattle.byteorder.specs.Numbers.{little_from-lt}
 use Rattle.pkops.specs.Contents.{Keeps, rule_of}
@@ -13,9 +10,7 @@ use Rattle.pkops.specs.Growth.{CountLaws, FieldLaws}
 use Rattle.pkops.specs.Limits.{Bounds}
 use Rattle.pkops.specs.KnownLayout.{AreBytes, Lies, count_in, field_len}
 use Rattle.pkops.specs.Payloads.{payload_limit}
-use Rattle.pkops.specs.Spelling.{Counted, Number}
-use Rattle.pkops.specs.Spelling.{count_limit, instruction, layout_at}
-use Rattle.pkops.specs.Spelling.{size_of}
+use Rattle.pkops.specs.Spelling.{Counted, Number, count_limit, instruction, layout_at, size_of}
 use Rattle.pkops.specs.Table.{code_of}
 use Rattle.pkops.specs.declared.Layout.TheVariants as layout
 use Rattle.pkops.specs.declared.Width.{Width}

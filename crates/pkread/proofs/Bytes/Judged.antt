@@ -1,9 +1,7 @@
 -- What was gathered is judged.
 use Rattle.std.proofs.Common.{◌≡◌, ◌≢◌, ℕ, ◌<◌, ◌≤◌, List, [], ◌∷◌, ◌++◌, length, take, Option}
 use Rattle.std.proofs.Common.{Some, None, Result, Ok, Err, refl, sym, ap, ◌∙◌, subst, inl, arith}
-use Rattle.std.proofs.Common.{append-nil}
-use Rattle.std.specs.Prelude.{IfErr, IfOk, IfSome, MatchResult}
-use Rattle.std.proofs.lemmas.List.{take_all, length-take}
+use Rattle.std.proofs.Common.{append-nil, IfErr, IfOk, IfSome, MatchResult, take_all, length-take}
 use Rattle.pkops.specs.Answer.{IsWhole}
 use Rattle.pkops.specs.Contents.{IsGood}
 use Rattle.pkops.specs.Growth.{BegunLaws}
@@ -14,9 +12,9 @@ use Rattle.pkops.specs.Table.{code_of}
 use Rattle.pkops.specs.declared.Fault.TheVariants as fault
 use Rattle.pkops.specs.declared.Op.{Op}
 use Rattle.pkops.specs.declared.Reason.{Reason}
-use Rattle.pkops.specs.declared.Reason.TheVariants.{Source, Truncated, UnknownOpcode}
-use Rattle.pkops.specs.declared.Reason.TheVariants.{BadArgument, TooLarge, ExtensionCode}
-use Rattle.pkops.specs.declared.Reason.TheVariants.{UnsupportedProtocol, OutOfMemory}
+use Rattle.pkops.specs.declared.Reason.TheVariants.{Source, Truncated, UnknownOpcode, BadArgument}
+use Rattle.pkops.specs.declared.Reason.TheVariants.{TooLarge, ExtensionCode, UnsupportedProtocol}
+use Rattle.pkops.specs.declared.Reason.TheVariants.{OutOfMemory}
 use Rattle.pkread.proofs.Bytes.Behind.{fronts_more, stops_lacking}
 use Rattle.pkread.proofs.Calls.Next.{IsGathered}
 use Rattle.pkread.proofs.Bytes.LinesBehind.{stops_more}
@@ -24,8 +22,8 @@ use Rattle.pkread.proofs.Reasons.Objections.{objection_is_amiss}
 use Rattle.pkread.proofs.Reasons.OneRow.{OneAnswer, one_row}
 use Rattle.pkread.specs.Admission.{objection}
 use Rattle.pkread.proofs.Bytes.Taken.{took_both}
-use Rattle.pkread.specs.Private.Arms.{Finds, Gathers, Grows, IsFound, RowBehind, Stops}
-use Rattle.pkread.specs.Private.Arms.{TakesFound, TakesWhole}
+use Rattle.pkread.specs.Private.Arms.{Finds, Gathers, Grows, IsFound, RowBehind, Stops, TakesFound}
+use Rattle.pkread.specs.Private.Arms.{TakesWhole}
 use Rattle.pkread.specs.Private.Progress.{Intake}
 use Rattle.pkread.specs.Rows.{FrontsBegin, IsAmiss, Refuses, ShowsReason, Sight, Takes}
 use Rattle.pkread.specs.Private.Judgement.{TakesAnyArgument}

@@ -1,9 +1,8 @@
 -- The lines behind a code.
 use Rattle.std.proofs.Common.{◌≡◌, ◌≢◌, ℕ, ◌+◌, ◌-◌, ◌%◌, ◌^◌, ◌≤◌, ◌⊎◌, List, [], ◌∷◌, ◌++◌}
 use Rattle.std.proofs.Common.{length, refl, sym, ap, ◌∙◌, subst, inl, inr, arith, length-append}
-use Rattle.std.proofs.Common.{append_assoc}
+use Rattle.std.proofs.Common.{append_assoc, take_all}
 use Rattle.std.specs.List.{AllByRecursion}
-use Rattle.std.proofs.lemmas.List.{take_all}
 use Rattle.pkops.specs.Growth.{BegunLaws}
 use Rattle.pkops.specs.KnownLayout.{Lies}
 use Rattle.pkops.specs.Scans.{Begun, HasFault, IsLong}
@@ -13,8 +12,7 @@ use Rattle.pkops.specs.declared.Fault.TheVariants as fault
 use Rattle.pkops.specs.declared.Layout.TheVariants as layout
 use Rattle.pkops.specs.declared.Op.{Op}
 use Rattle.pkops.specs.declared.Reason.{Reason}
-use Rattle.pkops.specs.declared.Reason.TheVariants.{Source, Truncated, TooLarge}
-use Rattle.pkops.specs.declared.Reason.TheVariants.{OutOfMemory}
+use Rattle.pkops.specs.declared.Reason.TheVariants.{Source, Truncated, TooLarge, OutOfMemory}
 use Rattle.pkread.proofs.Bytes.Behind.{begun_fronts, fronts_more, row_behind}
 use Rattle.pkread.proofs.Bytes.Takes.{Consumes-more, Takes-more}
 use Rattle.pkread.proofs.Bytes.Taken.{took_both}

@@ -1,9 +1,8 @@
 -- Payloads that are skipped.
 use Rattle.std.proofs.Common.{◌≡◌, ℕ, ◌+◌, ◌-◌, ◌<◌, ◌≤◌, true, false, List, [], ◌∷◌, ◌++◌, length}
 use Rattle.std.proofs.Common.{take, drop, refl, sym, ap, subst, ◌∙◌, inl, inr, arith, length-append}
-use Rattle.std.proofs.Common.{Result, Ok, Err}
-use Rattle.std.specs.Prelude.{IsTrue, max, Bool, if◌then◌else◌}
-use Rattle.std.proofs.lemmas.List.{length-take, take-append-drop}
+use Rattle.std.proofs.Common.{Result, Ok, Err, IsTrue, max, Bool, if◌then◌else◌, length-take}
+use Rattle.std.proofs.Common.{take-append-drop}
 use Rattle.pkops.specs.Admitted.{is_admitted_by}
 use Rattle.pkops.specs.Growth.{BegunLaws, CountLaws}
 use Rattle.pkops.specs.Limits.{Bounds}

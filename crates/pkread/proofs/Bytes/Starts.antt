@@ -1,7 +1,6 @@
 -- Each opcode of the table of lengths stands at the place of its code.
 use Rattle.std.proofs.Common.{◌≡◌, ◌≢◌, ℕ, zero, suc, ◌+◌, Bool, true, false, cond, List, [], ◌∷◌}
-use Rattle.std.proofs.Common.{slice_index_or, refl, ap, arith, inl, inr}
-use Rattle.std.specs.Prelude.{◌==◌}
+use Rattle.std.proofs.Common.{slice_index_or, refl, ap, arith, inl, inr, ◌==◌}
 use Rattle.std.proofs.lemmas.Bool.{cases_Bool, eqb-true}
 use Rattle.pkops.specs.Table.{code_of}
 use Rattle.pkops.specs.declared.Op.TheVariants as op

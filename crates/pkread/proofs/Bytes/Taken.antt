@@ -2,20 +2,18 @@
 use Rattle.std.proofs.Common.{◌≡◌, ◌≢◌, ℕ, zero, suc, ◌+◌, ◌-◌, ◌%◌, ◌^◌, ◌<◌, ◌≤◌, List, [], ◌∷◌}
 use Rattle.std.proofs.Common.{◌++◌, length, take, drop, get_or, Option, None, Some, refl, sym, ap}
 use Rattle.std.proofs.Common.{subst, ◌∙◌, arith, length-append, append_assoc, append-nil, Result}
-use Rattle.std.proofs.Common.{Ok, Err}
+use Rattle.std.proofs.Common.{Ok, Err, drop_at, get_or-drop, length-drop, length-take, take-take}
+use Rattle.std.proofs.Common.{take_at, take-add}
 use Rattle.std.specs.Io.KnownBytes.{Consumes}
 use Rattle.std.specs.List.{AllByRecursion}
-use Rattle.std.proofs.lemmas.List.{drop-take, drop_at, get_or-drop, length-drop, length-take}
-use Rattle.std.proofs.lemmas.List.{take-take, take_at}
-use Rattle.std.proofs.Math.Seq.{take-add}
+use Rattle.std.proofs.lemmas.List.{drop-take}
 use Rattle.pkops.specs.declared.Reason.{Reason}
-use Rattle.pkops.specs.declared.Reason.TheVariants.{Source, Truncated, TooLarge}
-use Rattle.pkops.specs.declared.Reason.TheVariants.{OutOfMemory}
+use Rattle.pkops.specs.declared.Reason.TheVariants.{Source, Truncated, TooLarge, OutOfMemory}
 use Rattle.pkread.proofs.Bytes.Takes.{Consumes-more, Takes-more, Takes-none}
 use Rattle.pkread.specs.Rows.{Sight, Takes, all_bytes}
 use Rattle.pkread.specs.Private.Progress.{Intake}
-use Rattle.pkread.specs.Private.Reads.{LackRow, LacksSome, PulledInto, ReadsSome}
-use Rattle.pkread.specs.Private.Reads.{ReadsByte, ReadsNone, TakesAll, Took, TookAll}
+use Rattle.pkread.specs.Private.Reads.{LackRow, LacksSome, PulledInto, ReadsSome, ReadsByte}
+use Rattle.pkread.specs.Private.Reads.{ReadsNone, TakesAll, Took, TookAll}
 use Rattle.pkread.specs.Pull.{AreAllBytes}
 
 pub AreBytes-take : (n : ℕ) (c : List ℕ) → AreAllBytes c → AreAllBytes (take n c)

@@ -1,8 +1,7 @@
 -- What is judged where it lies: a text, which is good where it is UTF-8, and a line.
 use Rattle.std.proofs.Common.{◌≡◌, ℕ, ◌+◌, ◌-◌, None, List, [], ◌∷◌, ◌++◌, length, take, drop, refl}
-use Rattle.std.proofs.Common.{sym, ap, ◌∙◌, arith, length-append}
-use Rattle.std.proofs.lemmas.List.{drop_at, take_all, take_at}
-use Rattle.std.specs.Str.{IsUtf8}
+use Rattle.std.proofs.Common.{sym, ap, ◌∙◌, arith, length-append, drop_at, take_all, take_at}
+use Rattle.std.proofs.Common.{IsUtf8}
 use Rattle.pkops.specs.Contents.{IsGood}
 use Rattle.pkops.specs.Growth.{BegunLaws, CountLaws}
 use Rattle.pkops.specs.KnownLayout.{Lies}

@@ -1,11 +1,9 @@
 -- One call of `again`.
 use Rattle.std.proofs.Common.{◌≡◌, ◌≢◌, ℕ, ◌<◌, Bool, true, false, List, [], ◌∷◌, Option, None}
-use Rattle.std.proofs.Common.{Some, Result, Ok, Err, refl, sym, ◌∙◌, arith, inr}
-use Rattle.std.specs.Result.{IfErr, IfOk}
+use Rattle.std.proofs.Common.{Some, Result, Ok, Err, refl, sym, ◌∙◌, arith, inr, IfErr, IfOk}
 use Rattle.pkops.specs.Growth.{BegunLaws}
 use Rattle.pkops.specs.declared.Reason.{Reason}
-use Rattle.pkops.specs.declared.Reason.TheVariants.{Source, Truncated, TooLarge}
-use Rattle.pkops.specs.declared.Reason.TheVariants.{OutOfMemory}
+use Rattle.pkops.specs.declared.Reason.TheVariants.{Source, Truncated, TooLarge, OutOfMemory}
 use Rattle.pkops.specs.declared.Refusal.{Refusal}
 use Rattle.pkread.proofs.Calls.Next.{counts_at}
 use Rattle.pkread.proofs.Reasons.OneRow.{OneAnswer, one_row}

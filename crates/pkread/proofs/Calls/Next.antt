@@ -1,9 +1,6 @@
 -- One call of `next`.
 use Rattle.std.proofs.Common.{◌≡◌, ℕ, ◌+◌, ◌≤◌, List, [], length, Result, refl, sym, ap, ◌∙◌, subst}
-use Rattle.std.proofs.Common.{arith}
-use Rattle.std.specs.Prelude.{max, None}
-use Rattle.std.specs.Result.{MatchResult}
-use Rattle.std.proofs.lemmas.List.{take_all}
+use Rattle.std.proofs.Common.{arith, max, None, MatchResult, take_all}
 use Rattle.pkops.specs.Answer.{IsWhole}
 use Rattle.pkops.specs.Spelling.{Instruction, spelling}
 use Rattle.pkops.specs.declared.Op.{Op}

@@ -1,7 +1,6 @@
 -- One call of `next_head`.
 use Rattle.std.proofs.Common.{◌≡◌, ℕ, ◌<◌, ◌≤◌, false, List, [], Result, sym, ap, ◌∙◌, subst, arith}
-use Rattle.std.proofs.Common.{length}
-use Rattle.std.specs.Result.{MatchResult}
+use Rattle.std.proofs.Common.{length, MatchResult}
 use Rattle.pkops.specs.Limits.{Bounds}
 use Rattle.pkops.specs.Payloads.{is_passed, payload_limit_at}
 use Rattle.pkops.specs.Spelling.{Instruction, spelling}

@@ -1,8 +1,7 @@
 -- One step of the walk over a slice.
 use Rattle.std.proofs.Common.{◌≡◌, ℕ, ◌+◌, ◌-◌, Bool, false, true, List, ◌++◌, length, take, drop}
 use Rattle.std.proofs.Common.{Some, None, Ok, Err, refl, sym, ap, ◌∙◌, arith, length-take}
-use Rattle.std.proofs.Common.{length-drop, take-append-drop}
-use Rattle.std.proofs.lemmas.List.{take_all}
+use Rattle.std.proofs.Common.{length-drop, take-append-drop, take_all}
 use Rattle.pkops.specs.Answer.{IsWhole}
 use Rattle.pkops.specs.Inst.{instruction_of}
 use Rattle.pkops.specs.Spelling.{spelling}

@@ -1,7 +1,6 @@
 -- Bytes have one sequence of instructions at their front.
 use Rattle.std.proofs.Common.{◌≡◌, ◌≢◌, ℕ, ◌≤◌, List, [], ◌∷◌, ◌++◌, length, inl, inr, refl, sym}
-use Rattle.std.proofs.Common.{ap, subst, ◌∙◌, arith, append_assoc}
-use Rattle.std.specs.Prelude.{All}
+use Rattle.std.proofs.Common.{ap, subst, ◌∙◌, arith, append_assoc, All}
 use Rattle.std.proofs.lemmas.Bool.{cases_lt}
 use Rattle.std.proofs.lemmas.List.Elements.{All-head, All-tail}
 use Rattle.pkops.specs.Contents.{IsGood}

@@ -1,8 +1,7 @@
 -- A whole run of a reader: the instructions that it has given so far.
 use Rattle.std.proofs.Common.{◌≡◌, ◌≢◌, ℕ, ◌+◌, true, false, List, [], ◌∷◌, ◌++◌, length, refl, sym}
 use Rattle.std.proofs.Common.{ap, subst, ◌∙◌, arith, length-append, append-nil, append_assoc}
-use Rattle.std.proofs.Common.{Result, Ok, Err, Option, None, Some}
-use Rattle.std.specs.Prelude.{All, Bool, if◌then◌else◌}
+use Rattle.std.proofs.Common.{Result, Ok, Err, Option, None, Some, All, Bool, if◌then◌else◌}
 use Rattle.std.proofs.lemmas.List.Elements.{All-push, All-nil}
 use Rattle.pkops.specs.Inst.{instruction_of}
 use Rattle.pkops.specs.Limits.{Bounds}

@@ -1,6 +1,6 @@
 -- How the arms take the bytes of one instruction.
-use Rattle.std.specs.Prelude.{◌≡◌, ◌≢◌, ◌⊎◌, ℕ, ◌+◌, ◌<◌, ◌≤◌, List, [], ◌∷◌, ◌++◌, length}
-use Rattle.std.specs.Prelude.{None, Result, MatchResult, slice_index, take, true}
+use Rattle.std.specs.Prelude.{◌≡◌, ◌≢◌, ◌⊎◌, ℕ, ◌+◌, ◌<◌, ◌≤◌, List, [], ◌∷◌, ◌++◌, length, None}
+use Rattle.std.specs.Prelude.{Result, MatchResult, slice_index, take, true}
 use Rattle.std.specs.Char.{is_ascii_digit}
 use Rattle.std.specs.List.{AllByRecursion, list_all}
 use Rattle.std.specs.Io.KnownBytes.{IsAtEnd}
@@ -16,8 +16,7 @@ use Rattle.pkops.specs.Table.{code_of}
 use Rattle.pkops.specs.declared.Op.{Op}
 use Rattle.pkops.specs.declared.Rule.{Rule}
 use Rattle.pkops.specs.declared.Reason.{Reason}
-use Rattle.pkops.specs.declared.Reason.TheVariants.{Source, Truncated, TooLarge}
-use Rattle.pkops.specs.declared.Reason.TheVariants.{OutOfMemory}
+use Rattle.pkops.specs.declared.Reason.TheVariants.{Source, Truncated, TooLarge, OutOfMemory}
 use Rattle.pkread.specs.Admission.{objection}
 use Rattle.pkread.specs.Framing.{other}
 use Rattle.pkread.specs.Pieces.{role_of}

@@ -1,7 +1,6 @@
 -- However reading an argument ends, the scan says so: more, a fault, or a whole instruction.
-use Rattle.std.proofs.Common.{◌≡◌, [], ap, arith}
+use Rattle.std.proofs.Common.{◌≡◌, [], ap, arith, option_map}
 use Rattle.std.proofs.lemmas.List.{nil_from_length}
-use Rattle.std.specs.Option.{option_map}
 use Rattle.pkops.specs.Inst.{instruction_of}
 use Rattle.pkops.proofs.ExactReaders.Scans.{nothing_begun, all_rest_le, all_broken, read_is}
 use Rattle.pkops.proofs.ExactReaders.Scans.{unread_is, made_is}

@@ -1,6 +1,5 @@
 -- The spellings written so far and those of the instructions left are those of all.
-use Rattle.std.proofs.Common.{◌≡◌, ◌++◌, drop}
-use Rattle.std.specs.List.{flat_map}
+use Rattle.std.proofs.Common.{◌≡◌, ◌++◌, drop, flat_map}
 use Rattle.pkops.specs.Inst.{instruction_of}
 use Rattle.pkops.specs.Spelling.{spelling}
 use Rattle.pkops.proofs.writing.assemble.Given as goal

@@ -1,6 +1,5 @@
 -- Two line feeds end two lines, which with their code are the instruction in front.
-use Rattle.std.proofs.Common.{◌-◌, ◌≤◌, arith, drop, length, refl, sym, take}
-use Rattle.std.proofs.lemmas.List.{length-take}
+use Rattle.std.proofs.Common.{◌-◌, ◌≤◌, arith, drop, length, refl, sym, take, length-take}
 use Rattle.pkread.proofs.Bytes.FrontLines.{pair_front, pair_suits}
 use Rattle.pkread.proofs.front.pair_lengths.Goals as goal
 

@@ -1,6 +1,5 @@
 -- As many bytes are passed over as are wanted, or all that there are.
-use Rattle.std.proofs.Common.{◌≤◌, length, take, sym, arith}
-use Rattle.std.proofs.lemmas.List.{length-take-le, take-append-drop}
+use Rattle.std.proofs.Common.{◌≤◌, length, take, sym, arith, length-take-le, take-append-drop}
 use Rattle.pkread.proofs.Bytes.Taken.{AreBytes-take}
 use Rattle.pkread.proofs.source.count_passed.Goals as goal
 

@@ -1,7 +1,5 @@
 -- Each byte is one step of reading escapes, and a character that it ends goes to the text.
-use Rattle.std.proofs.Common.{Some, sym, ap, ◌∙◌, arith}
-use Rattle.std.specs.Prelude.{string_bytes}
-use Rattle.std.proofs.lemmas.List.{append-nil}
+use Rattle.std.proofs.Common.{Some, sym, ap, ◌∙◌, arith, string_bytes, append-nil}
 use Rattle.pkops.proofs.ContentsRules.EscapesRead.{escapes, joined_is, not_ended}
 use Rattle.pkops.proofs.ContentsRules.Loop.{joined, stops, kept_on, kept_last}
 use Rattle.pkops.proofs.contents.escapes.read_escaped.Goals as goal

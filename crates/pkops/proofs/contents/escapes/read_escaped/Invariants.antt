@@ -1,7 +1,5 @@
 -- The text so far, with what the rest of the line names, is what the whole line names.
-use Rattle.std.proofs.Common.{◌≡◌, drop}
-use Rattle.std.specs.Prelude.{string_bytes, encode_utf8_all}
-use Rattle.std.specs.Option.{option_map}
+use Rattle.std.proofs.Common.{◌≡◌, drop, string_bytes, encode_utf8_all, option_map}
 use Rattle.pkops.specs.Private.EscapeSteps.{IsPointSoFar}
 use Rattle.pkops.specs.Escapes.{points_of}
 use Rattle.pkops.proofs.ContentsRules.EscapesRead.{code_points, escapes}

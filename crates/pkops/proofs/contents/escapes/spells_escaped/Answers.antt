@@ -1,6 +1,5 @@
 -- A byte that no step allows, or an end inside an escape, shows that the line names no text.
-use Rattle.std.proofs.Common.{sym, ap, ◌∙◌, arith}
-use Rattle.std.specs.Prelude.{is_some}
+use Rattle.std.proofs.Common.{sym, ap, ◌∙◌, arith, is_some}
 use Rattle.pkops.proofs.ContentsRules.EscapesRead.{escapes, named_is, not_ended}
 use Rattle.pkops.proofs.ContentsRules.Loop.{stops, some_at_end, some_goes_on}
 use Rattle.pkops.proofs.contents.escapes.spells_escaped.Goals as goal

@@ -1,6 +1,5 @@
 -- From the state reached, the rest of the line names a text exactly where all of it does.
-use Rattle.std.proofs.Common.{◌≡◌, drop}
-use Rattle.std.specs.Prelude.{is_some}
+use Rattle.std.proofs.Common.{◌≡◌, drop, is_some}
 use Rattle.pkops.specs.Private.EscapeSteps.{IsPointSoFar}
 use Rattle.pkops.specs.Escapes.{points_of}
 use Rattle.pkops.proofs.ContentsRules.EscapesRead.{code_points}

@@ -1,6 +1,5 @@
 -- A line that spells itself names a text, whatever a reading byte by byte would say.
-use Rattle.std.proofs.Common.{ap, sym, ◌∙◌}
-use Rattle.std.specs.Prelude.{is_some}
+use Rattle.std.proofs.Common.{ap, sym, ◌∙◌, is_some}
 use Rattle.pkops.proofs.ContentsRules.EscapesPlain.{plain_points}
 use Rattle.pkops.proofs.contents.escapes.spells_text.Goals as goal
 

@@ -1,8 +1,7 @@
 -- Digits only make a number greater, so one that leaves 32 bits at some digit doesn't fit.
-use Rattle.std.proofs.Common.{◌+◌, ◌<◌, ◌^◌, ◌∙◌, ap, sym, arith}
+use Rattle.std.proofs.Common.{◌+◌, ◌<◌, ◌^◌, ◌∙◌, ap, sym, arith, take_all}
 use Rattle.std.specs.Str.Parse.{digits_value}
 use Rattle.std.proofs.lemmas.Bool.{le-ltb, lt-ltb}
-use Rattle.std.proofs.lemmas.List.{take_all}
 use Rattle.std.proofs.lemmas.Str.Parse.{digits_value-take-le}
 use Rattle.pkops.proofs.ContentsRules.Numerals.{one_more}
 use Rattle.pkops.proofs.contents.numeral.fits.Goals as goal

@@ -1,6 +1,5 @@
 -- A byte that no step allows, or an end inside an escape, shows that these are no items.
-use Rattle.std.proofs.Common.{sym, ap, ◌∙◌, arith}
-use Rattle.std.specs.Prelude.{is_some}
+use Rattle.std.proofs.Common.{sym, ap, ◌∙◌, arith, is_some}
 use Rattle.pkops.proofs.ContentsRules.OldStrings.{not_ended, old_items, some_is}
 use Rattle.pkops.proofs.ContentsRules.Loop.{stops, some_at_end, some_goes_on}
 use Rattle.pkops.proofs.contents.old_string.are_items.Goals as goal

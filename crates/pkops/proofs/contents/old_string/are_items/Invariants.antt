@@ -1,6 +1,5 @@
 -- From the place reached, the bytes left are items exactly where all of them are.
-use Rattle.std.proofs.Common.{◌≡◌, drop}
-use Rattle.std.specs.Prelude.{is_some}
+use Rattle.std.proofs.Common.{◌≡◌, drop, is_some}
 use Rattle.pkops.specs.RuleTests.{are_items}
 use Rattle.pkops.specs.Private.Places.{HoldsDigit}
 use Rattle.pkops.proofs.ContentsRules.OldStrings.{spelled}

@@ -1,6 +1,5 @@
 -- Each byte is one step of reading items, and the byte that an item spells is appended.
-use Rattle.std.proofs.Common.{Some, sym, ap, ◌∙◌, arith}
-use Rattle.std.proofs.lemmas.List.{append-nil}
+use Rattle.std.proofs.Common.{Some, sym, ap, ◌∙◌, arith, append-nil}
 use Rattle.pkops.proofs.ContentsRules.OldStrings.{joined_is, not_ended, old_items}
 use Rattle.pkops.proofs.ContentsRules.Loop.{joined, stops, kept_on, kept_last}
 use Rattle.pkops.proofs.contents.old_string.read_items.Goals as goal

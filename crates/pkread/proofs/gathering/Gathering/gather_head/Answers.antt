@@ -1,6 +1,5 @@
 -- Where a payload is skipped only code and count are held; any other instruction is held whole.
-use Rattle.std.proofs.Common.{refl, ◌≡◌, true, false, inl, sym, ap, ◌∙◌, arith}
-use Rattle.std.specs.Prelude.{length, max}
+use Rattle.std.proofs.Common.{refl, ◌≡◌, true, false, inl, sym, ap, ◌∙◌, arith, length, max}
 use Rattle.std.proofs.lemmas.Result.{err_from_is_err_and}
 use Rattle.pkops.specs.Payloads.{is_passed, payload_limit_at}
 use Rattle.pkread.specs.Held.{most_held}

@@ -1,6 +1,5 @@
 -- Each block read is cut off again, so the bytes held stay those before the payload.
-use Rattle.std.proofs.Common.{◌++◌, length, take, ap, ◌∙◌, arith, length-append}
-use Rattle.std.proofs.lemmas.List.{take_at}
+use Rattle.std.proofs.Common.{◌++◌, length, take, ap, ◌∙◌, arith, length-append, take_at}
 use Rattle.std.proofs.lemmas.Result.{err_from_is_err_and}
 use Rattle.pkread.proofs.Bytes.Skipped.{lacks_over, took_over}
 use Rattle.pkread.proofs.gathering.Gathering.skip_rest.Goals as goal
