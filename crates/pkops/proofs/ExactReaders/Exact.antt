@@ -1,8 +1,12 @@
 -- What it is for a reading function to be exact: it finds what is laid, and nothing else.
 use Rattle.std.proofs.Common.{◌≡◌, ◌≢◌, ℕ, ◌<◌, List, [], ◌++◌, get_or, Result, Ok, Err}
 use Rattle.pkops.specs.declared.fault.Fault.{Fault}
+use Rattle.pkops.specs.declared.fault.Fault.TheVariants.{UnknownOpcode, BadArgument, TooLarge}
+use Rattle.pkops.specs.declared.layout.Layout.{Layout}
 use Rattle.pkops.specs.declared.reading.Unread.{Unread}
 use Rattle.pkops.specs.declared.reading.Unread.TheVariants.{Short, Bad}
+use Rattle.pkops.specs.Spelling.{Argument, Suits}
+use Rattle.pkops.specs.Scans.{IsAbove, IsNegative, IsWithin}
 
 abbrev pub IsBytes : List ℕ → Type 0
 IsBytes bytes = (i : ℕ) → get_or bytes i 0 < 256
@@ -34,3 +38,13 @@ pub record IsExact {X : Type 0} (read : List ℕ → Result (X × List ℕ) Unre
   pub bad : (bytes : List ℕ) (fault : Fault) → IsBytes bytes → read bytes ≡ Err (Bad fault)
       → Faulty fault bytes
   pub faulty : (bytes : List ℕ) (fault : Fault) → Faulty fault bytes → read bytes ≡ Err (Bad fault)
+
+pub record IsArgument (limit : ℕ) (lay : Layout) (arg : Argument) : Type 0 where
+  pub suits : Suits lay arg
+  pub within : IsWithin limit arg
+
+-- the fault of an argument of this layout that the bytes begin
+abbrev pub ArgFault : ℕ → Layout → Fault → List ℕ → Type 0
+ArgFault limit lay (UnknownOpcode code) bytes = ⊥
+ArgFault limit lay BadArgument bytes = IsNegative lay bytes
+ArgFault limit lay TooLarge bytes = IsAbove limit lay bytes

@@ -7,12 +7,13 @@ use Rattle.std.proofs.lemmas.Bool.{cases_lt, lt-ltb, le-ltb, le-leb, leb-true}
 use Rattle.std.proofs.lemmas.List.{take_at, drop_at, length-append, take-append-le}
 use Rattle.pkops.specs.declared.fault.Fault.{Fault}
 use Rattle.pkops.specs.declared.fault.Fault.TheVariants.{UnknownOpcode, BadArgument, TooLarge}
+use Rattle.pkops.specs.declared.layout.Layout.TheVariants as layout
 use Rattle.pkops.specs.declared.reading.Unread.TheVariants.{Short, Bad}
 use Rattle.pkops.specs.Spelling.{IsLine}
 use Rattle.pkops.specs.Private.FirstFaults.{line_at}
 use Rattle.pkops.specs.Scans.{IsLong}
 use Rattle.pkops.proofs.ExactReaders.LineEnds.{Clean, end_of, end_at, no_end, IsSplit, either_end}
-use Rattle.pkops.proofs.ExactReaders.Exact.{IsBytes, Lacks, Takes, IsExact}
+use Rattle.pkops.proofs.ExactReaders.Exact.{ArgFault, IsBytes, IsExact, Lacks, Takes}
 use Rattle.pkops.proofs.ExactReaders.Fields.{after_fits, not_nil, some_left, ok_is}
 
 pub lt-leb : (a b : ℕ) → b < a → leb a b ≡ false
@@ -39,11 +40,6 @@ Clean-front (x ∷ a) b h = (h.0, Clean-front a b h.1)
 
 abbrev pub line_text : List ℕ → List ℕ
 line_text text = text ++ 10 ∷ []
-
-abbrev pub LineFault : ℕ → Fault → List ℕ → Type 0
-LineFault most (UnknownOpcode code) bytes = ⊥
-LineFault most BadArgument bytes = ⊥
-LineFault most TooLarge bytes = IsLong most bytes
 
 module _ (most : ℕ) (bytes text rest : List ℕ) (s : IsSplit bytes text rest) where
   place_is : position (λ byte. nat_eq byte 10) bytes ≡ Some (length text)
@@ -169,12 +165,12 @@ line_stays most bytes h =
     line_short most bytes (Clean-front bytes f.0 (rw f.1 at h.may.whole))
     (let s = h.may.short in omega (arith, ap length f.1, length-append bytes f.0))
 
-line_bad : (most : ℕ) (bytes : List ℕ) (fault : Fault) → line_at most bytes ≡ Err (Bad fault)
-    → LineFault most fault bytes
-line_bad most bytes fault e =
+line_bad : (limit most : ℕ) (bytes : List ℕ) (fault : Fault)
+    → line_at most bytes ≡ Err (Bad fault) → ArgFault limit (layout.Line most) fault bytes
+line_bad limit most bytes fault e =
     let found : IsLong most bytes → line_at most bytes ≡ Err (Bad TooLarge)
-    → LineFault most fault bytes = λ long f. let same : TooLarge ≡ fault = cc in
-    subst (λ (d : Fault). LineFault most d bytes) same long in
+    → ArgFault limit (layout.Line most) fault bytes = λ long f. let same : TooLarge ≡ fault = cc in
+    subst (λ (d : Fault). ArgFault limit (layout.Line most) d bytes) same long in
     elim (either_end bytes) [
       | inl s ↦ elim (cases_lt most (length s.0)) [
         | inl lt ↦ found (over_is most bytes s.0 s.1 s.2 lt) (line_over most bytes s.0 s.1 s.2 lt)
@@ -187,11 +183,11 @@ line_bad most bytes fault e =
       ]
     ]
 
-line_faulty : (most : ℕ) (bytes : List ℕ) (fault : Fault) → LineFault most fault bytes
-    → line_at most bytes ≡ Err (Bad fault)
-line_faulty most bytes (UnknownOpcode code) h = absurd h
-line_faulty most bytes BadArgument h = absurd h
-line_faulty most bytes TooLarge h =
+line_faulty : (limit most : ℕ) (bytes : List ℕ) (fault : Fault)
+    → ArgFault limit (layout.Line most) fault bytes → line_at most bytes ≡ Err (Bad fault)
+line_faulty limit most bytes (UnknownOpcode code) h = absurd h
+line_faulty limit most bytes BadArgument h = absurd h
+line_faulty limit most bytes TooLarge h =
     elim (either_end bytes) [
       | inl s ↦ elim (cases_lt most (length s.0)) [
         | inl lt ↦ line_over most bytes s.0 s.1 s.2 lt
@@ -200,13 +196,13 @@ line_faulty most bytes TooLarge h =
       | inr clean ↦ line_long most bytes clean h.long
     ]
 
-pub line_exact : (most : ℕ) → IsExact (line_at most) (IsLine most) (λ y _. IsLine most y) line_text
-    (LineFault most)
-line_exact most = record {
+pub line_exact : (limit most : ℕ) → IsExact (line_at most) (IsLine most) (λ y _. IsLine most y)
+    line_text (ArgFault limit (layout.Line most))
+line_exact limit most = record {
   takes = line_takes most;
   again = line_again most;
   short = λ bytes fits e. line_lacks most bytes e;
   stays = line_stays most;
-  bad = λ bytes fault fits e. line_bad most bytes fault e;
-  faulty = line_faulty most;
+  bad = λ bytes fault fits e. line_bad limit most bytes fault e;
+  faulty = line_faulty limit most;
 }

@@ -8,6 +8,7 @@ use Rattle.std.proofs.lemmas.Bool.{cases_lt, lt-ltb, le-ltb, le-leb}
 use Rattle.byteorder.specs.Endian.{little_bytes, little_number, little_from}
 use Rattle.byteorder.specs.Numbers.{little_from-cons, little_number-reads_back}
 use Rattle.byteorder.specs.Numbers.{length-bytes_low_first}
+use Rattle.pkops.specs.declared.layout.Layout.TheVariants as layout
 use Rattle.pkops.specs.declared.layout.Width.{Width}
 use Rattle.pkops.specs.declared.layout.Width.TheVariants.{One, Four, Eight}
 use Rattle.pkops.specs.declared.fault.Fault.{Fault}
@@ -16,7 +17,7 @@ use Rattle.pkops.specs.declared.reading.Unread.{Unread}
 use Rattle.pkops.specs.declared.reading.Unread.TheVariants.{Short, Bad}
 use Rattle.pkops.specs.Spelling.{size_of, count_limit}
 use Rattle.pkops.specs.Private.FirstFaults.{bytes_at, payload_at}
-use Rattle.pkops.proofs.ExactReaders.Exact.{IsBytes, Lacks, Takes, IsExact}
+use Rattle.pkops.proofs.ExactReaders.Exact.{ArgFault, IsBytes, IsExact, Lacks, Takes}
 use Rattle.pkops.proofs.ExactReaders.Fields.{IsBytes-drop, not_nil, some_left, zeros_fit}
 use Rattle.pkops.proofs.ExactReaders.Fields.{length-zeros, bytes_back, too_few, enough, few_bytes}
 use Rattle.pkops.proofs.ExactReaders.Fields.{many_bytes, bytes_again, bytes_takes}
@@ -71,14 +72,6 @@ pub record MayPayload (limit : ℕ) (size : Width) (signed : Bool)
 
 abbrev pub counted : Width → List ℕ → List ℕ
 counted size payload = little_bytes (size_of size) (length payload) ++ payload
-
-abbrev pub PayloadFault : ℕ → Width → Bool → Fault → List ℕ → Type 0
-PayloadFault limit size signed (UnknownOpcode code) bytes = ⊥
-PayloadFault limit size signed BadArgument bytes = (size_of size ≤ length bytes)
-    × (count_limit size signed ≤ little_number (size_of size) bytes)
-PayloadFault limit size signed TooLarge bytes = (size_of size ≤ length bytes)
-    × (little_number (size_of size) bytes < count_limit size signed)
-    × (limit < little_number (size_of size) bytes)
 
 module _ (limit : ℕ) (size : Width) (signed : Bool) (bytes : List ℕ) where
   abbrev pub count : ℕ
@@ -206,13 +199,13 @@ module _ (limit : ℕ) (size : Width) (signed : Bool) (bytes : List ℕ) where
   ]
 
   payload_bad : (fault : Fault) → read ≡ Err (Bad fault)
-      → PayloadFault limit size signed fault bytes
+      → ArgFault limit (layout.Counted size signed) fault bytes
   payload_bad fault e = elim case [
     | none lt f ↦ absurd cc
     | minus le over f ↦ let same : BadArgument ≡ fault = cc in
-        subst (λ (d : Fault). PayloadFault limit size signed d bytes) same (le, over)
+        subst (λ (d : Fault). ArgFault limit (layout.Counted size signed) d bytes) same (le, over)
     | much le under over f ↦ let same : TooLarge ≡ fault = cc in
-        subst (λ (d : Fault). PayloadFault limit size signed d bytes) same (le, under, over)
+        subst (λ (d : Fault). ArgFault limit (layout.Counted size signed) d bytes) same (le, under, over)
     | fine le under within f ↦ elim (cases_lt (length after) count) [
       | inl lt ↦ absurd (let g = few_bytes count after lt in cc)
       | inr long ↦ absurd (let g = many_bytes count after long in cc)
@@ -220,7 +213,7 @@ module _ (limit : ℕ) (size : Width) (signed : Bool) (bytes : List ℕ) where
   ]
 
 payload_faulty : (limit : ℕ) (size : Width) (signed : Bool) (bytes : List ℕ) (fault : Fault)
-    → PayloadFault limit size signed fault bytes
+    → ArgFault limit (layout.Counted size signed) fault bytes
     → payload_at limit size signed bytes ≡ Err (Bad fault)
 payload_faulty limit size signed bytes (UnknownOpcode code) h = absurd h
 payload_faulty limit size signed bytes BadArgument h = negative limit size signed bytes h.0 h.1
@@ -288,7 +281,7 @@ payload_stays limit size signed bytes h =
 
 pub payload_exact : (limit : ℕ) (size : Width) (signed : Bool)
     → IsExact (payload_at limit size signed) (IsPayload limit size signed)
-    (MayPayload limit size signed) (counted size) (PayloadFault limit size signed)
+    (MayPayload limit size signed) (counted size) (ArgFault limit (layout.Counted size signed))
 payload_exact limit size signed = record {
   takes = payload_takes limit size signed;
   again = payload_again limit size signed;

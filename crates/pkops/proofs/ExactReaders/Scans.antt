@@ -17,10 +17,9 @@ use Rattle.pkops.specs.Spelling.{layout_at, spelling}
 use Rattle.pkops.specs.Contents.{IsGood}
 use Rattle.pkops.specs.Scans.{Begun, HasFault}
 use Rattle.pkops.specs.Private.FirstFaults.{IsUnread, arg_at}
-use Rattle.pkops.proofs.ExactReaders.Exact.{IsBytes, Takes}
+use Rattle.pkops.proofs.ExactReaders.Exact.{ArgFault, IsArgument, IsBytes, Takes}
 use Rattle.pkops.proofs.ExactReaders.Fields.{not_nil}
 use Rattle.pkops.proofs.ExactReaders.Arguments.{arg_exact}
-use Rattle.pkops.proofs.ExactReaders.WrappedReaders.{IsArgument, ArgFault}
 
 -- no bytes begin an instruction
 pub nothing_begun : (limit : ℕ) → Begun limit []

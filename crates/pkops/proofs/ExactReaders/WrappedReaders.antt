@@ -2,24 +2,14 @@
 use Rattle.std.proofs.Common.{◌≡◌, ℕ, List, ◌++◌, Result, Ok, Err, sym, ap, subst, ◌∙◌, inl, inr}
 use Rattle.pkops.specs.declared.layout.Layout.{Layout}
 use Rattle.pkops.specs.declared.fault.Fault.{Fault}
-use Rattle.pkops.specs.declared.fault.Fault.TheVariants.{UnknownOpcode, BadArgument, TooLarge}
 use Rattle.pkops.specs.declared.reading.Unread.{Unread}
 use Rattle.pkops.specs.declared.reading.Unread.TheVariants.{Short, Bad}
 use Rattle.pkops.specs.Spelling.{Argument, Suits, laid}
-use Rattle.pkops.specs.Scans.{IsWithin, MayBegin, IsNegative, IsAbove}
+use Rattle.pkops.specs.Scans.{IsWithin, MayBegin}
 use Rattle.pkops.specs.Private.FirstFaults.{◌>>=◌, arg_at}
-use Rattle.pkops.proofs.ExactReaders.Exact.{IsBytes, Lacks, Takes, IsExact}
+use Rattle.pkops.proofs.ExactReaders.Exact.{ArgFault, IsArgument, IsBytes, IsExact, Lacks, Takes}
 use Rattle.pkops.proofs.ExactReaders.Fields.{ok_is}
 use Rattle.pkops.proofs.ExactReaders.LinePairs.{bind_ok, bind_err}
-
-pub record IsArgument (limit : ℕ) (lay : Layout) (arg : Argument) : Type 0 where
-  pub suits : Suits lay arg
-  pub within : IsWithin limit arg
-
-abbrev pub ArgFault : ℕ → Layout → Fault → List ℕ → Type 0
-ArgFault limit lay (UnknownOpcode code) bytes = ⊥
-ArgFault limit lay BadArgument bytes = IsNegative lay bytes
-ArgFault limit lay TooLarge bytes = IsAbove limit lay bytes
 
 abbrev pub ArgExact : ℕ → Layout → Type 0
 ArgExact limit lay = IsExact (arg_at limit lay) (IsArgument limit lay) (MayBegin limit lay)
@@ -41,9 +31,33 @@ pub record Wraps {X : Type 0} (limit : ℕ) (lay : Layout) (Is : X → Type 0)
   pub fault_back : (fault : Fault) (bytes : List ℕ) → ArgFault limit lay fault bytes
       → Faulty fault bytes
 
-module _ {X : Type 0} (read : List ℕ → Result (X × List ℕ) Unread) (Is : X → Type 0)
-    (May : X → List ℕ → Type 0) (text : X → List ℕ) (Faulty : Fault → List ℕ → Type 0)
-    (ex : IsExact read Is May text Faulty) (limit : ℕ) (lay : Layout) (g : X → Argument)
+-- the same where no limit is on what was read
+abbrev pub PlainlyWraps : {X : Type 0} (limit : ℕ) (lay : Layout) (Is : X → Type 0)
+    → (text : X → List ℕ) (Faulty : Fault → List ℕ → Type 0) (g : X → Argument) → Type 0
+PlainlyWraps limit lay Is text Faulty g = Wraps limit lay Is (λ x _. Is x) text Faulty g
+
+pub plainly : {X : Type 0} {limit : ℕ} {lay : Layout} {Is : X → Type 0} {text : X → List ℕ}
+    {Faulty : Fault → List ℕ → Type 0} {g : X → Argument} → ((x : X) → Is x → Suits lay (g x))
+    → ((x : X) → IsWithin limit (g x))
+    → ((a : Argument) → Suits lay a → (x : X) × (a ≡ g x) × Is x)
+    → ((x : X) → Is x → laid lay (g x) ≡ text x)
+    → ((fault : Fault) (bytes : List ℕ) → Faulty fault bytes → ArgFault limit lay fault bytes)
+    → ((fault : Fault) (bytes : List ℕ) → ArgFault limit lay fault bytes → Faulty fault bytes)
+    → PlainlyWraps limit lay Is text Faulty g
+plainly suits within back text_is forth faults = record {
+  forth = λ x h. record { suits = suits x h; within = within x };
+  back = λ a h. back a h.suits;
+  may_forth = λ x bytes h. record { suits = suits x h; within = λ _. within x };
+  may_back = λ a bytes h. back a h.suits;
+  text_is = text_is;
+  text_may = λ x bytes h. text_is x h;
+  fault_forth = forth;
+  fault_back = faults;
+}
+
+module _ {X : Type 0} {read : List ℕ → Result (X × List ℕ) Unread} {Is : X → Type 0}
+    {May : X → List ℕ → Type 0} {text : X → List ℕ} {Faulty : Fault → List ℕ → Type 0} {limit : ℕ}
+    {lay : Layout} {g : X → Argument} (ex : IsExact read Is May text Faulty)
     (wr : Wraps limit lay Is May text Faulty g) where
   abbrev end : X × List ℕ → Result (Argument × List ℕ) Unread
   end x = Ok (g x.0, x.1)

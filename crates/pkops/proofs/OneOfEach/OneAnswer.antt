@@ -1,5 +1,5 @@
 -- A scan has one answer.
-use Rattle.std.proofs.Common.{◌≡◌, ◌≢◌, ℕ, suc, ◌+◌, List, [], ◌∷◌, ◌++◌, length, take, drop}
+use Rattle.std.proofs.Common.{◌≡◌, ◌≢◌, ◌⊎◌, ℕ, suc, ◌+◌, List, [], ◌∷◌, ◌++◌, length, take, drop}
 use Rattle.std.proofs.Common.{Result, Ok, Err, refl, sym, ap, subst, ◌∙◌, arith, inl, inr}
 use Rattle.std.proofs.Common.{take-append-drop, length-drop, length-take}
 use Rattle.pkops.specs.declared.op.Op.{Op}
@@ -12,135 +12,89 @@ use Rattle.pkops.specs.Table.{code_of}
 use Rattle.pkops.specs.Spelling.{Argument, Instruction, instruction, laid, layout_at, spelling}
 use Rattle.pkops.specs.Contents.{IsGood}
 use Rattle.pkops.specs.Private.FirstFaults.{arg_at}
-use Rattle.pkops.proofs.ExactReaders.Fields.{ok_is}
 use Rattle.pkops.proofs.ExactReaders.Arguments.{arg_exact}
-use Rattle.pkops.proofs.ExactReaders.WrappedReaders.{ArgFault}
+use Rattle.pkops.proofs.ExactReaders.Exact.{ArgFault, IsArgument}
 use Rattle.pkops.proofs.OneOfEach.OneCode.{one_code}
 
--- what reading behind the code gives, for each answer
-data Found (limit code : ℕ) (from : List ℕ) : Answer → Type 0 where
-  whole : (i : Instruction) (n : ℕ) (rest : List ℕ) → code_of i.op ≡ code → IsGood i
-      → n + length rest ≡ suc (length from) → arg_at limit (layout_at i.op) from ≡ Ok (i.arg, rest)
-      → Found limit code from (Whole i n)
-  broken : (i : Instruction) (rest : List ℕ) → code_of i.op ≡ code → (IsGood i → ⊥)
-      → arg_at limit (layout_at i.op) from ≡ Ok (i.arg, rest)
-      → Found limit code from (Bad BadArgument)
-  lacking : (o : Op) → code_of o ≡ code → arg_at limit (layout_at o) from ≡ Err stop.Short
-      → Found limit code from More
-  faulty : (o : Op) (fault : Fault) → code_of o ≡ code
-      → arg_at limit (layout_at o) from ≡ Err (stop.Bad fault) → Found limit code from (Bad fault)
-  unknown : ((o : Op) → code_of o ≢ code) → Found limit code from (Bad (UnknownOpcode code))
+module _ (limit code : ℕ) (from : List ℕ) where
+  -- what may be answered where this was read behind the code of an opcode
+  abbrev Says : Op → Answer → Result (Argument × List ℕ) Unread → Type 0
+  Says o r (Ok (arg, rest)) =
+      ((n : ℕ) × (r ≡ Whole (instruction o arg) n) × IsGood (instruction o arg)
+      × (n + length rest ≡ suc (length from)))
+      ⊎ ((r ≡ Bad BadArgument) × (IsGood (instruction o arg) → ⊥))
+  Says o r (Err stop.Short) = r ≡ More
+  Says o r (Err (stop.Bad fault)) = r ≡ Bad fault
 
-found : (limit code : ℕ) (from : List ℕ) (r : Answer) → Answers limit (code ∷ from) r
-    → Found limit code from r
-found limit code from (Whole i n) h =
-    let bytes = code ∷ from in
-    let rest = drop n bytes in
-    let parts : bytes ≡ spelling i ++ rest = sym (take-append-drop n bytes)
-    ∙ ap (λ (t : List ℕ). t ++ rest) h.spells.spelled in
-    let codes : code ≡ code_of i.op = cc in
-    let tails : from ≡ laid (layout_at i.op) i.arg ++ rest = cc in
-    let fits = h.fits in
-    whole i n rest (sym codes) h.spells.good (omega (arith, length-drop n bytes))
-    (ap (arg_at limit (layout_at i.op)) tails
-    ∙ (arg_exact limit (layout_at i.op)).again i.arg rest
-    (record { suits = h.spells.good.suits; within = h.within }))
-found limit code from More (i, more, h) =
-    let codes : code_of i.op ≡ code = (let p = h.parts in cc) in
-    let tails : laid (layout_at i.op) i.arg ≡ from ++ more = (let p = h.parts in cc) in
-    lacking i.op codes
-    ((arg_exact limit (layout_at i.op)).stays from
-    (record { value = i.arg; more = more; may = h.may; parts = tails; lacks = h.lacks }))
-found limit code from (Bad (UnknownOpcode c)) (rest, e, none) =
-    let codes : c ≡ code = cc in
-    subst (λ (d : ℕ). Found limit code from (Bad (UnknownOpcode d))) (sym codes)
-    (unknown (λ o is. none o (is ∙ sym codes)))
-found limit code from (Bad BadArgument) (inl (i, rest, h)) =
-    let codes : code_of i.op ≡ code = (let p = h.parts in cc) in
-    let tails : from ≡ laid (layout_at i.op) i.arg ++ rest = (let p = h.parts in cc) in
-    broken i rest codes h.bad
-    (ap (arg_at limit (layout_at i.op)) tails
-    ∙ (arg_exact limit (layout_at i.op)).again i.arg rest
-    (record { suits = h.laid.suits; within = h.laid.within }))
-found limit code from (Bad BadArgument) (inr (o, rest, e, h)) =
-    let codes : code_of o ≡ code = cc in
-    let tails : rest ≡ from = cc in
-    faulty o BadArgument codes
-    ((arg_exact limit (layout_at o)).faulty from BadArgument
-    (subst (ArgFault limit (layout_at o) BadArgument) tails h))
-found limit code from (Bad TooLarge) (o, rest, e, h) =
-    let codes : code_of o ≡ code = cc in
-    let tails : rest ≡ from = cc in
-    faulty o TooLarge codes
-    ((arg_exact limit (layout_at o)).faulty from TooLarge
-    (subst (ArgFault limit (layout_at o) TooLarge) tails h))
+  -- an opcode has the code, and what is read behind it is answered; or none has
+  abbrev Found : Answer → Type 0
+  Found r = ((o : Op) × (code_of o ≡ code) × Says o r (arg_at limit (layout_at o) from))
+      ⊎ (((o : Op) → code_of o ≢ code) × (r ≡ Bad (UnknownOpcode code)))
 
-abbrev Read : ℕ → List ℕ → Op → Result (Argument × List ℕ) Unread → Type 0
-Read limit from o r = arg_at limit (layout_at o) from ≡ r
+  known : (o : Op) (r : Answer) (read : Result (Argument × List ℕ) Unread) → code_of o ≡ code
+      → arg_at limit (layout_at o) from ≡ read → Says o r read → Found r
+  known o r read is e says = inl (o, is, rw e says)
 
--- two readings behind one code are one
-meet : (limit : ℕ) (from : List ℕ) (code : ℕ) (o p : Op) (r s : Result (Argument × List ℕ) Unread)
-    → code_of o ≡ code → code_of p ≡ code → Read limit from o r → Read limit from p s
-    → (o ≡ p) × (r ≡ s)
-meet limit from code o p r s a b e f =
-    let same = one_code o p (a ∙ sym b) in
-    (same, sym e ∙ (ap (λ (q : Op). arg_at limit (layout_at q) from) same ∙ f))
+  again : (i : Instruction) (rest : List ℕ) → code ∷ from ≡ spelling i ++ rest
+      → IsArgument limit (layout_at i.op) i.arg
+      → (code_of i.op ≡ code) × (arg_at limit (layout_at i.op) from ≡ Ok (i.arg, rest))
+  again i rest parts is =
+      let tails : from ≡ laid (layout_at i.op) i.arg ++ rest = cc in (
+        cc,
+        ap (arg_at limit (layout_at i.op)) tails
+            ∙ (arg_exact limit (layout_at i.op)).again i.arg rest is,
+      )
 
-one_good : (i j : Instruction) → i.op ≡ j.op → i.arg ≡ j.arg → i ≡ j
-one_good i j a b = ap (λ (o : Op). instruction o i.arg) a ∙ ap (instruction j.op) b
+  faulty : (o : Op) (rest : List ℕ) (fault : Fault) → code ∷ from ≡ code_of o ∷ rest
+      → ArgFault limit (layout_at o) fault rest → Found (Bad fault)
+  faulty o rest fault e h =
+      let tails : rest ≡ from = cc in
+      known o (Bad fault) _ (cc) ((arg_exact limit (layout_at o)).faulty from fault
+      (subst (ArgFault limit (layout_at o) fault) tails h)) refl
 
-one : (limit code : ℕ) (from : List ℕ) (r s : Answer) → Found limit code from r
-    → Found limit code from s → r ≡ s
-one limit code from r s (whole i n rest a g len e) (whole j m left b h len' f) =
-    let t = meet limit from code i.op j.op _ _ a b e f in
-    let both = ok_is (i.arg, rest) (j.arg, left) t.1 in
-    let same = one_good i j t.0 (ap (λ (p : Argument × List ℕ). p.0) both) in
-    let rests : rest ≡ left = ap (λ (p : Argument × List ℕ). p.1) both in
-    let ns : n ≡ m = omega (arith, ap length rests) in
-    ap (λ (k : Instruction). Whole k n) same ∙ ap (Whole j) ns
-one limit code from r s (whole i n rest a g len e) (broken j left b h f) =
-    let t = meet limit from code i.op j.op _ _ a b e f in
-    let same = one_good i j t.0
-    (ap (λ (p : Argument × List ℕ). p.0) (ok_is (i.arg, rest) (j.arg, left) t.1)) in
-    absurd (h (subst IsGood same g))
-one limit code from r s (broken j left b h f) (whole i n rest a g len e) =
-    let t = meet limit from code i.op j.op _ _ a b e f in
-    let same = one_good i j t.0
-    (ap (λ (p : Argument × List ℕ). p.0) (ok_is (i.arg, rest) (j.arg, left) t.1)) in
-    absurd (h (subst IsGood same g))
-one limit code from r s (whole i n rest a g len e) (lacking p b f) =
-    absurd (let t = meet limit from code i.op p _ _ a b e f in let u = t.1 in cc)
-one limit code from r s (whole i n rest a g len e) (faulty p fault b f) =
-    absurd (let t = meet limit from code i.op p _ _ a b e f in let u = t.1 in cc)
-one limit code from r s (whole i n rest a g len e) (unknown none) = absurd (none i.op a)
-one limit code from r s (broken i rest a g e) (broken j left b h f) = refl
-one limit code from r s (broken i rest a g e) (lacking p b f) =
-    absurd (let t = meet limit from code i.op p _ _ a b e f in let u = t.1 in cc)
-one limit code from r s (broken i rest a g e) (faulty p fault b f) =
-    absurd (let t = meet limit from code i.op p _ _ a b e f in let u = t.1 in cc)
-one limit code from r s (broken i rest a g e) (unknown none) = absurd (none i.op a)
-one limit code from r s (lacking o a e) (whole j m left b h len' f) =
-    absurd (let t = meet limit from code o j.op _ _ a b e f in let u = t.1 in cc)
-one limit code from r s (lacking o a e) (broken j left b h f) =
-    absurd (let t = meet limit from code o j.op _ _ a b e f in let u = t.1 in cc)
-one limit code from r s (lacking o a e) (lacking p b f) = refl
-one limit code from r s (lacking o a e) (faulty p fault b f) =
-    absurd (let t = meet limit from code o p _ _ a b e f in let u = t.1 in cc)
-one limit code from r s (lacking o a e) (unknown none) = absurd (none o a)
-one limit code from r s (faulty o fault a e) (whole j m left b h len' f) =
-    absurd (let t = meet limit from code o j.op _ _ a b e f in let u = t.1 in cc)
-one limit code from r s (faulty o fault a e) (broken j left b h f) =
-    absurd (let t = meet limit from code o j.op _ _ a b e f in let u = t.1 in cc)
-one limit code from r s (faulty o fault a e) (lacking p b f) =
-    absurd (let t = meet limit from code o p _ _ a b e f in let u = t.1 in cc)
-one limit code from r s (faulty o fault a e) (faulty p other b f) = let t = meet limit from code o p
-    _ _ a b e f in let u = t.1 in let same : fault ≡ other = cc in ap Bad same
-one limit code from r s (faulty o fault a e) (unknown none) = absurd (none o a)
-one limit code from r s (unknown none) (whole j m left b h len' f) = absurd (none j.op b)
-one limit code from r s (unknown none) (broken j left b h f) = absurd (none j.op b)
-one limit code from r s (unknown none) (lacking p b f) = absurd (none p b)
-one limit code from r s (unknown none) (faulty p fault b f) = absurd (none p b)
-one limit code from r s (unknown none) (unknown other) = refl
+  found : (r : Answer) → Answers limit (code ∷ from) r → Found r
+  found (Whole i n) h =
+      let bytes = code ∷ from in
+      let a = again i (drop n bytes) (sym (take-append-drop n bytes)
+      ∙ ap (λ (t : List ℕ). t ++ drop n bytes) h.spells.spelled)
+      (record { suits = h.spells.good.suits; within = h.within }) in
+      let fits = h.fits in
+      known i.op (Whole i n) _ a.0 a.1
+      (inl (n, refl, h.spells.good, omega (arith, length-drop n bytes)))
+  found More (i, more, h) =
+      let codes : code_of i.op ≡ code = (let p = h.parts in cc) in
+      let tails : laid (layout_at i.op) i.arg ≡ from ++ more = (let p = h.parts in cc) in
+      known i.op More _ codes ((arg_exact limit (layout_at i.op)).stays from
+      (record { value = i.arg; more = more; may = h.may; parts = tails; lacks = h.lacks })) refl
+  found (Bad (UnknownOpcode c)) (rest, e, none) =
+      let codes : c ≡ code = cc in
+      inr (λ o is. none o (is ∙ sym codes), ap (λ (d : ℕ). Bad (UnknownOpcode d)) codes)
+  found (Bad BadArgument) (inl (i, rest, h)) =
+      let a = again i rest h.parts
+      (record { suits = h.laid.suits; within = h.laid.within }) in
+      known i.op (Bad BadArgument) _ a.0 a.1 (inr (refl, h.bad))
+  found (Bad BadArgument) (inr (o, rest, e, h)) = faulty o rest BadArgument e h
+  found (Bad TooLarge) (o, rest, e, h) = faulty o rest TooLarge e h
+
+  same : (o : Op) (r s : Answer) (read : Result (Argument × List ℕ) Unread) → Says o r read
+      → Says o s read → r ≡ s
+  same o r s (Ok (arg, rest)) (inl (n, e, good, len)) (inl (m, f, good', len')) =
+      let ns : n ≡ m = omega (arith, len, len') in
+      e ∙ (ap (Whole (instruction o arg)) ns ∙ sym f)
+  same o r s (Ok (arg, rest)) (inl (n, e, good, len)) (inr (f, bad)) = absurd (bad good)
+  same o r s (Ok (arg, rest)) (inr (e, bad)) (inl (n, f, good, len)) = absurd (bad good)
+  same o r s (Ok (arg, rest)) (inr (e, bad)) (inr (f, bad')) = e ∙ sym f
+  same o r s (Err stop.Short) e f = e ∙ sym f
+  same o r s (Err (stop.Bad fault)) e f = e ∙ sym f
+
+  one : (r s : Answer) → Found r → Found s → r ≡ s
+  one r s (inl (o, is, a)) (inl (p, is', b)) =
+      let ops = one_code p o (is' ∙ sym is) in
+      same o r s (arg_at limit (layout_at o) from) a
+      (subst (λ (q : Op). Says q s (arg_at limit (layout_at q) from)) ops b)
+  one r s (inl (o, is, a)) (inr (none, e)) = absurd (none o is)
+  one r s (inr (none, e)) (inl (o, is, a)) = absurd (none o is)
+  one r s (inr (none, e)) (inr (none', f)) = e ∙ sym f
 
 -- the one answer of no bytes
 only_more : (limit : ℕ) (r : Answer) → Answers limit [] r → r ≡ More
@@ -156,5 +110,5 @@ only_more limit (Bad TooLarge) h = absurd (let e = h.2 in cc)
 pub one_answer : (limit : ℕ) (bytes : List ℕ) (r s : Answer) → Answers limit bytes r
     → Answers limit bytes s → r ≡ s
 one_answer limit [] r s a b = only_more limit r a ∙ sym (only_more limit s b)
-one_answer limit (code ∷ from) r s a b = one limit code from r s (found limit code from r a)
-    (found limit code from s b)
+one_answer limit (code ∷ from) r s a b =
+    one limit code from r s (found limit code from r a) (found limit code from s b)
