@@ -37,7 +37,7 @@ fn right_answer<'a>(bytes: &'a [u8], limits: &Limits) -> Scan<'a>
         return Scan::Bad(Fault::UnknownOpcode(*code));
     };
     match argument(limits.counted(), kind(op).layout(), from) {
-        Ok((arg, rest)) => match Inst::new(op, arg) {
+        Ok((arg, rest)) => match Inst::judged(op, arg) {
             Some(inst) => Scan::Whole(inst, bytes.len() - rest.len()),
             None => Scan::Bad(Fault::BadArgument),
         },

@@ -91,7 +91,7 @@ read_lies limit o arg from fits e s =
 
 pub field_begun : (limit : ℕ) (o : Op) (from : List ℕ) → IsBytes from
     → length from < field_len (layout_at o) → Begun limit (code_of o ∷ from)
-field_begun limit o from fits l = begun limit (code_of o) from o refl fits
+field_begun limit o from fits l = begun limit o (code_of o ∷ from) refl fits
     (field_short limit (layout_at o) from l)
 
 pub field_lies : (limit : ℕ) (o : Op) (from : List ℕ) → IsBytes from → IsFixed (layout_at o)
@@ -138,7 +138,7 @@ module _ (limit : ℕ) (o : Op) (size : Width) (signed : Bool)
       → count ≤ limit → length more < count → Begun limit (code_of o ∷ (field ++ more))
   unfolding arg_at
   payload_begun more fits under within l =
-      begun limit (code_of o) (field ++ more) o refl fits
+      begun limit o (code_of o ∷ (field ++ more)) refl fits
       (rw (is, reads more under within, few_bytes count more l) refl)
 
   pub payload_lies : (more : List ℕ) → IsBytes (field ++ more) → count < count_limit size signed
@@ -159,13 +159,13 @@ module _ (limit : ℕ) (o : Op) (size : Width) (signed : Bool)
   pub count_negative : IsBytes field → count_limit size signed ≤ count
       → HasFault limit BadArgument (code_of o ∷ field)
   unfolding arg_at
-  count_negative fits over = faulty limit (code_of o) field o refl fits BadArgument
+  count_negative fits over = faulty limit o (code_of o ∷ field) refl fits BadArgument
       (rw (is, negative limit size signed field (omega arith) over) refl)
 
   pub count_large : IsBytes field → count < count_limit size signed → limit < count
       → HasFault limit TooLarge (code_of o ∷ field)
   unfolding arg_at
-  count_large fits under over = faulty limit (code_of o) field o refl fits TooLarge
+  count_large fits under over = faulty limit o (code_of o ∷ field) refl fits TooLarge
       (rw (is, large limit size signed field (omega arith) under over) refl)
 
 -- what lies there is begun by each of its fronts
