@@ -9,7 +9,7 @@ use Rattle.pkops.specs.declared.Op.{Op}
 use Rattle.pkops.specs.declared.Refusal.{Refusal}
 use Rattle.pkread.specs.Core.{Phase, Open, Ended, Refused}
 use Rattle.pkread.specs.Admission.{IsAllowed}
-use Rattle.pkread.specs.ReaderCalls.{Gives, ReaderState}
+use Rattle.pkread.specs.ReaderCalls.{Gives, ReaderState, ShowsBy, StepsBy}
 use Rattle.pkread.specs.Rows.{Refuses, Sight, Takes, all_bytes}
 use Rattle.pkread.specs.Sequence.{CountsAt}
 use Rattle.pkread.specs.declared.reader.Head.{Head}
@@ -68,12 +68,10 @@ GivesHead old new (head.Inst at inst) =
 GivesHead old new (head.Passed at op count) = Skips old at op count new
 GivesHead old new head.Ended = ⊥
 
--- what a call does in each phase, as with `next`
+-- a call of `next_head` in each phase
 abbrev pub StepsHeadFrom : Phase → ReaderState → Result Head Refusal → ReaderState → Type 0
-StepsHeadFrom Open old result new =
-    MatchResult result (GivesHead old new) (λ r. RefusesHead old r new)
-StepsHeadFrom Ended old result new = (result ≡ Ok head.Ended) × (new ≡ old)
-StepsHeadFrom (Refused r) old result new = (result ≡ Err r) × (new ≡ old)
+StepsHeadFrom phase old result new =
+    StepsBy head.Ended (GivesHead old new) (λ r. RefusesHead old r new) phase old result new
 
 -- one call of `next_head`
 abbrev pub StepsHead : ReaderState → Result Head Refusal → ReaderState → Type 0
@@ -88,12 +86,6 @@ ShowsHead old (head.Passed at op count) =
     (at ≡ old.taken) × (payload : List ℕ) × IsSkipped old.limits.passed op count payload
 ShowsHead old head.Ended = ⊥
 
--- the answer in each phase, without the state after the call
-abbrev pub ShowsHeadFrom : Phase → ReaderState → Result Head Refusal → Type 0
-ShowsHeadFrom Open old result = MatchResult result (ShowsHead old) (λ r. r.at ≡ old.taken)
-ShowsHeadFrom Ended old result = result ≡ Ok head.Ended
-ShowsHeadFrom (Refused r) old result = result ≡ Err r
-
 -- what is known about an answer while it still borrows from the reader
 abbrev pub ShowsAHead : ReaderState → Result Head Refusal → Type 0
-ShowsAHead old result = ShowsHeadFrom old.phase old result
+ShowsAHead old result = ShowsBy head.Ended (ShowsHead old) old.taken old.phase result

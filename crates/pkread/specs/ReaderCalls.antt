@@ -108,12 +108,18 @@ abbrev pub GivesNext : ReaderState → ReaderState → Next → Type 0
 GivesNext old new (next.Inst at inst) = Gives old at (instruction_of inst) new
 GivesNext old new next.Ended = ⊥
 
--- what a call does in each phase: an open reader returns an instruction or refuses; after STOP or a
+-- what a call does in each phase: an open reader gives something or refuses; after STOP or a
 -- refusal every call returns the same and changes nothing
+abbrev pub StepsBy : {A : Type 0} (ended : A) (given : A → Type 0) (refused : Refusal → Type 0)
+    → Phase → ReaderState → Result A Refusal → ReaderState → Type 0
+StepsBy ended given refused Open old result new = MatchResult result given refused
+StepsBy ended given refused Ended old result new = (result ≡ Ok ended) × (new ≡ old)
+StepsBy ended given refused (Refused r) old result new = (result ≡ Err r) × (new ≡ old)
+
+-- a call of `next` in each phase
 abbrev pub StepsFrom : Phase → ReaderState → Result Next Refusal → ReaderState → Type 0
-StepsFrom Open old result new = MatchResult result (GivesNext old new) (λ r. RefusesAt old r new)
-StepsFrom Ended old result new = (result ≡ Ok next.Ended) × (new ≡ old)
-StepsFrom (Refused r) old result new = (result ≡ Err r) × (new ≡ old)
+StepsFrom phase old result new =
+    StepsBy next.Ended (GivesNext old new) (λ r. RefusesAt old r new) phase old result new
 
 -- one call of `next`
 abbrev pub Steps : ReaderState → Result Next Refusal → ReaderState → Type 0
@@ -126,11 +132,12 @@ ShowsNext old (next.Inst at inst) =
 ShowsNext old next.Ended = ⊥
 
 -- the answer in each phase, without the state after the call
-abbrev pub ShowsFrom : Phase → ReaderState → Result Next Refusal → Type 0
-ShowsFrom Open old result = MatchResult result (ShowsNext old) (λ r. r.at ≡ old.taken)
-ShowsFrom Ended old result = result ≡ Ok next.Ended
-ShowsFrom (Refused r) old result = result ≡ Err r
+abbrev pub ShowsBy : {A : Type 0} (ended : A) (shown : A → Type 0) (taken : ℕ)
+    → Phase → Result A Refusal → Type 0
+ShowsBy ended shown taken Open result = MatchResult result shown (λ r. r.at ≡ taken)
+ShowsBy ended shown taken Ended result = result ≡ Ok ended
+ShowsBy ended shown taken (Refused r) result = result ≡ Err r
 
 -- what is known about an answer while it still borrows from the reader
 abbrev pub Shows : ReaderState → Result Next Refusal → Type 0
-Shows old result = ShowsFrom old.phase old result
+Shows old result = ShowsBy next.Ended (ShowsNext old) old.taken old.phase result

@@ -13,10 +13,11 @@ use Rattle.pkread.specs.Core.{Phase, Open, Refused, phase_after}
 use Rattle.pkread.specs.Private.Arms.{Gathers}
 use Rattle.pkread.specs.Private.Progress.{Intake}
 use Rattle.pkread.specs.ReaderCalls.{ReaderState, Gives, GivesNext, RefusesAt, StepsFrom, ShowsNext}
-use Rattle.pkread.specs.ReaderCalls.{ShowsFrom}
+use Rattle.pkread.specs.ReaderCalls.{ShowsBy}
 use Rattle.pkread.specs.Rows.{Refuses, ShowsReason, Sight, all_bytes, unread}
 use Rattle.pkread.specs.Sequence.{CountsAt}
 use Rattle.pkread.specs.declared.reader.Next.{Next}
+use Rattle.pkread.specs.declared.reader.Next.TheVariants as next
 
 -- the bytes are one admitted instruction of the opcode
 pub record IsGathered (limit : ℕ) (bytes : List ℕ) (op : Op) : Type 0 where
@@ -71,8 +72,10 @@ steps_open old new r e h = subst (λ (p : Phase). StepsFrom p old r new) (sym e)
 
 -- and it shows its place
 pub shows_open : (old : ReaderState) (r : Result Next Refusal) → old.phase ≡ Open →
-    MatchResult r (ShowsNext old) (λ x. x.at ≡ old.taken) → ShowsFrom old.phase old r
-shows_open old r e h = subst (λ (p : Phase). ShowsFrom p old r) (sym e) h
+    MatchResult r (ShowsNext old) (λ x. x.at ≡ old.taken) →
+    ShowsBy next.Ended (ShowsNext old) old.taken old.phase r
+shows_open old r e h =
+    subst (λ (p : Phase). ShowsBy next.Ended (ShowsNext old) old.taken p r) (sym e) h
 
 -- the count of failures is as the reason says
 pub counts_at : (limit : ℕ) (old new : Sight) (b : List ℕ) (t : ℕ) (r : Reason) →

@@ -8,17 +8,18 @@ use Rattle.pkops.specs.declared.Op.{Op}
 use Rattle.pkops.specs.declared.Refusal.{Refusal}
 use Rattle.pkread.proofs.Calls.Next.{IsGathered, come, counts_at, gives_whole, spelled}
 use Rattle.pkread.specs.Core.{Phase, Open, Refused, phase_after}
-use Rattle.pkread.specs.Heads.{GivesHead, HoldsFew, Skips, RefusesHead, ShowsHead, ShowsHeadFrom}
+use Rattle.pkread.specs.Heads.{GivesHead, HoldsFew, Skips, RefusesHead, ShowsHead}
 use Rattle.pkread.specs.Heads.{StepsHeadFrom}
 use Rattle.pkread.specs.Private.SkippedBytes.{HeldWhole, RefusedHead, SkippedOne, TookHead}
 use Rattle.pkread.specs.Private.OpenReader.{IfHeld}
 use Rattle.pkread.specs.Private.Progress.{Intake}
-use Rattle.pkread.specs.ReaderCalls.{Gives, ReaderState}
+use Rattle.pkread.specs.ReaderCalls.{Gives, ReaderState, ShowsBy}
 use Rattle.pkread.specs.Rows.{all_bytes}
 use Rattle.pkread.specs.declared.gather.Found.{Found}
 use Rattle.pkread.specs.declared.heads.Gathered.{Gathered}
 use Rattle.pkread.specs.declared.heads.Gathered.TheVariants as gathered
 use Rattle.pkread.specs.declared.reader.Head.{Head}
+use Rattle.pkread.specs.declared.reader.Head.TheVariants as head
 
 -- from an open reader a step is a gift or a refusal
 pub steps_head_open : (old new : ReaderState) (r : Result Head Refusal) → old.phase ≡ Open →
@@ -28,8 +29,10 @@ steps_head_open old new r e h = subst (λ (p : Phase). StepsHeadFrom p old r new
 
 -- and it shows its place
 pub shows_head_open : (old : ReaderState) (r : Result Head Refusal) → old.phase ≡ Open →
-    MatchResult r (ShowsHead old) (λ x. x.at ≡ old.taken) → ShowsHeadFrom old.phase old r
-shows_head_open old r e h = subst (λ (p : Phase). ShowsHeadFrom p old r) (sym e) h
+    MatchResult r (ShowsHead old) (λ x. x.at ≡ old.taken) →
+    ShowsBy head.Ended (ShowsHead old) old.taken old.phase r
+shows_head_open old r e h =
+    subst (λ (p : Phase). ShowsBy head.Ended (ShowsHead old) old.taken p r) (sym e) h
 
 -- an instruction that is held has bytes
 pub some_held : (limits : Bounds) (g : Gathered) (old new : Intake) (most after : ℕ) →

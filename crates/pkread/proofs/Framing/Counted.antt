@@ -11,37 +11,37 @@ use Rattle.pkread.specs.Framing.{contents_of, frame_spans, span_after, MeetsNone
 use Rattle.pkread.specs.Framing.{FirstUnframed, opened, counted, one_later, refused_at}
 use Rattle.pkread.specs.Framing.{CountingIsExact}
 
+-- a piece of this length and role
+abbrev pub piece : ℕ → Role → Piece
+piece len k = record { length = len; role = k }
+
 -- where nothing is open, a piece opens what its role says
-pub shut_some : (n m len : ℕ) (k : Role) → n ≡ 0
-    → counted n (record { length = len; role = k }) ≡ Some m → m ≡ opened k
+pub shut_some : (n m len : ℕ) (k : Role) → n ≡ 0 → counted n (piece len k) ≡ Some m → m ≡ opened k
 shut_some n m len k z h = grind (arith, nat_tests)
 
 -- inside a frame no FRAME is accepted
-pub frame_some : (n m len a : ℕ) → 0 < n → counted n (record { length = len; role = frame a })
-    ≡ Some m → ⊥
+pub frame_some : (n m len a : ℕ) → 0 < n → counted n (piece len (frame a)) ≡ Some m → ⊥
 frame_some n m len a z h = grind (arith, nat_tests)
 
 -- inside a frame an accepted STOP ends it
-pub stop_some : (n m len : ℕ) → 0 < n → counted n (record { length = len; role = stop }) ≡ Some m
-    → (len ≡ n) × (m ≡ 0)
+pub stop_some : (n m len : ℕ) → 0 < n → counted n (piece len stop) ≡ Some m → (len ≡ n) × (m ≡ 0)
 stop_some n m len z h = (grind (arith, nat_tests), grind (arith, nat_tests))
 
 -- inside a frame any other accepted piece leaves the rest of it open
-pub other_some : (n m len : ℕ) → 0 < n → counted n (record { length = len; role = other }) ≡ Some m
+pub other_some : (n m len : ℕ) → 0 < n → counted n (piece len other) ≡ Some m
     → (len ≤ n) × (m ≡ n - len)
 other_some n m len z h = (grind (arith, nat_tests), grind (arith, nat_tests))
 
 -- nothing is refused outside a frame
-pub shut_none : (n len : ℕ) (k : Role) → counted n (record { length = len; role = k }) ≡ None
-    → 0 < n
+pub shut_none : (n len : ℕ) (k : Role) → counted n (piece len k) ≡ None → 0 < n
 shut_none n len k h = grind (arith, nat_tests)
 
 -- a refused STOP leaves or passes the end of its frame
-pub stop_none : (n len : ℕ) → counted n (record { length = len; role = stop }) ≡ None → len ≡ n → ⊥
+pub stop_none : (n len : ℕ) → counted n (piece len stop) ≡ None → len ≡ n → ⊥
 stop_none n len h = grind (arith, nat_tests)
 
 -- any other refused piece passes the end of its frame
-pub other_none : (n len : ℕ) → counted n (record { length = len; role = other }) ≡ None → n < len
+pub other_none : (n len : ℕ) → counted n (piece len other) ≡ None → n < len
 other_none n len h = grind (arith, nat_tests)
 
 -- nothing stands in an empty list
@@ -88,6 +88,10 @@ pub record Open (at n : ℕ) (cs : List Span) : Type 0 where
   pub each : (c : Span) → Contains cs c → (c.to ≤ at) ⊎ ((c.from ≤ at) × (c.to ≡ at + n))
   pub one : 0 < n → (c : Span) × Contains cs c × (c.from ≤ at) × (c.to ≡ at + n)
 
+-- behind these pieces n bytes are left in the open frame
+abbrev pub IsOpen : ℕ → List Piece → Type 0
+IsOpen n done = Open (total done) n (frame_spans 0 done)
+
 -- no contents go on behind what is open
 pub ends_within : (at n : ℕ) (cs : List Span) → Open at n cs → (c : Span) → Contains cs c
     → c.to ≤ at + n
@@ -111,18 +115,16 @@ stands done p ps c h =
     ]
 
 -- where all spans before are shut, the piece meets none
-pub meets_none : (done : List Piece) (p : Piece) (ps : List Piece)
-    → Open (total done) 0 (frame_spans 0 done) → MeetsNone (span_after done p)
-    (frame_spans 0 (done ++ p ∷ ps))
+pub meets_none : (done : List Piece) (p : Piece) (ps : List Piece) → IsOpen 0 done
+    → MeetsNone (span_after done p) (frame_spans 0 (done ++ p ∷ ps))
 meets_none done p ps o c h m = elim (stands done p ps c h) [
   | inl i ↦ omega (arith, ends_within (total done) 0 (frame_spans 0 done) o c i, m.1, m.2)
   | inr i ↦ omega (arith, i, m.1, m.2)
 ]
 
 -- where a span before is open, the piece meets it
-pub meets_one : (done : List Piece) (p : Piece) (ps : List Piece) (n : ℕ)
-    → Open (total done) n (frame_spans 0 done) → 0 < n → 0 < p.length
-    → MeetsNone (span_after done p) (frame_spans 0 (done ++ p ∷ ps)) → ⊥
+pub meets_one : (done : List Piece) (p : Piece) (ps : List Piece) (n : ℕ) → IsOpen n done
+    → 0 < n → 0 < p.length → MeetsNone (span_after done p) (frame_spans 0 (done ++ p ∷ ps)) → ⊥
 meets_one done p ps n o z l none =
     let w = o.one z in
     let i : Contains (frame_spans 0 (done ++ p ∷ ps)) w.0 =
@@ -140,9 +142,8 @@ total-more done p = omega (arith, total-append done (p ∷ []))
 
 -- a piece that opens nothing
 pub goes_on : (done : List Piece) (p : Piece) (n m : ℕ)
-    → contents_of (total done + p.length) p.role ≡ [] → Open (total done) n (frame_spans 0 done)
-    → p.length + m ≡ n ⊎ ((n ≡ 0) × (m ≡ 0)) → Open (total (done ++ p ∷ [])) m
-    (frame_spans 0 (done ++ p ∷ []))
+    → contents_of (total done + p.length) p.role ≡ [] → IsOpen n done
+    → p.length + m ≡ n ⊎ ((n ≡ 0) × (m ≡ 0)) → IsOpen m (done ++ p ∷ [])
 goes_on done p n m e o way =
     let same : frame_spans 0 (done ++ p ∷ []) ≡ frame_spans 0 done =
     more done p ∙ rw e (append-nil (frame_spans 0 done)) in
@@ -162,11 +163,10 @@ goes_on done p n m e o way =
     })
 
 -- a FRAME where nothing is open
-pub begins : (done : List Piece) (len m : ℕ) → Open (total done) 0 (frame_spans 0 done)
-    → Open (total (done ++ (record { length = len; role = frame m }) ∷ [])) m
-    (frame_spans 0 (done ++ (record { length = len; role = frame m }) ∷ []))
+pub begins : (done : List Piece) (len m : ℕ) → IsOpen 0 done
+    → IsOpen m (done ++ (piece len (frame m)) ∷ [])
 begins done len m o =
-    let p : Piece = record { length = len; role = frame m } in
+    let p : Piece = piece len (frame m) in
     rw (more done p, total-more done p) (record {
       each = λ c i. elim (Contains-push_cases (frame_spans 0 done) _ c i) [
         | inl j ↦ inl (omega (arith, ends_within (total done) 0 (frame_spans 0 done) o c j))
@@ -182,8 +182,8 @@ zero_or zero = inl refl
 zero_or (suc n) = inr (omega arith)
 
 -- nothing open: each piece is framed, and goes on
-pub accepts_shut : (done : List Piece) (p : Piece) (ps : List Piece)
-    → Open (total done) 0 (frame_spans 0 done) → IsFramed done p ps
+pub accepts_shut : (done : List Piece) (p : Piece) (ps : List Piece) → IsOpen 0 done
+    → IsFramed done p ps
 accepts_shut done p ps o = record {
   whole = inr (meets_none done p ps o);
   frame = λ _. meets_none done p ps o;
@@ -191,64 +191,56 @@ accepts_shut done p ps o = record {
 }
 
 -- what a piece opens where nothing was open
-pub opens : (done : List Piece) (len : ℕ) (k : Role) → Open (total done) 0 (frame_spans 0 done)
-    → Open (total (done ++ (record { length = len; role = k }) ∷ [])) (opened k)
-    (frame_spans 0 (done ++ (record { length = len; role = k }) ∷ []))
+pub opens : (done : List Piece) (len : ℕ) (k : Role) → IsOpen 0 done
+    → IsOpen (opened k) (done ++ (piece len k) ∷ [])
 opens done len (frame m) o = begins done len m o
 opens done len stop o = goes_on done _ 0 0 refl o (inr (refl, refl))
 opens done len other o = goes_on done _ 0 0 refl o (inr (refl, refl))
 
 -- a piece inside the open frame
-pub lies_inside : (done : List Piece) (p : Piece) (n : ℕ) → Open (total done) n (frame_spans 0 done)
-    → 0 < n → p.length ≤ n → (c : Span) × Contains (frame_spans 0 done) c
-    × LiesInside (span_after done p) c
+pub lies_inside : (done : List Piece) (p : Piece) (n : ℕ) → IsOpen n done → 0 < n
+    → p.length ≤ n → (c : Span) × Contains (frame_spans 0 done) c × LiesInside (span_after done p) c
 lies_inside done p n o z w = let x = o.one z in (x.0, x.1, (omega (arith, x.2), omega (arith, x.3)))
 
 -- inside a frame an accepted piece is framed, and the rule knows what stays open
 pub accepts_open : (done : List Piece) (len : ℕ) (k : Role) (ps : List Piece) (n m : ℕ)
-    → Open (total done) n (frame_spans 0 done) → 0 < n
-    → counted n (record { length = len; role = k }) ≡ Some m
-    → IsFramed done (record { length = len; role = k }) ps × Open
-    (total (done ++ (record { length = len; role = k }) ∷ [])) m
-    (frame_spans 0 (done ++ (record { length = len; role = k }) ∷ []))
+    → IsOpen n done → 0 < n → counted n (piece len k) ≡ Some m
+    → IsFramed done (piece len k) ps × IsOpen m (done ++ (piece len k) ∷ [])
 accepts_open done len (frame a) ps n m o z h = absurd (frame_some n m len a z h)
 accepts_open done len stop ps n m o z h =
     let e = stop_some n m len z h in (
       record {
         whole = inl
-            (lies_inside done (record { length = len; role = stop }) n o z (omega (arith, e.0)));
+            (lies_inside done (piece len stop) n o z (omega (arith, e.0)));
         frame = λ i. absurd i;
         stop = λ _ c i. omega (arith, ends_within (total done) n (frame_spans 0 done) o c i, e.0);
       },
-      goes_on done (record { length = len; role = stop }) n m refl o
+      goes_on done (piece len stop) n m refl o
           (inl (omega (arith, e.0, e.1))),
     )
 accepts_open done len other ps n m o z h =
     let e = other_some n m len z h in (
       record {
         whole = inl
-            (lies_inside done (record { length = len; role = other }) n o z (omega (arith, e.0)));
+            (lies_inside done (piece len other) n o z (omega (arith, e.0)));
         frame = λ i. absurd i;
         stop = λ i. absurd i;
       },
-      goes_on done (record { length = len; role = other }) n m refl o
+      goes_on done (piece len other) n m refl o
           (inl (omega (arith, e.0, e.1))),
     )
 
 -- nothing is open where the number is 0
-pub shut_at : (n : ℕ) (done : List Piece) → n ≡ 0 → Open (total done) n (frame_spans 0 done)
-    → Open (total done) 0 (frame_spans 0 done)
-shut_at n done e o = subst (λ (m : ℕ). Open (total done) m (frame_spans 0 done)) e o
+pub shut_at : (n : ℕ) (done : List Piece) → n ≡ 0 → IsOpen n done → IsOpen 0 done
+shut_at n done e o = subst (λ (m : ℕ). IsOpen m done) e o
 
 -- an accepted piece is framed, and the rule knows what stays open
 pub accepts : (done : List Piece) (len : ℕ) (k : Role) (ps : List Piece) (n m : ℕ)
-    → Open (total done) n (frame_spans 0 done) → counted n (record { length = len; role = k }) ≡
-    Some m → IsFramed done (record { length = len; role = k }) ps × Open
-    (total (done ++ (record { length = len; role = k }) ∷ [])) m
-    (frame_spans 0 (done ++ (record { length = len; role = k }) ∷ []))
+    → IsOpen n done → counted n (piece len k) ≡ Some m
+    → IsFramed done (piece len k) ps × IsOpen m (done ++ (piece len k) ∷ [])
 accepts done len k ps n m o h = elim (zero_or n) [
   | inl e ↦
-      let o' : Open (total done) 0 (frame_spans 0 done) = shut_at n done e o in
+      let o' : IsOpen 0 done = shut_at n done e o in
       let e' = shut_some n m len k e h in
       (accepts_shut done _ ps o', rw e' (opens done len k o'))
   | inr z ↦ accepts_open done len k ps n m o z h
@@ -256,9 +248,8 @@ accepts done len k ps n m o h = elim (zero_or n) [
 
 -- a piece that is refused isn't framed
 pub refuses_role : (done : List Piece) (len : ℕ) (k : Role) (ps : List Piece) (n : ℕ)
-    → Open (total done) n (frame_spans 0 done) → 0 < len → 0 < n
-    → counted n (record { length = len; role = k }) ≡ None
-    → IsFramed done (record { length = len; role = k }) ps → ⊥
+    → IsOpen n done → 0 < len → 0 < n → counted n (piece len k) ≡ None
+    → IsFramed done (piece len k) ps → ⊥
 refuses_role done len (frame a) ps n o l z h f = meets_one done _ ps n o z l (f.frame tt)
 refuses_role done len stop ps n o l z h f = elim f.whole [
   | inl w ↦ let x = o.one z in stop_none n len h
@@ -278,10 +269,8 @@ refuses_role done len other ps n o l z h f = elim f.whole [
 ]
 
 -- a refused piece is not framed
-pub refuses : (done : List Piece) (len : ℕ) (k : Role) (ps : List Piece) (n : ℕ)
-    → Open (total done) n (frame_spans 0 done) → 0 < len
-    → counted n (record { length = len; role = k }) ≡ None
-    → IsFramed done (record { length = len; role = k }) ps → ⊥
+pub refuses : (done : List Piece) (len : ℕ) (k : Role) (ps : List Piece) (n : ℕ) → IsOpen n done
+    → 0 < len → counted n (piece len k) ≡ None → IsFramed done (piece len k) ps → ⊥
 refuses done len k ps n o l h = refuses_role done len k ps n o l (shut_none n len k h) h
 
 -- what the rule says of the pieces that come after those done
@@ -355,10 +344,10 @@ none_at_end [] p after e = cc
 none_at_end (x ∷ b) p after e = cc
 
 -- the rule from one piece on, by its answer for that piece
-pub says_after : (done : List Piece) (p : Piece) (ps : List Piece) (n : ℕ)
-    (o : Open (total done) n (frame_spans 0 done)) (l : 0 < p.length) (r : Option ℕ)
-    → counted n p ≡ r → ((done' : List Piece) (m : ℕ) → Open (total done') m (frame_spans 0 done')
-    → Says done' ps (refused_at m ps)) → Says done (p ∷ ps) (one_later r (λ m. refused_at m ps))
+pub says_after : (done : List Piece) (p : Piece) (ps : List Piece) (n : ℕ) (o : IsOpen n done) (l :
+    0 < p.length) (r : Option ℕ) → counted n p ≡ r → ((done' : List Piece) (m : ℕ)
+    → IsOpen m done' → Says done' ps (refused_at m ps))
+    → Says done (p ∷ ps) (one_later r (λ m. refused_at m ps))
 says_after done p ps n o l None h go = record {
   here = (
     [],
@@ -374,8 +363,8 @@ says_after done p ps n o l (Some m) h go = let a = accepts done p.length p.role 
     says_more done p ps (refused_at m ps) a.0 (go (done ++ p ∷ []) m a.1)
 
 -- the rule along a list
-pub says_all : (done ps : List Piece) (n : ℕ) → Open (total done) n (frame_spans 0 done)
-    → All (λ p. 0 < p.length) ps → Says done ps (refused_at n ps)
+pub says_all : (done ps : List Piece) (n : ℕ) → IsOpen n done → All (λ p. 0 < p.length) ps
+    → Says done ps (refused_at n ps)
 says_all done [] n o l =
     record { framed = λ before p after e. absurd (none_at_end before p after e) }
 says_all done (p ∷ ps) n o l = says_after done p ps n o (All-head (λ x. 0 < x.length) p ps l)

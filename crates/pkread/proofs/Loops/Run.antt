@@ -16,8 +16,8 @@ use Rattle.pkread.proofs.Calls.AtHand.{next_behind, takes_lent}
 use Rattle.pkread.specs.Admission.{IsAllowed, IsAllowedBy}
 use Rattle.pkread.specs.AtHand.{beyond}
 use Rattle.pkread.specs.Core.{Phase, Open, Ended, Refused, phase_after}
-use Rattle.pkread.specs.Heads.{IsSkipped, Skips, RefusesHead, StepsHeadFrom}
-use Rattle.pkread.specs.ReaderCalls.{ReaderState, begun, Gives, RefusesAt, StepsFrom}
+use Rattle.pkread.specs.Heads.{GivesHead, IsSkipped, RefusesHead}
+use Rattle.pkread.specs.ReaderCalls.{GivesNext, ReaderState, RefusesAt, StepsBy, begun}
 pub use Rattle.pkread.specs.Run.{Reads, SoFar}
 use Rattle.pkread.specs.Run.{EndIsRead, EndOfHeads, HeadIsRead, NextIsRead, PassedIsRead}
 use Rattle.pkread.specs.Run.{LentIsRead, ReadingBegins, ReadingGoesOn, ReadsMore, RefusalIsRead}
@@ -36,37 +36,29 @@ spellings-more [] i = append-nil (spelling i)
 spellings-more (x ∷ p) i = ap (λ (b : List ℕ). spelling x ++ b) (spellings-more p i)
     ∙ sym (append_assoc (spelling x) (spellings p) (spelling i))
 
-not_ended : (i : Inst) (at : ℕ) → let a : Result Next Refusal = Ok (next.Inst at i) in
-    a ≡ Ok next.Ended → ⊥
-not_ended i at e = cc
+-- how a call stepped, by what it returned
+module _ {A : Type 0} (end : A) (gives : A → Type 0) (refuses : Refusal → Type 0)
+    (s t : ReaderState) (r : Result A Refusal) where
+  -- anything but the end comes only from an open reader
+  given : (p : Phase) (a : A) → (a ≡ end → ⊥) → StepsBy end gives refuses p s r t → r ≡ Ok a
+      → (p ≡ Open) × gives a
+  given Open a other h e = (refl, rw e at h)
+  given Ended a other h e = let f = h.0 in absurd (other cc)
+  given (Refused x) a other h e = let f = h.0 in absurd cc
 
-not_err : (i : Inst) (at : ℕ) (x : Refusal) → let a : Result Next Refusal = Ok (next.Inst at i) in
-    a ≡ Err x → ⊥
-not_err i at x e = cc
+  -- the end comes only from a reader that has ended, which stays as it is
+  ended : (p : Phase) → (gives end → ⊥) → StepsBy end gives refuses p s r t → r ≡ Ok end
+      → (p ≡ Ended) × (t ≡ s)
+  ended Open never h e = absurd (never (rw e at h))
+  ended Ended never h e = (refl, h.1)
+  ended (Refused x) never h e = let f = h.0 in absurd cc
 
--- an instruction comes only from an open reader, and then as `Gives` says
-pub given : (p : Phase) (s t : ReaderState) (r : Result Next Refusal) (at : ℕ) (i : Inst)
-    → StepsFrom p s r t → r ≡ Ok (next.Inst at i) → (p ≡ Open) × Gives s at (instruction_of i) t
-given Open s t r at i h e = (refl, rw e at h)
-given Ended s t r at i h e = absurd (not_ended i at (sym e ∙ h.0))
-given (Refused x) s t r at i h e = absurd (not_err i at x (sym e ∙ h.0))
-
-ended_not_err : (x : Refusal) → let a : Result Next Refusal = Ok next.Ended in a ≡ Err x → ⊥
-ended_not_err x e = cc
-
--- `Ended` comes only from a reader that has ended, which stays as it is
-pub ended : (p : Phase) (s t : ReaderState) (r : Result Next Refusal) → StepsFrom p s r t
-    → r ≡ Ok next.Ended → (p ≡ Ended) × (t ≡ s)
-ended Open s t r h e = let h' = rw e at h in absurd h'
-ended Ended s t r h e = (refl, h.1)
-ended (Refused x) s t r h e = absurd (ended_not_err x (sym e ∙ h.0))
-
--- where an open reader refuses, it does so as `RefusesAt` says
-pub refused : (p : Phase) (s t : ReaderState) (r : Result Next Refusal) (x : Refusal) → p ≡ Open
-    → StepsFrom p s r t → r ≡ Err x → RefusesAt s x t
-refused p s t r x o h e =
-    let h' = rw (o, e) at h in
-    h'
+  -- a reader that refuses for the first time was open
+  refused : (p : Phase) (q : List Instruction) (x : Refusal) → SoFar q p
+      → StepsBy end gives refuses p s r t → r ≡ Err x → NoStop q × refuses x
+  refused Open q x so h e = (so, rw e at h)
+  refused Ended q x so h e = let f = h.0 in absurd cc
+  refused (Refused y) q x so h e = absurd so
 
 phase_cases : (p : List Instruction) (i : Instruction) → All (λ j. j.op ≢ op.Stop) p → (o : Op)
     → i.op ≡ o → SoFar (p ++ i ∷ []) (phase_after o)
@@ -150,7 +142,8 @@ more_of start from limit p s t i h o k =
 
 pub next_is_read : NextIsRead
 next_is_read start from limit p s t r at i holds h k e =
-    let o = given s.phase s t r at i k.1 e in
+    let o = given next.Ended (GivesNext s t) (λ x. RefusesAt s x t) s t r s.phase (next.Inst at i)
+    (λ f. cc) k.1 e in
     let g = o.1 in
     let allowed : IsAllowedBy limit (instruction_of i) =
     subst (λ (l : ℕ). IsAllowed l (instruction_of i)) (holds (instruction_of i).op) g.allowed in (
@@ -162,37 +155,14 @@ next_is_read start from limit p s t r at i holds h k e =
 
 pub end_is_read : EndIsRead
 end_is_read start from limit p s t r h k e =
-    let o = ended s.phase s t r k.1 e in
+    let o = ended next.Ended (GivesNext s t) (λ x. RefusesAt s x t) s t r s.phase (λ f. f) k.1 e in
     (reads_sequence start from limit p s h o.0, o.1)
 
-ended_no_err : (x : Refusal) → let a : Result Next Refusal = Ok next.Ended in Err x ≡ a → ⊥
-ended_no_err x e = cc
-
-refuses_here : (p : List Instruction) (f : Phase) (s t : ReaderState) (r : Result Next Refusal)
-    (x : Refusal) → SoFar p f → StepsFrom f s r t → r ≡ Err x → NoStop p × RefusesAt s x t
-refuses_here p Open s t r x so k e = (so, rw e at k)
-refuses_here p Ended s t r x so k e = absurd (ended_no_err x (sym e ∙ k.0))
-refuses_here p (Refused y) s t r x so k e = absurd so
-
 pub refusal_is_read : RefusalIsRead
-refusal_is_read start from limit p s t r x h k e = refuses_here p s.phase s t r x h.so_far k.1 e
+refusal_is_read start from limit p s t r x h k e =
+    refused next.Ended (GivesNext s t) (λ y. RefusesAt s y t) s t r s.phase p x h.so_far k.1 e
 
 -- the laws of a loop over `next_head`
-
-head_not_ended : (i : Inst) (at : ℕ) → let a : Result Head Refusal = Ok (head.Inst at i) in
-    a ≡ Ok head.Ended → ⊥
-head_not_ended i at e = cc
-
-head_not_err : (i : Inst) (at : ℕ) (x : Refusal) → let a : Result Head Refusal =
-    Ok (head.Inst at i) in a ≡ Err x → ⊥
-head_not_err i at x e = cc
-
-head_given : (p : Phase) (s t : ReaderState) (r : Result Head Refusal) (at : ℕ) (i : Inst)
-    → StepsHeadFrom p s r t → r ≡ Ok (head.Inst at i) → (p ≡ Open) × Gives s at (instruction_of i) t
-    × (is_passed (instruction_of i).op ≡ false)
-head_given Open s t r at i h e = let w = rw e at h in (refl, w.0, w.1)
-head_given Ended s t r at i h e = absurd (head_not_ended i at (sym e ∙ h.0))
-head_given (Refused x) s t r at i h e = absurd (head_not_err i at x (sym e ∙ h.0))
 
 -- a limit by the opcode, where it is passed or isn't
 by_passed : (limits : Bounds) (limit : Op → ℕ) (o : Op) (passed : Bool)
@@ -203,29 +173,16 @@ by_passed limits limit o passed same e = ap (λ x. if x then limits.passed else 
 
 pub head_is_read : HeadIsRead
 head_is_read start from limit p s t r at i passes h k e =
-    let o = head_given s.phase s t r at i k.1 e in
-    let g = o.1 in
+    let o = given head.Ended (GivesHead s t) (λ x. RefusesHead s x t) s t r s.phase (head.Inst at i)
+    (λ f. cc) k.1 e in
+    let g = o.1.0 in
     let j = instruction_of i in
     let allowed : IsAllowedBy limit j = subst (λ (l : ℕ). IsAllowed l j)
-    (by_passed s.limits limit j.op false (passes j.op) o.2) g.allowed in (
+    (by_passed s.limits limit j.op false (passes j.op) o.1.1) g.allowed in (
       more_of start from limit p s t j h o.0
           (reads_one start from limit p s t j h o.0 allowed g.bytes g.taken g.phase),
       g,
     )
-
-passed_not_ended : (o : Op) (at count : ℕ) → let a : Result Head Refusal =
-    Ok (head.Passed at o count) in a ≡ Ok head.Ended → ⊥
-passed_not_ended o at count e = cc
-
-passed_not_err : (o : Op) (at count : ℕ) (x : Refusal) → let a : Result Head Refusal =
-    Ok (head.Passed at o count) in a ≡ Err x → ⊥
-passed_not_err o at count x e = cc
-
-passed_given : (p : Phase) (s t : ReaderState) (r : Result Head Refusal) (at count : ℕ) (o : Op)
-    → StepsHeadFrom p s r t → r ≡ Ok (head.Passed at o count) → (p ≡ Open) × Skips s at o count t
-passed_given Open s t r at count o h e = (refl, rw e at h)
-passed_given Ended s t r at count o h e = absurd (passed_not_ended o at count (sym e ∙ h.0))
-passed_given (Refused x) s t r at count o h e = absurd (passed_not_err o at count x (sym e ∙ h.0))
 
 -- a passed opcode isn't STOP
 passed_goes_on : (o : Op) → is_passed o ≡ true → phase_after o ≡ Open
@@ -234,7 +191,8 @@ passed_goes_on _ e = refl
 
 pub passed_is_read : PassedIsRead
 passed_is_read start from limit p s t r at o count passes h k e =
-    let w = passed_given s.phase s t r at count o k.1 e in
+    let w = given head.Ended (GivesHead s t) (λ x. RefusesHead s x t) s t r s.phase
+    (head.Passed at o count) (λ f. cc) k.1 e in
     let g = w.1 in
     let b = g.passes in
     let i = instruction o (Counted b.payload) in
@@ -265,26 +223,12 @@ lent_is_read start from limit p s bytes i passes h next lent =
       next_behind s bytes i next lent,
     )
 
-head_ended_not_err : (x : Refusal) → let a : Result Head Refusal = Ok head.Ended in a ≡ Err x → ⊥
-head_ended_not_err x e = cc
-
-head_ended : (p : Phase) (s t : ReaderState) (r : Result Head Refusal) → StepsHeadFrom p s r t
-    → r ≡ Ok head.Ended → (p ≡ Ended) × (t ≡ s)
-head_ended Open s t r h e = let h' = rw e at h in absurd h'
-head_ended Ended s t r h e = (refl, h.1)
-head_ended (Refused x) s t r h e = absurd (head_ended_not_err x (sym e ∙ h.0))
-
 pub end_of_heads : EndOfHeads
 end_of_heads start from limit p s t r h k e =
-    let o = head_ended s.phase s t r k.1 e in
+    let o = ended head.Ended (GivesHead s t) (λ x. RefusesHead s x t) s t r s.phase (λ f. f) k.1 e
+    in
     (reads_sequence start from limit p s h o.0, o.1)
-
-head_refuses_here : (p : List Instruction) (f : Phase) (s t : ReaderState) (r : Result Head Refusal)
-    (x : Refusal) → SoFar p f → StepsHeadFrom f s r t → r ≡ Err x → NoStop p × RefusesHead s x t
-head_refuses_here p Open s t r x so k e = (so, rw e at k)
-head_refuses_here p Ended s t r x so k e = absurd (head_ended_not_err x (sym k.0 ∙ e))
-head_refuses_here p (Refused y) s t r x so k e = absurd so
 
 pub refusal_of_heads : RefusalOfHeads
 refusal_of_heads start from limit p s t r x h k e =
-    head_refuses_here p s.phase s t r x h.so_far k.1 e
+    refused head.Ended (GivesHead s t) (λ y. RefusesHead s y t) s t r s.phase p x h.so_far k.1 e
