@@ -15,35 +15,6 @@ use Rattle.pkread.specs.Framing.{CountingIsExact}
 abbrev pub piece : ℕ → Role → Piece
 piece len k = record { length = len; role = k }
 
--- where nothing is open, a piece opens what its role says
-pub shut_some : (n m len : ℕ) (k : Role) → n ≡ 0 → counted n (piece len k) ≡ Some m → m ≡ opened k
-shut_some n m len k z h = grind (arith, nat_tests)
-
--- inside a frame no FRAME is accepted
-pub frame_some : (n m len a : ℕ) → 0 < n → counted n (piece len (frame a)) ≡ Some m → ⊥
-frame_some n m len a z h = grind (arith, nat_tests)
-
--- inside a frame an accepted STOP ends it
-pub stop_some : (n m len : ℕ) → 0 < n → counted n (piece len stop) ≡ Some m → (len ≡ n) × (m ≡ 0)
-stop_some n m len z h = (grind (arith, nat_tests), grind (arith, nat_tests))
-
--- inside a frame any other accepted piece leaves the rest of it open
-pub other_some : (n m len : ℕ) → 0 < n → counted n (piece len other) ≡ Some m
-    → (len ≤ n) × (m ≡ n - len)
-other_some n m len z h = (grind (arith, nat_tests), grind (arith, nat_tests))
-
--- nothing is refused outside a frame
-pub shut_none : (n len : ℕ) (k : Role) → counted n (piece len k) ≡ None → 0 < n
-shut_none n len k h = grind (arith, nat_tests)
-
--- a refused STOP leaves or passes the end of its frame
-pub stop_none : (n len : ℕ) → counted n (piece len stop) ≡ None → len ≡ n → ⊥
-stop_none n len h = grind (arith, nat_tests)
-
--- any other refused piece passes the end of its frame
-pub other_none : (n len : ℕ) → counted n (piece len other) ≡ None → n < len
-other_none n len h = grind (arith, nat_tests)
-
 -- nothing stands in an empty list
 pub contains_none : (c : Span) → Contains [] c → ⊥
 contains_none c h = omega (arith, h.1)
@@ -206,9 +177,9 @@ lies_inside done p n o z w = let x = o.one z in (x.0, x.1, (omega (arith, x.2), 
 pub accepts_open : (done : List Piece) (len : ℕ) (k : Role) (ps : List Piece) (n m : ℕ)
     → IsOpen n done → 0 < n → counted n (piece len k) ≡ Some m
     → IsFramed done (piece len k) ps × IsOpen m (done ++ (piece len k) ∷ [])
-accepts_open done len (frame a) ps n m o z h = absurd (frame_some n m len a z h)
+accepts_open done len (frame a) ps n m o z h = absurd (grind (arith, nat_tests))
 accepts_open done len stop ps n m o z h =
-    let e = stop_some n m len z h in (
+    let e : (len ≡ n) × (m ≡ 0) = (grind (arith, nat_tests), grind (arith, nat_tests)) in (
       record {
         whole = inl
             (lies_inside done (piece len stop) n o z (omega (arith, e.0)));
@@ -219,7 +190,7 @@ accepts_open done len stop ps n m o z h =
           (inl (omega (arith, e.0, e.1))),
     )
 accepts_open done len other ps n m o z h =
-    let e = other_some n m len z h in (
+    let e : (len ≤ n) × (m ≡ n - len) = (grind (arith, nat_tests), grind (arith, nat_tests)) in (
       record {
         whole = inl
             (lies_inside done (piece len other) n o z (omega (arith, e.0)));
@@ -241,7 +212,7 @@ pub accepts : (done : List Piece) (len : ℕ) (k : Role) (ps : List Piece) (n m 
 accepts done len k ps n m o h = elim (zero_or n) [
   | inl e ↦
       let o' : IsOpen 0 done = shut_at n done e o in
-      let e' = shut_some n m len k e h in
+      let e' : m ≡ opened k = grind (arith, nat_tests) in
       (accepts_shut done _ ps o', rw e' (opens done len k o'))
   | inr z ↦ accepts_open done len k ps n m o z h
 ]
@@ -252,7 +223,7 @@ pub refuses_role : (done : List Piece) (len : ℕ) (k : Role) (ps : List Piece) 
     → IsFramed done (piece len k) ps → ⊥
 refuses_role done len (frame a) ps n o l z h f = meets_one done _ ps n o z l (f.frame tt)
 refuses_role done len stop ps n o l z h f = elim f.whole [
-  | inl w ↦ let x = o.one z in stop_none n len h
+  | inl w ↦ let x = o.one z in let other : len ≡ n → ⊥ = λ s. grind (arith, nat_tests) in other
       (omega (
         arith,
         w.2,
@@ -263,15 +234,15 @@ refuses_role done len stop ps n o l z h f = elim f.whole [
   | inr w ↦ meets_one done _ ps n o z l w
 ]
 refuses_role done len other ps n o l z h f = elim f.whole [
-  | inl w ↦ omega
-      (arith, other_none n len h, ends_within (total done) n (frame_spans 0 done) o w.0 w.1, w.2)
+  | inl w ↦ let long : n < len = grind (arith, nat_tests) in omega
+      (arith, long, ends_within (total done) n (frame_spans 0 done) o w.0 w.1, w.2)
   | inr w ↦ meets_one done _ ps n o z l w
 ]
 
 -- a refused piece is not framed
 pub refuses : (done : List Piece) (len : ℕ) (k : Role) (ps : List Piece) (n : ℕ) → IsOpen n done
     → 0 < len → counted n (piece len k) ≡ None → IsFramed done (piece len k) ps → ⊥
-refuses done len k ps n o l h = refuses_role done len k ps n o l (shut_none n len k h) h
+refuses done len k ps n o l h = refuses_role done len k ps n o l (grind (arith, nat_tests)) h
 
 -- what the rule says of the pieces that come after those done
 pub record Rest (done ps : List Piece) : Type 0 where
