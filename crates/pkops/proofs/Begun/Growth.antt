@@ -5,20 +5,17 @@ use Rattle.std.proofs.Common.{length-append, take-append-drop, length-drop, appe
 use Rattle.std.specs.Int.{cast_signed}
 use Rattle.byteorder.specs.Endian.{little_number}
 use Rattle.byteorder.specs.Numbers.{little_from-take}
-use Rattle.pkops.specs.declared.fault.Fault.TheVariants.{BadArgument, TooLarge}
-use Rattle.pkops.specs.declared.reading.Unread.TheVariants.{Short}
-use Rattle.pkops.specs.declared.layout.Layout.{Layout}
 use Rattle.pkops.specs.declared.layout.Layout.TheVariants as layout
 use Rattle.pkops.specs.declared.layout.Width.{Width}
 use Rattle.pkops.specs.declared.op.Op.{Op}
 use Rattle.pkops.specs.KnownLayout.{Lies, split_of, field_len, IsFixed}
-use Rattle.pkops.specs.Private.FirstFaults.{arg_at, payload_at, bytes_at}
+use Rattle.pkops.specs.Private.FirstFaults.{arg_at, payload_at, bytes_at, number_at}
 use Rattle.pkops.specs.Scans.{Begun, HasFault}
 use Rattle.pkops.specs.Spelling.{Argument, Nothing, Number, Signed, Float, Counted, instruction}
 use Rattle.pkops.specs.Spelling.{laid, layout_at, size_of, count_limit}
 use Rattle.pkops.specs.Table.{code_of}
 use Rattle.pkops.proofs.ExactReaders.Arguments.{arg_exact}
-use Rattle.pkops.proofs.ExactReaders.Exact.{IsBytes}
+use Rattle.pkops.proofs.ExactReaders.Exact.{IsBytes, BadArgument, TooLarge, Short, Layout}
 use Rattle.pkops.proofs.ExactReaders.Fields.{too_few, enough, few_bytes, many_bytes, not_nil}
 use Rattle.pkops.proofs.ExactReaders.Payloads.{no_count, negative, large, plain}
 use Rattle.pkops.proofs.ExactReaders.Scans.{begun, faulty}
@@ -41,6 +38,12 @@ field_short limit (layout.Counted size signed) from l = rw (no_count limit size 
 none_after : (n : ℕ) (from : List ℕ) → length from ≡ n → drop n from ≡ []
 none_after n from e = ap (drop n) (sym (append-nil from)) ∙ drop_at from [] n e
 
+-- a number that is whole
+number_whole : (n : ℕ) (from : List ℕ) → length from ≡ n
+    → number_at n from ≡ Ok (little_number n from, [])
+number_whole n from e = enough n from (omega arith)
+    ∙ ap (λ (rest : List ℕ). Ok (little_number n from, rest)) (none_after n from e)
+
 -- a field that is whole
 pub field_whole : (limit : ℕ) (lay : Layout) (from : List ℕ) → IsFixed lay
     → length from ≡ field_len lay → (arg : Argument) × (arg_at limit lay from ≡ Ok (arg, []))
@@ -48,31 +51,16 @@ pub field_whole : (limit : ℕ) (lay : Layout) (from : List ℕ) → IsFixed lay
 unfolding arg_at
 field_whole limit layout.Nothing [] f e = (Nothing, refl, refl)
 field_whole limit layout.Nothing (x ∷ from) f e = absurd (omega arith)
-field_whole limit layout.U1 from f e = (
-  Number 1 (little_number 1 from),
-  rw (enough 1 from (omega arith), none_after 1 from e) refl,
-  refl,
-)
-field_whole limit layout.U2 from f e = (
-  Number 2 (little_number 2 from),
-  rw (enough 2 from (omega arith), none_after 2 from e) refl,
-  refl,
-)
-field_whole limit layout.I4 from f e = (
-  Signed (cast_signed w32 (little_number 4 from)),
-  rw (enough 4 from (omega arith), none_after 4 from e) refl,
-  refl,
-)
-field_whole limit layout.U4 from f e = (
-  Number 4 (little_number 4 from),
-  rw (enough 4 from (omega arith), none_after 4 from e) refl,
-  refl,
-)
-field_whole limit layout.U8 from f e = (
-  Number 8 (little_number 8 from),
-  rw (enough 8 from (omega arith), none_after 8 from e) refl,
-  refl,
-)
+field_whole limit layout.U1 from f e =
+    (Number 1 (little_number 1 from), rw (number_whole 1 from e) refl, refl)
+field_whole limit layout.U2 from f e =
+    (Number 2 (little_number 2 from), rw (number_whole 2 from e) refl, refl)
+field_whole limit layout.I4 from f e =
+    (Signed (cast_signed w32 (little_number 4 from)), rw (number_whole 4 from e) refl, refl)
+field_whole limit layout.U4 from f e =
+    (Number 4 (little_number 4 from), rw (number_whole 4 from e) refl, refl)
+field_whole limit layout.U8 from f e =
+    (Number 8 (little_number 8 from), rw (number_whole 8 from e) refl, refl)
 field_whole limit layout.F8 from f e =
     (Float (take 8 from), rw (many_bytes 8 from (omega arith), none_after 8 from e) refl, refl)
 field_whole limit _ from f e = absurd f
@@ -128,11 +116,6 @@ module _ (limit : ℕ) (o : Op) (size : Width) (signed : Bool)
         plain limit size signed (field ++ more) long (rw same under) (rw same within)
         ∙ (ap (λ (n : ℕ). bytes_at n (drop (size_of size) (field ++ more))) same
         ∙ ap (bytes_at count) behind)
-
-    arg_reads : count < count_limit size signed → count ≤ limit
-        → arg_at limit (layout_at o) (field ++ more) ≡ arg_at limit (layout.Counted size signed)
-        (field ++ more)
-    arg_reads under within = ap (λ (l : Layout). arg_at limit l (field ++ more)) is
 
   pub payload_begun : (more : List ℕ) → IsBytes (field ++ more) → count < count_limit size signed
       → count ≤ limit → length more < count → Begun limit (code_of o ∷ (field ++ more))

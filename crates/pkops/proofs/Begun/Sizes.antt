@@ -51,23 +51,15 @@ numbered limit width n value le e = inr (omega (arith, length-bytes_low_first 0 
 argument_short : (limit : ℕ) (lay : Layout) (a : Argument) → HasLines lay → Suits lay a
     → IsWithin limit a → IsShort limit (length (laid lay a))
 argument_short limit layout.Nothing Nothing l s w = inr (omega arith)
-argument_short limit layout.Nothing _ l s w = absurd s
 argument_short limit layout.U1 (Number width n) l s w = numbered limit width 1 n (omega arith) s.0
-argument_short limit layout.U1 _ l s w = absurd s
 argument_short limit layout.U2 (Number width n) l s w = numbered limit width 2 n (omega arith) s.0
-argument_short limit layout.U2 _ l s w = absurd s
 argument_short limit layout.U4 (Number width n) l s w = numbered limit width 4 n (omega arith) s.0
-argument_short limit layout.U4 _ l s w = absurd s
 argument_short limit layout.U8 (Number width n) l s w = numbered limit width 8 n (omega arith) s.0
-argument_short limit layout.U8 _ l s w = absurd s
 argument_short limit layout.I4 (Signed z) l s w =
     inr (omega (arith, length-bytes_low_first 0 4 (cast_unsigned w32 z)))
-argument_short limit layout.I4 _ l s w = absurd s
 argument_short limit layout.F8 (Float bytes) l s w = inr (omega arith)
-argument_short limit layout.F8 _ l s w = absurd s
 argument_short limit (layout.Line most) (Line text) l s w = let short = s.short in
     inr (omega (arith, length-append text (10 ∷ [])))
-argument_short limit (layout.Line most) _ l s w = absurd s
 argument_short limit (layout.Pair most) (Pair first second) l s w =
     let first_short = s.0.short in
     let second_short = s.1.short in
@@ -78,7 +70,6 @@ argument_short limit (layout.Pair most) (Pair first second) l s w =
       length-append first (10 ∷ []),
       length-append second (10 ∷ []),
     ))
-argument_short limit (layout.Pair most) _ l s w = absurd s
 argument_short limit (layout.Counted size signed) (Counted payload) l s w =
     inl
     (omega (
@@ -87,7 +78,7 @@ argument_short limit (layout.Counted size signed) (Counted payload) l s w =
       length-append (little_bytes (size_of size) (length payload)) payload,
       length-bytes_low_first 0 (size_of size) (length payload),
     ))
-argument_short limit (layout.Counted size signed) _ l s w = absurd s
+argument_short limit _ _ l s w = absurd s
 
 below_longest : (limit n : ℕ) → IsShort limit n → n < longest limit
 below_longest limit n (inl h) = let le = le-max_left (limit + 9) 131_075 in omega arith

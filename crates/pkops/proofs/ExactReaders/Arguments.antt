@@ -5,16 +5,14 @@ use Rattle.std.specs.Int.{cast_signed, cast_unsigned}
 use Rattle.std.proofs.lemmas.Int.{to_z-of_z, of_z-to_z}
 use Rattle.std.proofs.Math.Facts.{Fits-of_z, Fits-of_lt, sfits_to_z}
 use Rattle.byteorder.specs.Endian.{little_bytes}
-use Rattle.pkops.specs.declared.layout.Layout.{Layout}
 use Rattle.pkops.specs.declared.layout.Layout.TheVariants as layout
 use Rattle.pkops.specs.declared.layout.Width.{Width}
-use Rattle.pkops.specs.declared.fault.Fault.{Fault}
-use Rattle.pkops.specs.declared.fault.Fault.TheVariants.{UnknownOpcode, BadArgument, TooLarge}
 use Rattle.pkops.specs.Spelling.{Argument, Nothing, Number, Signed, Float, Line, Pair, Counted}
 use Rattle.pkops.specs.Spelling.{Suits, laid, IsLine}
 use Rattle.pkops.specs.Scans.{MayBegin, IsNegative, IsAbove}
 use Rattle.pkops.specs.Private.FirstFaults.{arg_at}
-use Rattle.pkops.proofs.ExactReaders.Exact.{ArgFault, IsArgument, Takes}
+use Rattle.pkops.proofs.ExactReaders.Exact.{ArgFault, IsArgument, Takes, Layout, Fault}
+use Rattle.pkops.proofs.ExactReaders.Exact.{UnknownOpcode, BadArgument, TooLarge}
 use Rattle.pkops.proofs.ExactReaders.Fields.{ok_is, NoFault, self, number_exact, bytes_exact}
 use Rattle.pkops.proofs.ExactReaders.Fields.{some_left}
 use Rattle.pkops.proofs.ExactReaders.Lines.{line_text, line_exact}

@@ -1,10 +1,11 @@
--- What it is for a reading function to be exact: it finds what is laid, and nothing else.
+-- What it is for a reading function to be exact: it finds what is laid, and nothing else. It passes
+-- on the words for how a reading ends.
 use Rattle.std.proofs.Common.{◌≡◌, ◌≢◌, ℕ, ◌<◌, List, [], ◌++◌, get_or, Result, Ok, Err}
-use Rattle.pkops.specs.declared.fault.Fault.{Fault}
-use Rattle.pkops.specs.declared.fault.Fault.TheVariants.{UnknownOpcode, BadArgument, TooLarge}
-use Rattle.pkops.specs.declared.layout.Layout.{Layout}
-use Rattle.pkops.specs.declared.reading.Unread.{Unread}
-use Rattle.pkops.specs.declared.reading.Unread.TheVariants.{Short, Bad}
+pub use Rattle.pkops.specs.declared.fault.Fault.{Fault}
+pub use Rattle.pkops.specs.declared.fault.Fault.TheVariants.{UnknownOpcode, BadArgument, TooLarge}
+pub use Rattle.pkops.specs.declared.layout.Layout.{Layout}
+pub use Rattle.pkops.specs.declared.reading.Unread.{Unread}
+pub use Rattle.pkops.specs.declared.reading.Unread.TheVariants.{Short, Bad}
 use Rattle.pkops.specs.Spelling.{Argument, Suits}
 use Rattle.pkops.specs.Scans.{IsAbove, IsNegative, IsWithin}
 

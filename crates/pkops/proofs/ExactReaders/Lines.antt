@@ -5,15 +5,13 @@ use Rattle.std.proofs.Common.{subst, ◌∙◌, append_assoc, arith, inl, inr}
 use Rattle.std.specs.Prelude.{position}
 use Rattle.std.proofs.lemmas.Bool.{cases_lt, lt-ltb, le-ltb, le-leb, leb-true}
 use Rattle.std.proofs.lemmas.List.{take_at, drop_at, length-append, take-append-le}
-use Rattle.pkops.specs.declared.fault.Fault.{Fault}
-use Rattle.pkops.specs.declared.fault.Fault.TheVariants.{UnknownOpcode, BadArgument, TooLarge}
 use Rattle.pkops.specs.declared.layout.Layout.TheVariants as layout
-use Rattle.pkops.specs.declared.reading.Unread.TheVariants.{Short, Bad}
 use Rattle.pkops.specs.Spelling.{IsLine}
 use Rattle.pkops.specs.Private.FirstFaults.{line_at}
 use Rattle.pkops.specs.Scans.{IsLong}
 use Rattle.pkops.proofs.ExactReaders.LineEnds.{Clean, end_of, end_at, no_end, IsSplit, either_end}
-use Rattle.pkops.proofs.ExactReaders.Exact.{ArgFault, IsBytes, IsExact, Lacks, Takes}
+use Rattle.pkops.proofs.ExactReaders.Exact.{ArgFault, IsBytes, IsExact, Lacks, Takes, Fault}
+use Rattle.pkops.proofs.ExactReaders.Exact.{UnknownOpcode, BadArgument, TooLarge, Short, Bad}
 use Rattle.pkops.proofs.ExactReaders.Fields.{after_fits, not_nil, some_left, ok_is}
 
 pub lt-leb : (a b : ℕ) → b < a → leb a b ≡ false

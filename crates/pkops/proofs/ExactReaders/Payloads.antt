@@ -11,13 +11,11 @@ use Rattle.byteorder.specs.Numbers.{length-bytes_low_first}
 use Rattle.pkops.specs.declared.layout.Layout.TheVariants as layout
 use Rattle.pkops.specs.declared.layout.Width.{Width}
 use Rattle.pkops.specs.declared.layout.Width.TheVariants.{One, Four, Eight}
-use Rattle.pkops.specs.declared.fault.Fault.{Fault}
-use Rattle.pkops.specs.declared.fault.Fault.TheVariants.{UnknownOpcode, BadArgument, TooLarge}
-use Rattle.pkops.specs.declared.reading.Unread.{Unread}
-use Rattle.pkops.specs.declared.reading.Unread.TheVariants.{Short, Bad}
 use Rattle.pkops.specs.Spelling.{size_of, count_limit}
 use Rattle.pkops.specs.Private.FirstFaults.{bytes_at, payload_at}
-use Rattle.pkops.proofs.ExactReaders.Exact.{ArgFault, IsBytes, IsExact, Lacks, Takes}
+use Rattle.pkops.proofs.ExactReaders.Exact.{ArgFault, IsBytes, IsExact, Lacks, Takes, Fault}
+use Rattle.pkops.proofs.ExactReaders.Exact.{UnknownOpcode, BadArgument, TooLarge, Unread, Short}
+use Rattle.pkops.proofs.ExactReaders.Exact.{Bad}
 use Rattle.pkops.proofs.ExactReaders.Fields.{IsBytes-drop, not_nil, some_left, zeros_fit}
 use Rattle.pkops.proofs.ExactReaders.Fields.{length-zeros, bytes_back, too_few, enough, few_bytes}
 use Rattle.pkops.proofs.ExactReaders.Fields.{many_bytes, bytes_again, bytes_takes}

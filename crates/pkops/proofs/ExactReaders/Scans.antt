@@ -4,11 +4,6 @@ use Rattle.std.proofs.Common.{get_or, Option, Some, None, Result, Ok, Err, refl,
 use Rattle.std.proofs.Common.{◌∙◌, arith, inl, inr, length-append, length-drop, take_all, take_at, SomeIff}
 use Rattle.pkops.specs.declared.op.Op.{Op}
 use Rattle.pkops.specs.declared.op.Op.TheVariants as op
-use Rattle.pkops.specs.declared.fault.Fault.{Fault}
-use Rattle.pkops.specs.declared.fault.Fault.TheVariants.{UnknownOpcode, BadArgument, TooLarge}
-use Rattle.pkops.specs.declared.reading.Unread.{Unread}
-use Rattle.pkops.specs.declared.reading.Unread.TheVariants.{Short, Bad}
-use Rattle.pkops.specs.declared.layout.Layout.{Layout}
 use Rattle.pkops.specs.declared.op.Kind.{Kind}
 use Rattle.pkops.specs.Answer.{Answer, IsWhole, Answers}
 use Rattle.pkops.specs.Table.{code_of, kind_of}
@@ -17,7 +12,9 @@ use Rattle.pkops.specs.Spelling.{layout_at, spelling}
 use Rattle.pkops.specs.Contents.{IsGood}
 use Rattle.pkops.specs.Scans.{Begun, HasFault}
 use Rattle.pkops.specs.Private.FirstFaults.{IsUnread, arg_at}
-use Rattle.pkops.proofs.ExactReaders.Exact.{ArgFault, IsArgument, IsBytes, Takes}
+use Rattle.pkops.proofs.ExactReaders.Exact.{ArgFault, IsArgument, IsBytes, Takes, Fault}
+use Rattle.pkops.proofs.ExactReaders.Exact.{UnknownOpcode, BadArgument, TooLarge, Unread, Short}
+use Rattle.pkops.proofs.ExactReaders.Exact.{Bad, Layout}
 use Rattle.pkops.proofs.ExactReaders.Fields.{not_nil}
 use Rattle.pkops.proofs.ExactReaders.Arguments.{arg_exact}
 

@@ -1,13 +1,10 @@
 -- Exact readers of arguments, made of exact readers of what the arguments hold.
 use Rattle.std.proofs.Common.{◌≡◌, ℕ, List, ◌++◌, Result, Ok, Err, sym, ap, subst, ◌∙◌, inl, inr}
-use Rattle.pkops.specs.declared.layout.Layout.{Layout}
-use Rattle.pkops.specs.declared.fault.Fault.{Fault}
-use Rattle.pkops.specs.declared.reading.Unread.{Unread}
-use Rattle.pkops.specs.declared.reading.Unread.TheVariants.{Short, Bad}
 use Rattle.pkops.specs.Spelling.{Argument, Suits, laid}
 use Rattle.pkops.specs.Scans.{IsWithin, MayBegin}
 use Rattle.pkops.specs.Private.FirstFaults.{◌>>=◌, arg_at}
 use Rattle.pkops.proofs.ExactReaders.Exact.{ArgFault, IsArgument, IsBytes, IsExact, Lacks, Takes}
+use Rattle.pkops.proofs.ExactReaders.Exact.{Layout, Fault, Unread, Short, Bad}
 use Rattle.pkops.proofs.ExactReaders.Fields.{ok_is}
 use Rattle.pkops.proofs.ExactReaders.LinePairs.{bind_ok, bind_err}
 

@@ -3,9 +3,6 @@ use Rattle.std.proofs.Common.{◌≡◌, ◌≢◌, ◌⊎◌, ℕ, suc, ◌+◌
 use Rattle.std.proofs.Common.{Result, Ok, Err, refl, sym, ap, subst, ◌∙◌, arith, inl, inr}
 use Rattle.std.proofs.Common.{take-append-drop, length-drop, length-take}
 use Rattle.pkops.specs.declared.op.Op.{Op}
-use Rattle.pkops.specs.declared.fault.Fault.{Fault}
-use Rattle.pkops.specs.declared.fault.Fault.TheVariants.{UnknownOpcode, BadArgument, TooLarge}
-use Rattle.pkops.specs.declared.reading.Unread.{Unread}
 use Rattle.pkops.specs.declared.reading.Unread.TheVariants as stop
 use Rattle.pkops.specs.Answer.{Answer, Whole, More, Bad, Answers}
 use Rattle.pkops.specs.Table.{code_of}
@@ -13,7 +10,8 @@ use Rattle.pkops.specs.Spelling.{Argument, Instruction, instruction, laid, layou
 use Rattle.pkops.specs.Contents.{IsGood}
 use Rattle.pkops.specs.Private.FirstFaults.{arg_at}
 use Rattle.pkops.proofs.ExactReaders.Arguments.{arg_exact}
-use Rattle.pkops.proofs.ExactReaders.Exact.{ArgFault, IsArgument}
+use Rattle.pkops.proofs.ExactReaders.Exact.{ArgFault, IsArgument, Fault, UnknownOpcode, BadArgument}
+use Rattle.pkops.proofs.ExactReaders.Exact.{TooLarge, Unread}
 use Rattle.pkops.proofs.OneOfEach.OneCode.{one_code}
 
 module _ (limit code : ℕ) (from : List ℕ) where
