@@ -1,13 +1,12 @@
 -- What a call of `next_head` does: it takes byte payloads without holding them, under a limit of
 -- their own.
-use Rattle.std.specs.Prelude.{◌≡◌, ◌⊎◌, ℕ, ◌+◌, ◌≤◌, false, IsTrue, List, length, max, Result, Ok}
-use Rattle.std.specs.Prelude.{Err, MatchResult}
+use Rattle.std.specs.Prelude.{◌≡◌, ◌⊎◌, ℕ, ◌+◌, ◌≤◌, false, IsTrue, List, length, max, Result}
 use Rattle.pkops.specs.Inst.{instruction_of}
 use Rattle.pkops.specs.Payloads.{HasCount, is_passed, payload_limit_at}
 use Rattle.pkops.specs.Spelling.{Counted, instruction, spelling}
 use Rattle.pkops.specs.declared.Op.{Op}
 use Rattle.pkops.specs.declared.Refusal.{Refusal}
-use Rattle.pkread.specs.Core.{Phase, Open, Ended, Refused}
+use Rattle.pkread.specs.Core.{Phase, Open, Refused}
 use Rattle.pkread.specs.Admission.{IsAllowed}
 use Rattle.pkread.specs.ReaderCalls.{Gives, ReaderState, ShowsBy, StepsBy}
 use Rattle.pkread.specs.Rows.{Refuses, Sight, Takes, all_bytes}

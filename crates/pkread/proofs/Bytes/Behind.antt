@@ -117,9 +117,6 @@ module _ (c : Count) (o : Op) (old new : Intake) (e : old.bytes ≡ code_of o �
     pub count_held : new.bytes ≡ code_of o ∷ s.bytes
     count_held = s.took.held ∙ ap (λ (b : List ℕ). b ++ s.bytes) e
 
-    pub count_long : size_of c.width + 1 ≤ length new.bytes
-    count_long = let l = s.all in omega (arith, ap length count_held)
-
     pub count_is : (b : List ℕ) (x : ℕ) → b ≡ new.bytes → x ≡ count_in c.width (drop 1 b) →
         x ≡ count_in c.width s.bytes
     count_is b x f g = g ∙ ap (λ (d : List ℕ). count_in c.width (drop 1 d)) (f ∙ count_held)
@@ -154,17 +151,6 @@ module _ (c : Count) (o : Op) (old new : Intake) (e : old.bytes ≡ code_of o �
         let w = counts.large c.limit o c.width c.signed s.bytes count_field s.took.fit
         (rw is at under) (rw is at over) in
         stops_fault laws fields TooLarge (s.took.source, inl (rw count_held w))
-
-    pub counts_field : (x : ℕ) → x ≡ count_in c.width s.bytes →
-        x < count_limit c.width c.signed → x ≤ c.limit → Counts c x old new
-    counts_field x is under within = record {
-      field = s.bytes;
-      took = s.took;
-      len = s.all;
-      count = is;
-      under = under;
-      within = within;
-    }
 
 -- the payload behind a count
 module _ (c : Count) (x : ℕ) (o : Op) (old mid new : Intake) (e : old.bytes ≡ code_of o ∷ [])

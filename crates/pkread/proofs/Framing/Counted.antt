@@ -1,8 +1,9 @@
 -- The counting rule refuses first at the first piece that isn't framed.
 use Rattle.std.proofs.Common.{◌≡◌, ℕ, ◌+◌, ◌-◌, ◌<◌, ◌≤◌, ◌⊎◌, List, [], ◌∷◌, ◌++◌, length}
-use Rattle.std.proofs.Common.{Contains, All, Option, MatchOption, option_map, None, Some, zero, suc}
-use Rattle.std.proofs.Common.{refl, sym, ap, ◌∙◌, subst, inl, inr, arith, append_assoc, append-nil}
+use Rattle.std.proofs.Common.{Contains, All, Option, MatchOption, option_map, None, Some}
+use Rattle.std.proofs.Common.{refl, sym, ap, ◌∙◌, inl, inr, arith, append_assoc, append-nil}
 use Rattle.std.proofs.Common.{zero-add, add_assoc}
+use Rattle.std.proofs.lemmas.Bool.{cases_lt}
 use Rattle.std.proofs.lemmas.Bool.Decides.{nat_tests}
 use Rattle.std.proofs.lemmas.List.Elements.{Contains-push_cases, Contains-append_cases}
 use Rattle.std.proofs.lemmas.List.Elements.{Contains-append_left, Contains-push, All-head, All-tail}
@@ -147,11 +148,6 @@ begins done len m o =
       one = λ z. (_, Contains-push (frame_spans 0 done) _, omega arith, refl);
     })
 
--- a number is 0 or above it
-pub zero_or : (n : ℕ) → (n ≡ 0) ⊎ (0 < n)
-zero_or zero = inl refl
-zero_or (suc n) = inr (omega arith)
-
 -- nothing open: each piece is framed, and goes on
 pub accepts_shut : (done : List Piece) (p : Piece) (ps : List Piece) → IsOpen 0 done
     → IsFramed done p ps
@@ -201,20 +197,17 @@ accepts_open done len other ps n m o z h =
           (inl (omega (arith, e.0, e.1))),
     )
 
--- nothing is open where the number is 0
-pub shut_at : (n : ℕ) (done : List Piece) → n ≡ 0 → IsOpen n done → IsOpen 0 done
-shut_at n done e o = subst (λ (m : ℕ). IsOpen m done) e o
-
 -- an accepted piece is framed, and the rule knows what stays open
 pub accepts : (done : List Piece) (len : ℕ) (k : Role) (ps : List Piece) (n m : ℕ)
     → IsOpen n done → counted n (piece len k) ≡ Some m
     → IsFramed done (piece len k) ps × IsOpen m (done ++ (piece len k) ∷ [])
-accepts done len k ps n m o h = elim (zero_or n) [
-  | inl e ↦
-      let o' : IsOpen 0 done = shut_at n done e o in
+accepts done len k ps n m o h = elim (cases_lt 0 n) [
+  | inr le ↦
+      let e : n ≡ 0 = omega arith in
+      let o' : IsOpen 0 done = rw e at o in
       let e' : m ≡ opened k = grind (arith, nat_tests) in
       (accepts_shut done _ ps o', rw e' (opens done len k o'))
-  | inr z ↦ accepts_open done len k ps n m o z h
+  | inl z ↦ accepts_open done len k ps n m o z h
 ]
 
 -- a piece that is refused isn't framed

@@ -7,7 +7,6 @@ use Rattle.pkops.specs.Inst.{instruction_of}
 use Rattle.pkops.specs.Limits.{Bounds}
 use Rattle.pkops.specs.Payloads.{is_passed, payload_limit}
 use Rattle.pkops.specs.Spelling.{Counted, Instruction, instruction, spelling}
-use Rattle.pkops.specs.declared.Inst.{Inst}
 use Rattle.pkops.specs.declared.Op.{Op}
 use Rattle.pkops.specs.declared.Op.TheVariants as op
 use Rattle.pkops.specs.declared.Refusal.{Refusal}
@@ -24,9 +23,7 @@ use Rattle.pkread.specs.Run.{LentIsRead, ReadingBegins, ReadingGoesOn, ReadsMore
 use Rattle.pkread.specs.Run.{RefusalOfHeads}
 use Rattle.pkread.specs.Rows.{Sight, Takes}
 use Rattle.pkread.specs.Sequence.{IsSequence, NoStop, spellings}
-use Rattle.pkread.specs.declared.reader.Head.{Head}
 use Rattle.pkread.specs.declared.reader.Head.TheVariants as head
-use Rattle.pkread.specs.declared.reader.Next.{Next}
 use Rattle.pkread.specs.declared.reader.Next.TheVariants as next
 
 -- one instruction more is spelled behind the others
