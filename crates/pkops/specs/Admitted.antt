@@ -1,8 +1,7 @@
 -- Which instructions a reader admits.
 use Rattle.std.specs.Prelude.{ℕ, Bool, true, false, nat_le}
-use Rattle.pkops.specs.declared.op.Op.{Op}
 use Rattle.pkops.specs.declared.op.Op.TheVariants as op
-use Rattle.pkops.specs.Spelling.{Argument, Number, Instruction}
+use Rattle.pkops.specs.Spelling.{Op, Argument, Number, Instruction}
 
 -- the highest protocol known (PEP 574)
 abbrev pub highest_protocol : ℕ

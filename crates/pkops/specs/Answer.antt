@@ -2,10 +2,9 @@
 use Rattle.std.specs.Prelude.{ℕ, ◌≤◌, List, length, take}
 use Rattle.pkops.specs.declared.found.Scan.{Scan}
 use Rattle.pkops.specs.declared.found.Scan.TheVariants as scan
-use Rattle.pkops.specs.declared.fault.Fault.{Fault}
 use Rattle.pkops.specs.Inst.{instruction_of}
 use Rattle.pkops.specs.Spelling.{Instruction}
-use Rattle.pkops.specs.Scans.{IsWithin, Spells, Begun, HasFault}
+use Rattle.pkops.specs.Scans.{Fault, IsWithin, Spells, Begun, HasFault}
 
 -- an answer as a value, whatever memory holds its bytes
 pub data Answer : Type 0 where

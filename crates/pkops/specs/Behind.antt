@@ -4,12 +4,10 @@ use Rattle.std.specs.Int.{w32, cast_signed}
 use Rattle.byteorder.specs.Endian.{little_number}
 use Rattle.pkops.specs.declared.form.Form.{Form}
 use Rattle.pkops.specs.declared.form.Form.TheVariants as form
-use Rattle.pkops.specs.declared.layout.Layout.{Layout}
 use Rattle.pkops.specs.declared.layout.Layout.TheVariants as layout
-use Rattle.pkops.specs.declared.op.Op.{Op}
 use Rattle.pkops.specs.KnownLayout.{split_of}
-use Rattle.pkops.specs.Spelling.{Argument, Nothing, Number, Signed, Float, Line, Pair, Counted}
-use Rattle.pkops.specs.Spelling.{instruction, layout_at, shown_arg, size_of, spelling}
+use Rattle.pkops.specs.Spelling.{Op, Argument, Nothing, Number, Signed, Float, Line, Pair, Counted}
+use Rattle.pkops.specs.Spelling.{Layout, instruction, layout_at, shown_arg, size_of, spelling}
 
 -- the argument that bytes spell after their code; `split` is the length of the first of two lines
 abbrev pub argument_behind : Layout → ℕ → List ℕ → Argument

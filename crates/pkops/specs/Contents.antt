@@ -1,14 +1,13 @@
 -- What an argument may contain: the rules that hold beyond its layout.
 use Rattle.std.specs.Prelude.{ℕ, ◌<◌, List, length, ⊤, IsAscii, IsUtf8}
-use Rattle.pkops.specs.declared.op.Op.{Op}
 use Rattle.pkops.specs.declared.op.Op.TheVariants as op
-use Rattle.pkops.specs.declared.contents.Rule.{Rule}
+pub use Rattle.pkops.specs.declared.contents.Rule.{Rule}
 use Rattle.pkops.specs.declared.contents.Rule.TheVariants as rule
 use Rattle.pkops.specs.Escapes.{IsTextLine}
 use Rattle.pkops.specs.Floats.{IsFloatLine}
 use Rattle.pkops.specs.Numerals.{IsIntLine, IsLongLine, IsMemoNumber}
 use Rattle.pkops.specs.OldStrings.{IsStringLine}
-use Rattle.pkops.specs.Spelling.{Argument, Line, Pair, Counted, Instruction, Suits, layout_at}
+use Rattle.pkops.specs.Spelling.{Op, Argument, Line, Pair, Counted, Instruction, Suits, layout_at}
 
 -- the module or name of a global: ASCII and not empty
 pub record IsName (line : List ℕ) : Type 0 where

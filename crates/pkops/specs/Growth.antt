@@ -4,11 +4,9 @@ use Rattle.std.specs.Prelude.{◌≡◌, ◌⊎◌, ◌<◌, ◌≤◌, ◌+◌,
 use Rattle.pkops.specs.KnownLayout.{AreBytes, IsCountField, IsFixed, Lies, count_in, field_len}
 use Rattle.pkops.specs.Payloads.{HasCount}
 use Rattle.pkops.specs.Scans.{Begun, HasFault, longest}
-use Rattle.pkops.specs.Spelling.{Argument, Counted, count_limit, layout_at}
-use Rattle.pkops.specs.Table.{code_of}
+use Rattle.pkops.specs.Spelling.{Width, Argument, Counted, count_limit, layout_at}
+use Rattle.pkops.specs.Table.{Op, code_of}
 use Rattle.pkops.specs.declared.fault.Fault.TheVariants.{BadArgument, TooLarge}
-use Rattle.pkops.specs.declared.layout.Width.{Width}
-use Rattle.pkops.specs.declared.op.Op.{Op}
 
 -- prefixes of instructions
 pub record BegunLaws : Type 0 where

@@ -4,8 +4,7 @@ use Rattle.byteorder.specs.Endian.{little_number}
 use Rattle.pkops.specs.declared.layout.Layout.{Layout}
 use Rattle.pkops.specs.declared.layout.Layout.TheVariants as layout
 use Rattle.pkops.specs.declared.layout.Width.{Width}
-use Rattle.pkops.specs.declared.op.Op.{Op}
-use Rattle.pkops.specs.Spelling.{Argument, Pair, instruction, layout_at, spelling, size_of}
+use Rattle.pkops.specs.Spelling.{Op, Argument, Pair, instruction, layout_at, spelling, size_of}
 use Rattle.pkops.specs.Scans.{IsLaid}
 
 -- the length of the first of two lines; 0 for any other argument

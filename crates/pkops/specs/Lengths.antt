@@ -1,8 +1,7 @@
 -- Lengths of instructions and of their parts.
 use Rattle.std.specs.Prelude.{ℕ, ◌+◌, ◌==◌, List, Option, drop, position}
 use Rattle.pkops.specs.KnownLayout.{count_in}
-use Rattle.pkops.specs.Spelling.{line_feed, size_of}
-use Rattle.pkops.specs.declared.layout.Width.{Width}
+use Rattle.pkops.specs.Spelling.{Width, line_feed, size_of}
 
 -- the most bytes, the code included, that are searched for the ends of lines
 abbrev pub searched : ℕ

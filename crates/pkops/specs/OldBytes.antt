@@ -4,11 +4,10 @@ use Rattle.std.specs.Prelude.{◌≡◌, ℕ, ◌-◌, Bool, ◌&&◌, ◌==◌,
 use Rattle.std.specs.Prelude.{◌++◌, length, take, drop, map, slice_index, Option, Some, None, All}
 use Rattle.std.specs.Prelude.{flat_map, option_map}
 use Rattle.std.specs.Str.Parse.{digits_value}
-use Rattle.pkops.specs.declared.op.Op.{Op}
 use Rattle.pkops.specs.declared.op.Op.TheVariants as op
 use Rattle.pkops.specs.RuleTests.{is_quote}
 use Rattle.pkops.specs.OldStrings.{Item, plain, escape, hex, print_item, IsItem, IsQuote, items_of}
-use Rattle.pkops.specs.Spelling.{Argument, Line, Counted, Instruction}
+use Rattle.pkops.specs.Spelling.{Op, Argument, Line, Counted, Instruction}
 
 -- the byte that an escape letter stands for: line feed for n, carriage return for r, tab for t; any
 -- other stands for itself

@@ -2,10 +2,9 @@
 use Rattle.std.specs.Prelude.{ℕ, Bool, true, false, if◌then◌else◌, List, Option, Some, None}
 use Rattle.std.specs.Prelude.{unwrap_or}
 use Rattle.std.specs.Str.Parse.{digits_value}
-use Rattle.pkops.specs.declared.op.Op.{Op}
 use Rattle.pkops.specs.declared.op.Op.TheVariants as op
 use Rattle.pkops.specs.Numerals.{is_bool_line}
-use Rattle.pkops.specs.Spelling.{Argument, Number, Line, Pair, Instruction}
+use Rattle.pkops.specs.Spelling.{Op, Argument, Number, Line, Pair, Instruction}
 
 -- opcodes whose argument is a memo number
 abbrev pub names_memo_entry : Op → Bool

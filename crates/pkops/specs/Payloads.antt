@@ -2,13 +2,11 @@
 use Rattle.std.specs.Prelude.{◌≡◌, ℕ, ◌==◌, ◌≤◌, ◌||◌, Bool, true, false, List, [], ◌∷◌, length}
 use Rattle.std.specs.Prelude.{if◌then◌else◌}
 use Rattle.pkops.specs.declared.layout.Layout.TheVariants as layout
-use Rattle.pkops.specs.declared.layout.Width.{Width}
-use Rattle.pkops.specs.declared.op.Op.{Op}
 use Rattle.pkops.specs.declared.op.Op.TheVariants as op
 use Rattle.pkops.specs.Limits.{Bounds}
 use Rattle.pkops.specs.KnownLayout.{count_in}
-use Rattle.pkops.specs.Spelling.{layout_at, size_of}
-use Rattle.pkops.specs.Table.{code_of}
+use Rattle.pkops.specs.Spelling.{Width, layout_at, size_of}
+use Rattle.pkops.specs.Table.{Op, code_of}
 
 -- opcodes with a byte payload, for bytes or a bytearray (PEP 574), which may contain any bytes
 abbrev pub is_passed : Op → Bool

@@ -3,13 +3,11 @@ use Rattle.std.specs.Prelude.{◌≡◌, ◌≢◌, ◌⊎◌, ℕ, ◌+◌, ◌
 use Rattle.std.specs.Prelude.{drop, max, ⊤}
 use Rattle.std.specs.List.{AllByRecursion}
 use Rattle.byteorder.specs.Endian.{little_number}
-use Rattle.pkops.specs.declared.op.Op.{Op}
-use Rattle.pkops.specs.declared.layout.Layout.{Layout}
 use Rattle.pkops.specs.declared.layout.Layout.TheVariants as layout
-use Rattle.pkops.specs.declared.fault.Fault.{Fault}
+pub use Rattle.pkops.specs.declared.fault.Fault.{Fault}
 use Rattle.pkops.specs.declared.fault.Fault.TheVariants.{UnknownOpcode, BadArgument, TooLarge}
-use Rattle.pkops.specs.Table.{code_of}
-use Rattle.pkops.specs.Spelling.{Argument, Counted, Instruction, Suits, layout_at, spelling}
+use Rattle.pkops.specs.Table.{Op, code_of}
+use Rattle.pkops.specs.Spelling.{Layout, Argument, Counted, Instruction, Suits, layout_at, spelling}
 use Rattle.pkops.specs.Spelling.{count_limit, size_of, line_feed, IsLine}
 use Rattle.pkops.specs.Contents.{IsGood}
 

@@ -7,16 +7,15 @@ use Rattle.std.specs.Prelude.{◌∷◌, ◌++◌, length, FitsSigned, ⊤}
 use Rattle.std.specs.List.{AllByRecursion}
 use Rattle.std.specs.Int.{w32, cast_unsigned}
 use Rattle.byteorder.specs.Endian.{little_bytes}
-use Rattle.pkops.specs.declared.op.Op.{Op}
-use Rattle.pkops.specs.declared.op.Kind.{Kind}
+pub use Rattle.pkops.specs.declared.op.Op.{Op}
 use Rattle.pkops.specs.declared.op.Kind.TheVariants as kind
-use Rattle.pkops.specs.declared.layout.Layout.{Layout}
+pub use Rattle.pkops.specs.declared.layout.Layout.{Layout}
 use Rattle.pkops.specs.declared.layout.Layout.TheVariants as layout
-use Rattle.pkops.specs.declared.layout.Width.{Width}
+pub use Rattle.pkops.specs.declared.layout.Width.{Width}
 use Rattle.pkops.specs.declared.layout.Width.TheVariants as width
 use Rattle.pkops.specs.declared.arg.Arg.{Arg}
 use Rattle.pkops.specs.declared.arg.Arg.TheVariants as arg
-use Rattle.pkops.specs.Table.{code_of, kind_of}
+use Rattle.pkops.specs.Table.{Kind, code_of, kind_of}
 
 -- an argument as a value, whatever memory holds it: nothing, a number of `width` bytes, a signed
 -- number of four bytes, the bytes of a float, a line, two lines, or a counted payload

@@ -1,8 +1,7 @@
 -- The text that an instruction holds.
 use Rattle.std.specs.Prelude.{◌≡◌, ℕ, List, Option, Some, None, encode_utf8_all, option_map}
-use Rattle.pkops.specs.declared.contents.Rule.{Rule}
 use Rattle.pkops.specs.declared.contents.Rule.TheVariants as rule
-use Rattle.pkops.specs.Contents.{rule_of}
+use Rattle.pkops.specs.Contents.{Rule, rule_of}
 use Rattle.pkops.specs.Escapes.{SpellsText, points_of}
 use Rattle.pkops.specs.Spelling.{Argument, Line, Counted, Instruction}
 

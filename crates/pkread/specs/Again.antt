@@ -2,12 +2,10 @@
 use Rattle.std.specs.Prelude.{◌≡◌, ℕ, ◌<◌, Bool, true, false, List, [], ◌∷◌, Option, Result, Ok}
 use Rattle.std.specs.Prelude.{MatchResult}
 use Rattle.std.specs.Io.KnownBytes.{IsAtEnd}
-use Rattle.pkops.specs.declared.Reason.{Reason}
 use Rattle.pkops.specs.declared.Reason.TheVariants.{Source, TooLarge, OutOfMemory}
-use Rattle.pkops.specs.declared.Refusal.{Refusal}
 use Rattle.pkread.specs.Core.{CoreView, Open, Refused}
-use Rattle.pkread.specs.ReaderCalls.{ReaderState, source_of}
-use Rattle.pkread.specs.Rows.{Sight, Takes, Fails, Refuses, sight, all_bytes}
+use Rattle.pkread.specs.ReaderCalls.{Refusal, ReaderState, source_of}
+use Rattle.pkread.specs.Rows.{Reason, Sight, Takes, Fails, Refuses, sight, all_bytes}
 use Rattle.pkread.specs.Sequence.{CountsAt}
 use Rattle.pkread.specs.declared.reader.Reader.{Reader}
 

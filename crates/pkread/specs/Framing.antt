@@ -64,14 +64,12 @@ MeetsNone s cs = (c : Span) → Contains cs c → Meets s c → ⊥
 -- the role is FRAME
 abbrev pub IsFrame : Role → Type 0
 IsFrame (frame n) = Unit {0}
-IsFrame stop = ⊥
-IsFrame other = ⊥
+IsFrame _ = ⊥
 
 -- the role is STOP
 abbrev pub IsStop : Role → Type 0
-IsStop (frame n) = ⊥
 IsStop stop = Unit {0}
-IsStop other = ⊥
+IsStop _ = ⊥
 
 -- p obeys the frame rules in the list before ++ p ∷ after: it lies within the contents of one
 -- earlier FRAME or overlaps no contents at all; a FRAME overlaps none; and no frame extends beyond
@@ -101,8 +99,7 @@ pub record FirstUnframed (ps : List Piece) (k : ℕ) : Type 0 where
 -- the number of bytes in the frame that a piece opens
 abbrev pub opened : Role → ℕ
 opened (frame n) = n
-opened stop = 0
-opened other = 0
+opened _ = 0
 
 -- the bytes left after a piece inside a frame with n bytes left, or None if it is refused
 abbrev pub left_open : ℕ → ℕ → Role → Option ℕ

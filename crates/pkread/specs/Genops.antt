@@ -8,11 +8,10 @@ use Rattle.pkops.specs.Spelling.{Instruction, spelling}
 use Rattle.pkops.specs.declared.Inst.{Inst}
 use Rattle.pkops.specs.declared.Op.{Op}
 use Rattle.pkops.specs.declared.Op.TheVariants.{Stop}
-use Rattle.pkops.specs.declared.Reason.{Reason}
 use Rattle.pkops.specs.declared.Reason.TheVariants.{Truncated}
 use Rattle.pkops.specs.declared.Refusal.{Refusal}
 use Rattle.pkread.specs.Admission.{IsAllowed}
-use Rattle.pkread.specs.Rows.{IsAmiss}
+use Rattle.pkread.specs.Rows.{Reason, IsAmiss}
 
 -- what contracts see of the iterator: the remaining bytes, the offset of the first of them, the
 -- payload limit, and whether STOP or a refusal was returned

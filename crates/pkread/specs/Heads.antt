@@ -5,10 +5,9 @@ use Rattle.pkops.specs.Inst.{instruction_of}
 use Rattle.pkops.specs.Payloads.{HasCount, is_passed, payload_limit_at}
 use Rattle.pkops.specs.Spelling.{Counted, instruction, spelling}
 use Rattle.pkops.specs.declared.Op.{Op}
-use Rattle.pkops.specs.declared.Refusal.{Refusal}
 use Rattle.pkread.specs.Core.{Phase, Open, Refused}
 use Rattle.pkread.specs.Admission.{IsAllowed}
-use Rattle.pkread.specs.ReaderCalls.{Gives, ReaderState, ShowsBy, StepsBy}
+use Rattle.pkread.specs.ReaderCalls.{Refusal, Gives, ReaderState, ShowsBy, StepsBy}
 use Rattle.pkread.specs.Rows.{Refuses, Sight, Takes, all_bytes}
 use Rattle.pkread.specs.Sequence.{CountsAt}
 use Rattle.pkread.specs.declared.reader.Head.{Head}

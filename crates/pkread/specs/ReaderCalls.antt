@@ -5,13 +5,12 @@ use base.Fml.{GName}
 use Rattle.pkops.specs.Inst.{instruction_of}
 use Rattle.pkops.specs.Limits.{Bounds}
 use Rattle.pkops.specs.Spelling.{Instruction, spelling}
-use Rattle.pkops.specs.declared.Reason.{Reason}
 use Rattle.pkops.specs.declared.Reason.TheVariants.{OutOfMemory}
-use Rattle.pkops.specs.declared.Refusal.{Refusal}
+pub use Rattle.pkops.specs.declared.Refusal.{Refusal}
 use Rattle.pkread.specs.Admission.{IsAllowed}
 use Rattle.pkread.specs.Core.{Phase, Open, Ended, Refused, CoreView, phase_after}
 use Rattle.pkread.specs.Held.{most_held}
-use Rattle.pkread.specs.Rows.{Sight, Takes, Refuses, sight, unread, all_bytes}
+use Rattle.pkread.specs.Rows.{Reason, Sight, Takes, Refuses, sight, unread, all_bytes}
 use Rattle.pkread.specs.Sequence.{CountsAt}
 use Rattle.pkread.specs.declared.reader.Next.{Next}
 use Rattle.pkread.specs.declared.reader.Next.TheVariants as next
@@ -57,9 +56,8 @@ begun source limits = record {
 
 -- STOP was returned
 abbrev pub is_ended : Phase → Bool
-is_ended Open = false
 is_ended Ended = true
-is_ended (Refused r) = false
+is_ended _ = false
 
 -- the last returned instruction was STOP, and nothing was refused since
 abbrev pub has_ended : ReaderState → Bool

@@ -6,7 +6,7 @@ use Rattle.pkops.specs.Answer.{IsWhole}
 use Rattle.pkops.specs.Scans.{Begun, HasFault}
 use Rattle.pkops.specs.Spelling.{Instruction}
 use Rattle.pkops.specs.declared.Fault.TheVariants as fault
-use Rattle.pkops.specs.declared.Reason.{Reason}
+pub use Rattle.pkops.specs.declared.Reason.{Reason}
 use Rattle.pkops.specs.declared.Reason.TheVariants.{Source, Truncated, UnknownOpcode}
 use Rattle.pkops.specs.declared.Reason.TheVariants.{BadArgument, TooLarge, ExtensionCode}
 use Rattle.pkops.specs.declared.Reason.TheVariants.{UnsupportedProtocol, OutOfMemory}

@@ -6,12 +6,11 @@ use Rattle.pkops.specs.Payloads.{payload_limit}
 use Rattle.pkops.specs.Spelling.{Counted, Instruction, instruction, spelling}
 use Rattle.pkops.specs.declared.Inst.{Inst}
 use Rattle.pkops.specs.declared.Op.{Op}
-use Rattle.pkops.specs.declared.Refusal.{Refusal}
 use Rattle.pkread.specs.Admission.{IsAllowedBy}
 use Rattle.pkread.specs.Core.{Phase, Open, Ended, Refused}
 use Rattle.pkread.specs.Heads.{IsSkipped, Skips, RefusesHead, StepsHead}
 use Rattle.pkread.specs.AtHand.{AreNext, IsLent, beyond}
-use Rattle.pkread.specs.ReaderCalls.{Gives, RefusesAt, ReaderState, Steps, begun}
+use Rattle.pkread.specs.ReaderCalls.{Refusal, Gives, RefusesAt, ReaderState, Steps, begun}
 use Rattle.pkread.specs.Rows.{Sight, Takes}
 use Rattle.pkread.specs.Sequence.{IsSequence, NoStop, StopIsLast, spellings}
 use Rattle.pkread.specs.declared.reader.Head.{Head}

@@ -10,11 +10,10 @@ use Rattle.pkops.specs.declared.layout.Layout.{Layout}
 use Rattle.pkops.specs.declared.layout.Layout.TheVariants as layout
 use Rattle.pkops.specs.declared.layout.Width.{Width}
 use Rattle.pkops.specs.declared.layout.Width.TheVariants as width
-use Rattle.pkops.specs.declared.op.Op.{Op}
 use Rattle.pkops.specs.Payloads.{HasCount}
 use Rattle.pkops.specs.Scans.{Begun, IsWithin, count_len}
 use Rattle.pkops.specs.Spelling.{Argument, Counted, Suits, count_limit, laid, layout_at, size_of}
-use Rattle.pkops.specs.Table.{code_of}
+use Rattle.pkops.specs.Table.{Op, code_of}
 use Rattle.pkops.proofs.ExactReaders.Payloads.{cut, limit_fits}
 use Rattle.pkops.proofs.Begun.Sizes.{begun_is_short}
 

@@ -6,14 +6,12 @@ use Rattle.std.specs.Int.{cast_signed}
 use Rattle.byteorder.specs.Endian.{little_number}
 use Rattle.byteorder.specs.Numbers.{little_from-take}
 use Rattle.pkops.specs.declared.layout.Layout.TheVariants as layout
-use Rattle.pkops.specs.declared.layout.Width.{Width}
-use Rattle.pkops.specs.declared.op.Op.{Op}
 use Rattle.pkops.specs.KnownLayout.{Lies, split_of, field_len, IsFixed}
 use Rattle.pkops.specs.Private.FirstFaults.{arg_at, payload_at, bytes_at, number_at}
 use Rattle.pkops.specs.Scans.{Begun, HasFault}
 use Rattle.pkops.specs.Spelling.{Argument, Nothing, Number, Signed, Float, Counted, instruction}
-use Rattle.pkops.specs.Spelling.{laid, layout_at, size_of, count_limit}
-use Rattle.pkops.specs.Table.{code_of}
+use Rattle.pkops.specs.Spelling.{Width, laid, layout_at, size_of, count_limit}
+use Rattle.pkops.specs.Table.{Op, code_of}
 use Rattle.pkops.proofs.ExactReaders.Arguments.{arg_exact}
 use Rattle.pkops.proofs.ExactReaders.Exact.{IsBytes, BadArgument, TooLarge, Short, Layout}
 use Rattle.pkops.proofs.ExactReaders.Fields.{too_few, enough, few_bytes, many_bytes, not_nil}

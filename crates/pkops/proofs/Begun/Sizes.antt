@@ -7,15 +7,12 @@ use Rattle.std.proofs.lemmas.Bool.{cases_lt}
 use Rattle.std.specs.Int.{cast_unsigned}
 use Rattle.byteorder.specs.Numbers.{length-bytes_low_first}
 use Rattle.byteorder.specs.Endian.{little_bytes}
-use Rattle.pkops.specs.declared.op.Kind.{Kind}
 use Rattle.pkops.specs.declared.op.Kind.TheVariants as kind
-use Rattle.pkops.specs.declared.layout.Layout.{Layout}
 use Rattle.pkops.specs.declared.layout.Layout.TheVariants as layout
-use Rattle.pkops.specs.declared.layout.Width.{Width}
 use Rattle.pkops.specs.declared.layout.Width.TheVariants as width
-use Rattle.pkops.specs.Table.{kind_of}
+use Rattle.pkops.specs.Table.{Kind, kind_of}
 use Rattle.pkops.specs.Spelling.{Argument, Nothing, Number, Signed, Float, Line, Pair, Counted}
-use Rattle.pkops.specs.Spelling.{Suits, laid, layout_of, layout_at, size_of}
+use Rattle.pkops.specs.Spelling.{Width, Layout, Suits, laid, layout_of, layout_at, size_of}
 use Rattle.pkops.specs.Scans.{IsWithin, Begun, count_len, longest}
 use Rattle.pkops.proofs.ExactReaders.Fields.{some_left}
 
@@ -37,8 +34,7 @@ has_lines _ = tt
 
 small_size : (size : Width) → size_of size ≤ 8
 small_size width.One = omega arith
-small_size width.Four = omega arith
-small_size width.Eight = omega arith
+small_size _ = omega arith
 
 abbrev IsShort : ℕ → ℕ → Type 0
 IsShort limit n = (n ≤ limit + 8) ⊎ (n ≤ 131_074)

@@ -2,10 +2,9 @@
 use Rattle.std.proofs.Common.{◌≡◌, ℕ, true, MatchBool, List, Option, Some, None, refl, ap, is_some}
 use Rattle.std.proofs.lemmas.Bool.{and_parts, and_from, cases_from_iff}
 use Rattle.std.proofs.lemmas.Str.{is_utf8-from_IsUtf8, IsUtf8-from_is_utf8}
-use Rattle.pkops.specs.declared.contents.Rule.{Rule}
 use Rattle.pkops.specs.declared.contents.Rule.TheVariants as rule
 use Rattle.pkops.specs.Spelling.{Argument, Line, Pair, Counted}
-use Rattle.pkops.specs.Contents.{Keeps}
+use Rattle.pkops.specs.Contents.{Rule, Keeps}
 use Rattle.pkops.specs.RuleTests.{passes, is_name}
 use Rattle.pkops.specs.Escapes.{IsTextLine, points_of}
 use Rattle.pkops.proofs.ContentsRules.EscapesSpelled.{points_of_spelled, spelled_points}

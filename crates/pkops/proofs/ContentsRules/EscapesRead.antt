@@ -23,13 +23,11 @@ use Rattle.pkops.proofs.ContentsRules.Loop.{read_so, with_item}
 
 abbrev pub ended : State → Bool
 ended Outside = true
-ended Behind = false
-ended (Digits left value) = false
+ended _ = false
 
 pub not_ended : (state : State) → state ≢ Outside → ended state ≡ false
 not_ended Outside h = absurd (h refl)
-not_ended Behind h = refl
-not_ended (Digits left value) h = refl
+not_ended _ h = refl
 
 -- how a line is read, and its code points written as text
 abbrev pub escapes : Machine
@@ -126,8 +124,7 @@ Completes (Digits left value) bytes points =
 
 at_end : (state : State) → ended state ≡ true → Completes state [] []
 at_end Outside e = ([], All-nil IsCharacter, refl, refl)
-at_end Behind e = absurd cc
-at_end (Digits left value) e = absurd cc
+at_end _ e = absurd cc
 
 -- no digit of an escape yet
 begun : (letter size : ℕ) → IsForm letter size → 1 ≤ size → IsSoFar letter size [] size 0
@@ -171,7 +168,8 @@ further left value byte letter size digits far h ge =
     }
 
 leads : (state : State) (byte : ℕ) (bytes points : List ℕ) → IfSome (escape_step state byte)
-    (λ next. Completes next.0 bytes points → Completes state (byte ∷ bytes) (with_item next.1 points))
+    (λ next. Completes next.0 bytes points
+    → Completes state (byte ∷ bytes) (with_item next.1 points))
 leads Outside byte bytes points = elim (cases_Bool (eqb byte 92)) [
   | inl b ↦ rw b (λ ih. subst (λ (x : ℕ). SpellsText (x ∷ bytes) points)
       (sym (eqb-true byte 92 b)) ih)
@@ -269,7 +267,8 @@ characters_read (character ∷ characters) h =
     ∙ ap (option_map (with_item (Some (code_point character))))
     (characters_read characters (All-tail IsCharacter character characters h))
 
-spelled_is_read : (line points : List ℕ) → SpellsText line points → code_points Outside line ≡ Some points
+spelled_is_read : (line points : List ℕ) → SpellsText line points
+    → code_points Outside line ≡ Some points
 spelled_is_read line points (characters, all, line_is, points_is) =
     ap (code_points Outside) line_is
     ∙ (characters_read characters all ∙ ap (λ (p : List ℕ). Some p) (sym points_is))
@@ -279,7 +278,8 @@ spelled_is_read line points (characters, all, line_is, points_is) =
 pub named_is : (line : List ℕ) → code_points Outside line ≡ points_of line
 named_is line =
     alike (code_points Outside line) (points_of line)
-    (λ points e. points_of_spelled line points (read_so escapes Completes at_end leads line Outside points e))
+    (λ points e. points_of_spelled line points
+    (read_so escapes Completes at_end leads line Outside points e))
     (λ points e. spelled_is_read line points (spelled_points line points e))
 
 nothing_before : (read : Option (List ℕ)) → joined escapes [] read ≡ option_map encode_utf8_all read

@@ -5,7 +5,8 @@ use Rattle.std.proofs.Common.{append_assoc, arith, add-one, drop-cons, IfSome, i
 use Rattle.std.proofs.Common.{option_and_then, append-nil, length-drop}
 use Rattle.std.proofs.lemmas.List.{nil_from_length}
 
--- where a line may end, where each byte leads and which item it completes, and how items are written
+-- where a line may end, where each byte leads and which item it completes, and how items are
+-- written
 pub record Machine : Type 1 where
   pub Point : Type 0
   pub ended : Point → Bool

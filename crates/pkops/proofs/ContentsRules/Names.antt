@@ -5,11 +5,10 @@ use Rattle.std.specs.List.{list_all}
 use Rattle.std.specs.Char.{is_ascii}
 use Rattle.std.proofs.lemmas.Bool.{and_parts, and_from, ltb-true, lt-ltb}
 use Rattle.std.proofs.lemmas.Str.{IsUtf8-from_ascii}
-use Rattle.pkops.specs.declared.op.Op.{Op}
 use Rattle.pkops.specs.declared.op.Op.TheVariants as op
 use Rattle.pkops.specs.declared.arg.Arg.{Arg}
 use Rattle.pkops.specs.declared.arg.Arg.TheVariants as arg
-use Rattle.pkops.specs.Spelling.{Argument, Instruction, Pair, instruction, shown_arg}
+use Rattle.pkops.specs.Spelling.{Op, Argument, Instruction, Pair, instruction, shown_arg}
 use Rattle.pkops.specs.Contents.{IsName, IsGood}
 use Rattle.pkops.specs.RuleTests.{is_name}
 

@@ -22,15 +22,11 @@ use Rattle.pkops.proofs.ContentsRules.OldStringsSpelled.{items_of_printed, items
 
 abbrev pub ended : Place → Bool
 ended Outside = true
-ended Behind = false
-ended High = false
-ended (Low value) = false
+ended _ = false
 
 pub not_ended : (place : Place) → place ≢ Outside → ended place ≡ false
 not_ended Outside h = absurd (h refl)
-not_ended Behind h = refl
-not_ended High h = refl
-not_ended (Low value) h = refl
+not_ended _ h = refl
 
 -- how what these quotes enclose is read
 abbrev pub old_items : (quote : ℕ) → Machine
@@ -78,9 +74,7 @@ two_digits high low = omega arith
 
 at_end : (quote : ℕ) (place : Place) → ended place ≡ true → Completes quote place [] []
 at_end quote Outside e = ([], All-nil (IsItem quote), refl, refl)
-at_end quote Behind e = absurd cc
-at_end quote High e = absurd cc
-at_end quote (Low value) e = absurd cc
+at_end quote _ e = absurd cc
 
 -- one byte, given what the bytes after it do from wherever it leads
 leads : (quote : ℕ) (place : Place) (byte : ℕ) (line bytes : List ℕ)
@@ -142,7 +136,8 @@ item_read quote (plain byte) line h =
     ) refl)
 item_read quote (escape letter) line h =
     passes (old_items quote) Outside Behind 92 (letter ∷ line) refl
-    ∙ completes (old_items quote) Behind Outside letter (letter_byte letter) line (rw (not_x letter h, h) refl)
+    ∙ completes (old_items quote) Behind Outside letter (letter_byte letter) line
+    (rw (not_x letter h, h) refl)
 item_read quote (hex high low) line h =
     passes (old_items quote) Outside Behind 92 (120 ∷ high ∷ low ∷ line) refl
     ∙ (passes (old_items quote) Behind High 120 (high ∷ low ∷ line) refl
@@ -178,8 +173,8 @@ spelled_between quote line bytes e =
 pub spelled_is : (quote : ℕ) (line : List ℕ) → spelled quote Outside line ≡ bytes_between quote line
 spelled_is quote line =
     alike (spelled quote Outside line) (bytes_between quote line)
-    (λ bytes e. let s = read_so (old_items quote) (Completes quote) (at_end quote) (leads quote) line
-    Outside bytes e in
+    (λ bytes e. let s = read_so (old_items quote) (Completes quote) (at_end quote) (leads quote)
+    line Outside bytes e in
     between_spelled quote line s.0 s.1 s.2 ∙ ap (λ (b : List ℕ). Some b) (sym s.3))
     (λ bytes e. let s = spelled_between quote line bytes e in
     ap (spelled quote Outside) s.2
@@ -196,7 +191,8 @@ nothing_before quote (Some bytes) = refl
 
 pub joined_is : (bytes : List ℕ) (quote : ℕ) (line : List ℕ) → bytes ≡ []
     → joined (old_items quote) bytes (spelled quote Outside line) ≡ bytes_between quote line
-joined_is bytes quote line e = ap (λ (b : List ℕ). joined (old_items quote) b (spelled quote Outside line)) e
+joined_is bytes quote line e =
+    ap (λ (b : List ℕ). joined (old_items quote) b (spelled quote Outside line)) e
     ∙ (nothing_before quote (spelled quote Outside line) ∙ spelled_is quote line)
 
 -- ---- the line

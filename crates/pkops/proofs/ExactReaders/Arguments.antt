@@ -6,9 +6,8 @@ use Rattle.std.proofs.lemmas.Int.{to_z-of_z, of_z-to_z}
 use Rattle.std.proofs.Math.Facts.{Fits-of_z, Fits-of_lt, sfits_to_z}
 use Rattle.byteorder.specs.Endian.{little_bytes}
 use Rattle.pkops.specs.declared.layout.Layout.TheVariants as layout
-use Rattle.pkops.specs.declared.layout.Width.{Width}
 use Rattle.pkops.specs.Spelling.{Argument, Nothing, Number, Signed, Float, Line, Pair, Counted}
-use Rattle.pkops.specs.Spelling.{Suits, laid, IsLine}
+use Rattle.pkops.specs.Spelling.{Width, Suits, laid, IsLine}
 use Rattle.pkops.specs.Scans.{MayBegin, IsNegative, IsAbove}
 use Rattle.pkops.specs.Private.FirstFaults.{arg_at}
 use Rattle.pkops.proofs.ExactReaders.Exact.{ArgFault, IsArgument, Takes, Layout, Fault}

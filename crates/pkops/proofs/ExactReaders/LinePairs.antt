@@ -160,7 +160,8 @@ module _ (limit most : ℕ) where
   pair_faulty bytes BadArgument h = absurd h
   pair_faulty bytes TooLarge h = elim h [
     | inl long ↦ rw ((line_exact limit most).faulty bytes TooLarge long) refl
-    | inr s ↦ first_read bytes s.0 s.1 s.2 s.3 ∙ rw ((line_exact limit most).faulty s.1 TooLarge s.4) refl
+    | inr s ↦ first_read bytes s.0 s.1 s.2 s.3
+        ∙ rw ((line_exact limit most).faulty s.1 TooLarge s.4) refl
   ]
 
   pub pair_exact : IsExact (pair_at most) (IsPair most) (λ x _. IsPair most x) pair_text

@@ -9,9 +9,8 @@ use Rattle.byteorder.specs.Endian.{little_bytes, little_number, little_from}
 use Rattle.byteorder.specs.Numbers.{little_from-cons, little_number-reads_back}
 use Rattle.byteorder.specs.Numbers.{length-bytes_low_first}
 use Rattle.pkops.specs.declared.layout.Layout.TheVariants as layout
-use Rattle.pkops.specs.declared.layout.Width.{Width}
 use Rattle.pkops.specs.declared.layout.Width.TheVariants.{One, Four, Eight}
-use Rattle.pkops.specs.Spelling.{size_of, count_limit}
+use Rattle.pkops.specs.Spelling.{Width, size_of, count_limit}
 use Rattle.pkops.specs.Private.FirstFaults.{bytes_at, payload_at}
 use Rattle.pkops.proofs.ExactReaders.Exact.{ArgFault, IsBytes, IsExact, Lacks, Takes, Fault}
 use Rattle.pkops.proofs.ExactReaders.Exact.{UnknownOpcode, BadArgument, TooLarge, Unread, Short}
@@ -53,11 +52,9 @@ room Eight false k h = let small : k ≤ 7 = omega arith in let le : 256 ^ k ≤
 
 pub limit_fits : (size : Width) (signed : Bool) → count_limit size signed ≤ 256 ^ size_of size
 limit_fits One true = omega arith
-limit_fits One false = omega arith
 limit_fits Four true = omega arith
-limit_fits Four false = omega arith
 limit_fits Eight true = omega arith
-limit_fits Eight false = omega arith
+limit_fits size false = omega arith
 
 pub record IsPayload (limit : ℕ) (size : Width) (signed : Bool) (payload : List ℕ) : Type 0 where
   pub fits : length payload < count_limit size signed
@@ -203,7 +200,8 @@ module _ (limit : ℕ) (size : Width) (signed : Bool) (bytes : List ℕ) where
     | minus le over f ↦ let same : BadArgument ≡ fault = cc in
         subst (λ (d : Fault). ArgFault limit (layout.Counted size signed) d bytes) same (le, over)
     | much le under over f ↦ let same : TooLarge ≡ fault = cc in
-        subst (λ (d : Fault). ArgFault limit (layout.Counted size signed) d bytes) same (le, under, over)
+        subst (λ (d : Fault). ArgFault limit (layout.Counted size signed) d bytes) same
+        (le, under, over)
     | fine le under within f ↦ elim (cases_lt (length after) count) [
       | inl lt ↦ absurd (let g = few_bytes count after lt in cc)
       | inr long ↦ absurd (let g = many_bytes count after long in cc)

@@ -1,12 +1,11 @@
 -- What the reader of an argument finds, said of the instruction.
 use Rattle.std.proofs.Common.{◌≡◌, ℕ, ◌-◌, ◌≤◌, List, [], ◌∷◌, ◌++◌, length, take, drop}
 use Rattle.std.proofs.Common.{get_or, Option, Some, None, Result, Ok, Err, refl, sym, ap, subst}
-use Rattle.std.proofs.Common.{◌∙◌, arith, inl, inr, length-append, length-drop, take_all, take_at, SomeIff}
-use Rattle.pkops.specs.declared.op.Op.{Op}
+use Rattle.std.proofs.Common.{◌∙◌, arith, inl, inr, length-append, length-drop, take_all, take_at}
+use Rattle.std.proofs.Common.{SomeIff}
 use Rattle.pkops.specs.declared.op.Op.TheVariants as op
-use Rattle.pkops.specs.declared.op.Kind.{Kind}
 use Rattle.pkops.specs.Answer.{Answer, IsWhole, Answers}
-use Rattle.pkops.specs.Table.{code_of, kind_of}
+use Rattle.pkops.specs.Table.{Kind, Op, code_of, kind_of}
 use Rattle.pkops.specs.Spelling.{Argument, Nothing, Instruction, instruction, laid, layout_of}
 use Rattle.pkops.specs.Spelling.{layout_at, spelling}
 use Rattle.pkops.specs.Contents.{IsGood}

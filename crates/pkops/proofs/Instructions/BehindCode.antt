@@ -11,14 +11,13 @@ use Rattle.pkops.specs.declared.form.Form.{Form}
 use Rattle.pkops.specs.declared.form.Form.TheVariants as form
 use Rattle.pkops.specs.declared.layout.Layout.{Layout}
 use Rattle.pkops.specs.declared.layout.Layout.TheVariants as layout
-use Rattle.pkops.specs.declared.op.Op.{Op}
 use Rattle.pkops.specs.Behind.{argument_behind, argument_in, spelled_by, split_by}
 use Rattle.pkops.specs.Contents.{IsGood}
 use Rattle.pkops.specs.KnownLayout.{Lies, split_of}
 use Rattle.pkops.specs.Scans.{IsWithin}
 use Rattle.pkops.specs.Spelling.{Argument, Nothing, Number, Signed, Float, Line, Pair, Counted}
 use Rattle.pkops.specs.Spelling.{Suits, instruction, laid, layout_at, line_feed, size_of, spelling}
-use Rattle.pkops.specs.Table.{code_of}
+use Rattle.pkops.specs.Table.{Op, code_of}
 
 number_back : (width n : ℕ) → n < 256 ^ width → little_number width (little_bytes width n) ≡ n
 number_back width n h =

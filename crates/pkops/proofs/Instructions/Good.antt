@@ -3,12 +3,10 @@ use Rattle.std.proofs.Common.{◌≡◌, ◌≢◌, ℕ, ◌^◌, ◌<◌, ◌�
 use Rattle.std.specs.List.{AllByRecursion}
 use Rattle.std.specs.Coded.{Coded-set, coded_ℕ, le_prop}
 use Rattle.std.proofs.Math.Logic.{∥∥₁_elim, ∥∥₁_map}
-use Rattle.pkops.specs.declared.layout.Layout.{Layout}
 use Rattle.pkops.specs.declared.layout.Layout.TheVariants as layout
 use Rattle.pkops.specs.Spelling.{Argument, Nothing, Number, Signed, Float, Line, Pair, Counted}
-use Rattle.pkops.specs.Spelling.{Instruction, IsLine, Suits, layout_at}
-use Rattle.pkops.specs.declared.contents.Rule.{Rule}
-use Rattle.pkops.specs.Contents.{rule_of, Keeps, IsGood}
+use Rattle.pkops.specs.Spelling.{Layout, Instruction, IsLine, Suits, layout_at}
+use Rattle.pkops.specs.Contents.{Rule, rule_of, Keeps, IsGood}
 use Rattle.pkops.proofs.ContentsRules.Decided.{keeps_is, passes_of}
 use Rattle.std.proofs.Math.Bool.{Bool-set}
 

@@ -4,12 +4,11 @@ use Rattle.std.proofs.Common.{◌++◌, length, take, drop, get_or, Option, Some
 use Rattle.std.proofs.Common.{◌∙◌, arith, inl, inr, flat_map, option_map, take_at, length-append}
 use Rattle.std.proofs.lemmas.Bool.{and_parts, cases_Bool, eqb-true, eq-eqb, leb-true, le-leb}
 use Rattle.std.proofs.Math.Seq.{get_or-append_seam}
-use Rattle.pkops.specs.declared.op.Op.{Op}
 use Rattle.pkops.specs.declared.op.Op.TheVariants as op
 use Rattle.pkops.specs.OldBytes.{NamesBytes, NamesBytesBy, SpellsBytes, bytes_between, bytes_by}
 use Rattle.pkops.specs.OldBytes.{bytes_of_line, is_in_quotes, old_bytes}
 use Rattle.pkops.specs.OldStrings.{IsQuote, print_item}
-use Rattle.pkops.specs.Spelling.{Argument, Line, Counted, Instruction}
+use Rattle.pkops.specs.Spelling.{Op, Argument, Line, Counted, Instruction}
 use Rattle.pkops.proofs.ContentsRules.OldStrings.{between_spelled, framed, is_quote_of, quote_is}
 use Rattle.pkops.proofs.ContentsRules.OldStrings.{spelled_between}
 

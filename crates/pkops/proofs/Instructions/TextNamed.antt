@@ -3,10 +3,9 @@ use Rattle.std.proofs.Common.{MatchOption, ◌≡◌, ◌↔◌, ℕ, List, Opti
 use Rattle.std.proofs.Common.{◌∙◌, true, encode_utf8_all, option_map}
 use Rattle.std.specs.List.{list_all}
 use Rattle.pkops.specs.declared.op.Op.TheVariants as op
-use Rattle.pkops.specs.declared.contents.Rule.{Rule}
 use Rattle.pkops.specs.declared.contents.Rule.TheVariants as rule
 use Rattle.pkops.specs.Spelling.{Argument, Line, Counted, Instruction, instruction}
-use Rattle.pkops.specs.Contents.{rule_of}
+use Rattle.pkops.specs.Contents.{Rule, rule_of}
 use Rattle.pkops.specs.Escapes.{SpellsText, is_plain_ascii, points_of}
 use Rattle.pkops.specs.Text.{NamesTextBy, NamesText, text_by, text_bytes}
 use Rattle.pkops.proofs.ContentsRules.EscapesPlain.{plain_text}

@@ -2,10 +2,9 @@
 use Rattle.std.proofs.Common.{◌≡◌, ◌≢◌, ◌⊎◌, ℕ, suc, ◌+◌, List, [], ◌∷◌, ◌++◌, length, take, drop}
 use Rattle.std.proofs.Common.{Result, Ok, Err, refl, sym, ap, subst, ◌∙◌, arith, inl, inr}
 use Rattle.std.proofs.Common.{take-append-drop, length-drop, length-take}
-use Rattle.pkops.specs.declared.op.Op.{Op}
 use Rattle.pkops.specs.declared.reading.Unread.TheVariants as stop
 use Rattle.pkops.specs.Answer.{Answer, Whole, More, Bad, Answers}
-use Rattle.pkops.specs.Table.{code_of}
+use Rattle.pkops.specs.Table.{Op, code_of}
 use Rattle.pkops.specs.Spelling.{Argument, Instruction, instruction, laid, layout_at, spelling}
 use Rattle.pkops.specs.Contents.{IsGood}
 use Rattle.pkops.specs.Private.FirstFaults.{arg_at}

@@ -3,10 +3,9 @@ use Rattle.std.proofs.Common.{◌≡◌, ◌≢◌, ℕ, zero, suc, ◌+◌, Boo
 use Rattle.std.proofs.Common.{Option, Some, None, IfSome, IfNone, slice_index_or, refl, ap, ◌∙◌}
 use Rattle.std.proofs.Common.{arith, inl, inr, ◌==◌}
 use Rattle.std.proofs.lemmas.Bool.{cases_Bool, eqb-true}
-use Rattle.pkops.specs.declared.op.Op.{Op}
 use Rattle.pkops.specs.declared.op.Op.TheVariants as op
 use Rattle.pkops.specs.declared.codes.TheConstants.{OPCODES}
-use Rattle.pkops.specs.Table.{code_of}
+use Rattle.pkops.specs.Table.{Op, code_of}
 
 abbrev op_of : ℕ → Option Op
 op_of code = slice_index_or OPCODES code None

@@ -1,8 +1,7 @@
 -- No spelling begins another.
 use Rattle.std.proofs.Common.{◌≡◌, ℕ, ◌+◌, ◌≤◌, List, [], ◌++◌, length, refl, sym, ap, subst, ◌∙◌}
 use Rattle.std.proofs.Common.{arith, append-nil}
-use Rattle.pkops.specs.declared.op.Op.{Op}
-use Rattle.pkops.specs.Table.{code_of}
+use Rattle.pkops.specs.Table.{Op, code_of}
 use Rattle.pkops.specs.Spelling.{Argument, Counted, Instruction, instruction, laid, layout_at}
 use Rattle.pkops.specs.Spelling.{spelling}
 use Rattle.pkops.specs.Scans.{IsWithin, Spells}

@@ -27,6 +27,5 @@ escape_step (Digits left value) byte =
 
 -- the value of an escape so far is below 0x110000
 abbrev pub IsPointSoFar : State → Type 0
-IsPointSoFar Outside = ⊤
-IsPointSoFar Behind = ⊤
 IsPointSoFar (Digits left value) = value < 0x11_0000
+IsPointSoFar _ = ⊤

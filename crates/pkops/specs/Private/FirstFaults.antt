@@ -4,16 +4,14 @@ use Rattle.std.specs.Prelude.{◌≡◌, ℕ, ◌+◌, List, length, take, drop,
 use Rattle.std.specs.Prelude.{Result, Ok, Err, nat_lt, nat_le, position, ◌==◌, if◌then◌else◌}
 use Rattle.std.specs.Int.{w32, cast_signed}
 use Rattle.byteorder.specs.Endian.{little_number}
-use Rattle.pkops.specs.declared.layout.Layout.{Layout}
 use Rattle.pkops.specs.declared.layout.Layout.TheVariants as layout
-use Rattle.pkops.specs.declared.layout.Width.{Width}
 use Rattle.pkops.specs.declared.fault.Fault.TheVariants.{BadArgument, TooLarge}
 use Rattle.pkops.specs.declared.reading.Unread.{Unread}
 use Rattle.pkops.specs.declared.reading.Unread.TheVariants.{Short, Bad}
 use Rattle.pkops.specs.Answer.{Answer}
 use Rattle.pkops.specs.Answer as answer
 use Rattle.pkops.specs.Spelling.{Argument, Nothing, Number, Signed, Float, Line, Pair, Counted}
-use Rattle.pkops.specs.Spelling.{count_limit, size_of}
+use Rattle.pkops.specs.Spelling.{Width, Layout, count_limit, size_of}
 
 infixl 10 ◌>>=◌
 -- reads, then continues with what was read; the first fault ends the reading

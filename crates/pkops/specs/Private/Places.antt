@@ -24,7 +24,5 @@ place_step quote (Low value) byte =
 
 -- the value of a digit that was read is below 16
 abbrev pub HoldsDigit : Place → Type 0
-HoldsDigit Outside = ⊤
-HoldsDigit Behind = ⊤
-HoldsDigit High = ⊤
 HoldsDigit (Low value) = value < 16
+HoldsDigit _ = ⊤

@@ -12,14 +12,13 @@ use Rattle.pkops.specs.declared.Layout.TheVariants as layout
 use Rattle.pkops.specs.declared.Width.{Width}
 use Rattle.pkops.specs.declared.Width.TheVariants as width
 use Rattle.pkops.specs.declared.Op.{Op}
-use Rattle.pkops.specs.declared.Reason.{Reason}
 use Rattle.pkops.specs.declared.Reason.TheVariants.{Source, Truncated, BadArgument}
 use Rattle.pkops.specs.declared.Reason.TheVariants.{TooLarge, OutOfMemory}
 use Rattle.pkread.proofs.Bytes.Taken.{AreBytes-both, AreBytes-take, lacks_after, took_both}
 use Rattle.pkread.proofs.Bytes.Taken.{took_none}
 use Rattle.pkread.specs.Private.Arms.{Counts, Grows, RowBehind, Stops}
 use Rattle.pkread.specs.Private.Progress.{Intake}
-use Rattle.pkread.specs.Rows.{FrontsBegin, Sight}
+use Rattle.pkread.specs.Rows.{Reason, FrontsBegin, Sight}
 use Rattle.pkread.specs.Private.Reads.{LackRow, LacksSome, Took, TookAll}
 use Rattle.pkread.specs.Pull.{AreAllBytes}
 use Rattle.pkread.specs.declared.arms.Count.{Count}
@@ -107,8 +106,7 @@ count_front laws fields limit o size signed field lay fits len k l =
   where
     small : (size : Width) → 0 < size_of size
     small width.One = omega arith
-    small width.Four = omega arith
-    small width.Eight = omega arith
+    small _ = omega arith
 
 -- what is held once the count is whole
 module _ (c : Count) (o : Op) (old new : Intake) (e : old.bytes ≡ code_of o ∷ [])

@@ -1,7 +1,7 @@
 -- One line, or two, at the front of the bytes that a source has at hand.
-use Rattle.std.proofs.Common.{◌≡◌, ◌≢◌, ℕ, suc, zero, ◌+◌, ◌*◌, ◌/◌, ◌%◌, ◌<◌, ◌≤◌, ◌==◌, false, true}
-use Rattle.std.proofs.Common.{List, [], ◌∷◌, ◌++◌, length, take, drop, get_or, Some, refl, sym, ap}
-use Rattle.std.proofs.Common.{◌∙◌, arith}
+use Rattle.std.proofs.Common.{◌≡◌, ◌≢◌, ℕ, suc, zero, ◌+◌, ◌*◌, ◌/◌, ◌%◌, ◌<◌, ◌≤◌, ◌==◌, false}
+use Rattle.std.proofs.Common.{true, List, [], ◌∷◌, ◌++◌, length, take, drop, get_or, Some, refl}
+use Rattle.std.proofs.Common.{sym, ap, ◌∙◌, arith}
 use Rattle.std.specs.List.{AllByRecursion}
 use Rattle.std.proofs.Math.Seq.{take-add}
 use Rattle.std.proofs.lemmas.List.{length-drop, length-take, take-take, take_all, take_more}
@@ -98,8 +98,9 @@ module _ (o : Op) (most end : ℕ) (line : List ℕ) (lay : layout_at o ≡ layo
       }
 
 -- two lines that end in the bytes behind the code, of which at most 256 are searched
-module _ (o : Op) (first second : ℕ) (lines behind : List ℕ) (lay : layout_at o ≡ layout.Pair 65_536)
-    (few : length lines ≤ 256) (found : end_of_line lines ≡ Some first) (more : ℕ)
+module _ (o : Op) (first second : ℕ) (lines behind : List ℕ)
+    (lay : layout_at o ≡ layout.Pair 65_536) (few : length lines ≤ 256)
+    (found : end_of_line lines ≡ Some first) (more : ℕ)
     (is' : behind ≡ take more (drop (first + 1) lines))
     (found' : end_of_line behind ≡ Some second) where
   one : (take (first + 1) lines ≡ take first lines ++ line_feed ∷ []) × (first + 1 ≤ length lines)

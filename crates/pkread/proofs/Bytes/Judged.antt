@@ -11,10 +11,8 @@ use Rattle.pkops.specs.Spelling.{Argument, Instruction, instruction, spelling}
 use Rattle.pkops.specs.Table.{code_of}
 use Rattle.pkops.specs.declared.Fault.TheVariants as fault
 use Rattle.pkops.specs.declared.Op.{Op}
-use Rattle.pkops.specs.declared.Reason.{Reason}
-use Rattle.pkops.specs.declared.Reason.TheVariants.{Source, Truncated, UnknownOpcode, BadArgument}
+use Rattle.pkops.specs.declared.Reason.TheVariants.{Source, UnknownOpcode, BadArgument}
 use Rattle.pkops.specs.declared.Reason.TheVariants.{TooLarge, ExtensionCode, UnsupportedProtocol}
-use Rattle.pkops.specs.declared.Reason.TheVariants.{OutOfMemory}
 use Rattle.pkread.proofs.Bytes.Behind.{fronts_more, stops_lacking}
 use Rattle.pkread.proofs.Calls.Next.{IsGathered}
 use Rattle.pkread.proofs.Bytes.LinesBehind.{stops_more}
@@ -25,7 +23,7 @@ use Rattle.pkread.proofs.Bytes.Taken.{took_both}
 use Rattle.pkread.specs.Private.Arms.{Finds, Gathers, Grows, IsFound, RowBehind, Stops, TakesFound}
 use Rattle.pkread.specs.Private.Arms.{TakesWhole}
 use Rattle.pkread.specs.Private.Progress.{Intake}
-use Rattle.pkread.specs.Rows.{FrontsBegin, IsAmiss, Refuses, ShowsReason, Sight, Takes}
+use Rattle.pkread.specs.Rows.{Reason, FrontsBegin, IsAmiss, Refuses, ShowsReason, Sight, Takes}
 use Rattle.pkread.specs.Private.Judgement.{TakesAnyArgument}
 use Rattle.pkread.specs.Private.Reads.{LacksSome, Took}
 use Rattle.pkread.specs.declared.gather.Found.{Found}
@@ -65,8 +63,8 @@ pub objected : (limit : ℕ) (o : Op) (arg given : Argument) (split : ℕ) (b : 
 objected limit o arg given split b i found h is f same l x g =
     let good : IsGood (instruction o arg) =
     subst (λ (a : Argument). IsGood (instruction o a)) same h in
-    objection_is_amiss limit b (instruction o arg) (length b) x (whole_of limit o arg split b l
-    good) (ap (λ (a : Argument). objection (instruction o a)) (sym same)
+    objection_is_amiss (whole_of limit o arg split b l good)
+    (ap (λ (a : Argument). objection (instruction o a)) (sym same)
     ∙ (ap objection (sym is) ∙ (sym f ∙ g)))
 
 amiss_behind : (limit : ℕ) (m n : Sight) (run b : List ℕ) (u : ℕ) (r : Reason) → Takes m n run →
@@ -154,9 +152,6 @@ unknown_stops laws limit x old new e k none =
 row_of : (limit : ℕ) (m n : Sight) (b : List ℕ) (u : ℕ) (r : Reason) →
     RowBehind limit m n b b u r → ShowsReason limit m n b u r
 row_of limit m n b u Source w = w
-row_of limit m n b u Truncated w = w
-row_of limit m n b u TooLarge w = w
-row_of limit m n b u OutOfMemory w = w
 row_of limit m n b u _ w = w
 
 -- what stops with all the bytes taken is refused

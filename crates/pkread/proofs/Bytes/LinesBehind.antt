@@ -11,14 +11,13 @@ use Rattle.pkops.specs.Table.{code_of}
 use Rattle.pkops.specs.declared.Fault.TheVariants as fault
 use Rattle.pkops.specs.declared.Layout.TheVariants as layout
 use Rattle.pkops.specs.declared.Op.{Op}
-use Rattle.pkops.specs.declared.Reason.{Reason}
-use Rattle.pkops.specs.declared.Reason.TheVariants.{Source, Truncated, TooLarge, OutOfMemory}
+use Rattle.pkops.specs.declared.Reason.TheVariants.{Source, Truncated, TooLarge}
 use Rattle.pkread.proofs.Bytes.Behind.{begun_fronts, fronts_more, row_behind}
 use Rattle.pkread.proofs.Bytes.Takes.{Consumes-more, Takes-more}
 use Rattle.pkread.proofs.Bytes.Taken.{took_both}
 use Rattle.pkread.specs.Private.Arms.{Grows, LacksLine, LineRow, RowBehind, Stops, TookLine}
 use Rattle.pkread.specs.Private.Progress.{Intake}
-use Rattle.pkread.specs.Rows.{FrontsBegin, Sight, Takes}
+use Rattle.pkread.specs.Rows.{Reason, FrontsBegin, Sight, Takes}
 use Rattle.pkread.specs.Private.Reads.{Took}
 
 abbrev Endless : List ℕ → Type 0
@@ -98,9 +97,6 @@ is_long most c e h = record {
 line_length : (most : ℕ) (m n : Sight) (run : List ℕ) (u : ℕ) (r : Reason) →
     LineRow most m n run u r → (length run ≤ most) ⊎ (length run ≡ most + 1)
 line_length most m n run u TooLarge w = elim w.1 [ inl s ↦ inl s.0 | inr l ↦ inr l ]
-line_length most m n run u Source w = inl w.0
-line_length most m n run u Truncated w = inl w.0
-line_length most m n run u OutOfMemory w = inl w.0
 line_length most m n run u _ w = inl w.0
 
 line_row : (limit most : ℕ) (m n : Sight) (run b : List ℕ) (u : ℕ) (r : Reason) →
@@ -108,13 +104,7 @@ line_row : (limit most : ℕ) (m n : Sight) (run b : List ℕ) (u : ℕ) (r : Re
     HasFault limit fault.TooLarge b) → RowBehind limit m n run b u r
 line_row limit most m n run b u TooLarge w short long =
     (w.0, elim w.1 [ inl s ↦ inr (short s.0, s.1) | inr l ↦ inl (long l) ])
-line_row limit most m n run b u Source w short long =
-    row_behind limit m n run b u Source (short w.0) w.1
-line_row limit most m n run b u Truncated w short long =
-    row_behind limit m n run b u Truncated (short w.0) w.1
-line_row limit most m n run b u OutOfMemory w short long =
-    row_behind limit m n run b u OutOfMemory (short w.0) w.1
-line_row limit most m n run b u _ w short long = absurd w.1
+line_row limit most m n run b u r w short long = row_behind limit m n run b u r (short w.0) w.1
 
 -- no line behind bytes behind which there may be one
 line_stops : BegunLaws → (limit most : ℕ) (old new : Intake) (r : Reason) →
@@ -159,8 +149,6 @@ row_more limit o m n c d b u Source k h =
       h.1,
     )
 row_more limit o m n c d b u Truncated k h = (Takes-more k h.0, h.1, h.2, h.3)
-row_more limit o m n c d b u TooLarge k h = (Takes-more k h.0, h.1)
-row_more limit o m n c d b u OutOfMemory k h = (Takes-more k h.0, h.1)
 row_more limit o m n c d b u _ k h = (Takes-more k h.0, h.1)
 
 pub stops_more : (limit : ℕ) (c : List ℕ) (old mid new : Intake) (r : Reason) →

@@ -12,7 +12,6 @@ use Rattle.pkops.specs.Table.{code_of}
 use Rattle.pkops.specs.declared.Layout.TheVariants as layout
 use Rattle.pkops.specs.declared.Op.{Op}
 use Rattle.pkops.specs.declared.Op.TheVariants as op
-use Rattle.pkops.specs.declared.Reason.{Reason}
 use Rattle.pkread.proofs.Bytes.Behind.{payload_lie, payload_stops, payload_took}
 use Rattle.pkread.proofs.Bytes.Judged.{refuses_of}
 use Rattle.pkread.proofs.Bytes.LinesBehind.{stops_more}
@@ -26,7 +25,7 @@ use Rattle.pkread.specs.Private.Progress.{Intake}
 use Rattle.pkread.specs.Private.SkippedBytes.{GrowsSkipping, HeldWhole, RefusedHead, SkipsAll}
 use Rattle.pkread.specs.Private.SkippedBytes.{StopsSkipping, holding}
 use Rattle.pkread.specs.Private.Reads.{LacksSome, Took, TookAll, TookBlock}
-use Rattle.pkread.specs.Rows.{FrontsBegin, Refuses}
+use Rattle.pkread.specs.Rows.{Reason, FrontsBegin, Refuses}
 use Rattle.pkread.specs.declared.arms.Count.{Count}
 use Rattle.pkread.specs.declared.gather.Found.{Found}
 

@@ -63,20 +63,14 @@ module _ (c : Count) (x : ℕ) (o : Op) (old mid new : Intake) (e : old.bytes �
 -- opcodes with a line are admitted
 pub line_admitted : (o : Op) (most : ℕ) (arg : Argument) → layout_at o ≡ layout.Line most →
     objection (instruction o arg) ≡ None
-line_admitted op.Proto most arg e = absurd cc
-line_admitted op.Ext1 most arg e = absurd cc
-line_admitted op.Ext2 most arg e = absurd cc
-line_admitted op.Ext4 most arg e = absurd cc
-line_admitted _ most arg e = refl
+line_admitted op.Int most arg e = refl
+line_admitted _ most arg e = cc
 
 -- and so are those with two
 pub pair_admitted : (o : Op) (most : ℕ) (arg : Argument) → layout_at o ≡ layout.Pair most →
     objection (instruction o arg) ≡ None
-pair_admitted op.Proto most arg e = absurd cc
-pair_admitted op.Ext1 most arg e = absurd cc
-pair_admitted op.Ext2 most arg e = absurd cc
-pair_admitted op.Ext4 most arg e = absurd cc
-pair_admitted _ most arg e = refl
+pair_admitted op.Global most arg e = refl
+pair_admitted _ most arg e = cc
 
 module _ (most : ℕ) (o : Op) (old new : Intake) (e : old.bytes ≡ code_of o ∷ [])
     (lay : layout_at o ≡ layout.Line most) (s : TookLine most old new) where

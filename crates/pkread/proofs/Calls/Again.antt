@@ -2,9 +2,7 @@
 use Rattle.std.proofs.Common.{◌≡◌, ◌≢◌, ℕ, ◌<◌, Bool, true, false, List, [], ◌∷◌, Option, None}
 use Rattle.std.proofs.Common.{Some, Result, Ok, Err, refl, sym, ◌∙◌, arith, inr, IfErr, IfOk}
 use Rattle.pkops.specs.Growth.{BegunLaws}
-use Rattle.pkops.specs.declared.Reason.{Reason}
 use Rattle.pkops.specs.declared.Reason.TheVariants.{Source, Truncated, TooLarge, OutOfMemory}
-use Rattle.pkops.specs.declared.Refusal.{Refusal}
 use Rattle.pkread.proofs.Calls.Next.{counts_at}
 use Rattle.pkread.proofs.Reasons.OneRow.{OneAnswer, one_row}
 use Rattle.pkread.proofs.Bytes.Taken.{takes_none}
@@ -12,8 +10,8 @@ use Rattle.pkread.specs.Again.{AnswersAgain, NoByteIsRefused, StepsAgain, WhyNoB
 use Rattle.pkread.specs.Core.{Phase, Open, Ended, Refused}
 use Rattle.pkread.specs.Private.OpenReader.{ByteCame, NoneCame}
 use Rattle.pkread.specs.Private.Reads.{ReadsNone}
-use Rattle.pkread.specs.ReaderCalls.{ReaderState, is_ended}
-use Rattle.pkread.specs.Rows.{ShowsReason, Sight, Takes, all_bytes, unread}
+use Rattle.pkread.specs.ReaderCalls.{Refusal, ReaderState, is_ended}
+use Rattle.pkread.specs.Rows.{Reason, ShowsReason, Sight, Takes, all_bytes, unread}
 
 -- a read of a byte gave none, before the end
 pub no_byte : (o n : Sight) (t : ℕ) (r : Reason) → r ≢ Truncated → ReadsNone o n r →

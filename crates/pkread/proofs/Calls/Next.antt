@@ -4,17 +4,15 @@ use Rattle.std.proofs.Common.{arith, max, None, MatchResult, take_all}
 use Rattle.pkops.specs.Answer.{IsWhole}
 use Rattle.pkops.specs.Spelling.{Instruction, spelling}
 use Rattle.pkops.specs.declared.Op.{Op}
-use Rattle.pkops.specs.declared.Reason.{Reason}
-use Rattle.pkops.specs.declared.Reason.TheVariants.{Source, OutOfMemory}
-use Rattle.pkops.specs.declared.Refusal.{Refusal}
+use Rattle.pkops.specs.declared.Reason.TheVariants.{Source}
 use Rattle.pkread.proofs.Reasons.Objections.{no_objection}
 use Rattle.pkread.specs.Admission.{IsAllowed, objection}
 use Rattle.pkread.specs.Core.{Phase, Open, Refused, phase_after}
 use Rattle.pkread.specs.Private.Arms.{Gathers}
 use Rattle.pkread.specs.Private.Progress.{Intake}
 use Rattle.pkread.specs.ReaderCalls.{ReaderState, Gives, GivesNext, RefusesAt, StepsFrom, ShowsNext}
-use Rattle.pkread.specs.ReaderCalls.{ShowsBy}
-use Rattle.pkread.specs.Rows.{Refuses, ShowsReason, Sight, all_bytes, unread}
+use Rattle.pkread.specs.ReaderCalls.{Refusal, ShowsBy}
+use Rattle.pkread.specs.Rows.{Reason, Refuses, ShowsReason, Sight, all_bytes, unread}
 use Rattle.pkread.specs.Sequence.{CountsAt}
 use Rattle.pkread.specs.declared.reader.Next.{Next}
 use Rattle.pkread.specs.declared.reader.Next.TheVariants as next
@@ -81,7 +79,6 @@ shows_open old r e h =
 pub counts_at : (limit : ℕ) (old new : Sight) (b : List ℕ) (t : ℕ) (r : Reason) →
     ShowsReason limit old new b t r → CountsAt r old.failures new.failures
 counts_at limit old new b t Source w = w.0.count
-counts_at limit old new b t OutOfMemory w = w.0.count
 counts_at limit old new b t _ w = w.0.count
 
 -- a refusal, where the buffer holds the bytes taken

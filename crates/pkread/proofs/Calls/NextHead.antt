@@ -5,7 +5,6 @@ use Rattle.pkops.specs.Limits.{Bounds}
 use Rattle.pkops.specs.Payloads.{is_passed, payload_limit_at}
 use Rattle.pkops.specs.Spelling.{Instruction, spelling}
 use Rattle.pkops.specs.declared.Op.{Op}
-use Rattle.pkops.specs.declared.Refusal.{Refusal}
 use Rattle.pkread.proofs.Calls.Next.{IsGathered, come, counts_at, gives_whole, spelled}
 use Rattle.pkread.specs.Core.{Phase, Open, Refused, phase_after}
 use Rattle.pkread.specs.Heads.{GivesHead, HoldsFew, Skips, RefusesHead, ShowsHead}
@@ -13,7 +12,7 @@ use Rattle.pkread.specs.Heads.{StepsHeadFrom}
 use Rattle.pkread.specs.Private.SkippedBytes.{HeldWhole, RefusedHead, SkippedOne, TookHead}
 use Rattle.pkread.specs.Private.OpenReader.{IfHeld}
 use Rattle.pkread.specs.Private.Progress.{Intake}
-use Rattle.pkread.specs.ReaderCalls.{Gives, ReaderState, ShowsBy}
+use Rattle.pkread.specs.ReaderCalls.{Refusal, Gives, ReaderState, ShowsBy}
 use Rattle.pkread.specs.Rows.{all_bytes}
 use Rattle.pkread.specs.declared.gather.Found.{Found}
 use Rattle.pkread.specs.declared.heads.Gathered.{Gathered}

@@ -9,14 +9,13 @@ use Rattle.pkops.specs.Payloads.{is_passed, payload_limit}
 use Rattle.pkops.specs.Spelling.{Counted, Instruction, instruction, spelling}
 use Rattle.pkops.specs.declared.Op.{Op}
 use Rattle.pkops.specs.declared.Op.TheVariants as op
-use Rattle.pkops.specs.declared.Refusal.{Refusal}
 use Rattle.pkread.proofs.Bytes.Takes.{Takes-more}
 use Rattle.pkread.proofs.Calls.AtHand.{next_behind, takes_lent}
 use Rattle.pkread.specs.Admission.{IsAllowed, IsAllowedBy}
 use Rattle.pkread.specs.AtHand.{beyond}
 use Rattle.pkread.specs.Core.{Phase, Open, Ended, Refused, phase_after}
 use Rattle.pkread.specs.Heads.{GivesHead, IsSkipped, RefusesHead}
-use Rattle.pkread.specs.ReaderCalls.{GivesNext, ReaderState, RefusesAt, StepsBy, begun}
+use Rattle.pkread.specs.ReaderCalls.{Refusal, GivesNext, ReaderState, RefusesAt, StepsBy, begun}
 pub use Rattle.pkread.specs.Run.{Reads, SoFar}
 use Rattle.pkread.specs.Run.{EndIsRead, EndOfHeads, HeadIsRead, NextIsRead, PassedIsRead}
 use Rattle.pkread.specs.Run.{LentIsRead, ReadingBegins, ReadingGoesOn, ReadsMore, RefusalIsRead}

@@ -29,29 +29,25 @@ abbrev WalksFrom : Bool → Walk → Option (Result (ℕ × Inst) Refusal) → W
 WalksFrom done old item new = MatchBool done ((item ≡ None) × (new ≡ old))
     (MatchOption item ⊥ (λ x. Yields old x new))
 
-some_not_none : (x : Result (ℕ × Inst) Refusal) → let a : Option (Result (ℕ × Inst) Refusal) =
-    Some x in a ≡ None → ⊥
-some_not_none x e = cc
-
 item_given : (p : List Instruction) (d : Bool) (w v : Walk)
     (item : Option (Result (ℕ × Inst) Refusal)) (at : ℕ) (i : Inst)
     → MatchBool d (StopIsLast p) (NoStop p) → WalksFrom d w item v → item ≡ Some (Ok (at, i))
     → NoStop p × GivesItem w at (instruction_of i) v
-item_given p true w v item at i so h e = absurd (some_not_none (Ok (at, i)) (sym e ∙ h.0))
+item_given p true w v item at i so h e = let f = h.0 in absurd cc
 item_given p false w v item at i so h e = (so, rw e at h)
 
 refusal_given : (p : List Instruction) (d : Bool) (w v : Walk)
     (item : Option (Result (ℕ × Inst) Refusal)) (r : Refusal)
     → MatchBool d (StopIsLast p) (NoStop p) → WalksFrom d w item v → item ≡ Some (Err r)
     → NoStop p × RefusesItem w r v
-refusal_given p true w v item r so h e = absurd (some_not_none (Err r) (sym e ∙ h.0))
+refusal_given p true w v item r so h e = let f = h.0 in absurd cc
 refusal_given p false w v item r so h e = (so, rw e at h)
 
 none_given : (p : List Instruction) (d : Bool) (w v : Walk)
     (item : Option (Result (ℕ × Inst) Refusal)) → MatchBool d (StopIsLast p) (NoStop p)
     → WalksFrom d w item v → item ≡ None → StopIsLast p × (v ≡ w)
 none_given p true w v item so h e = (so, h.1)
-none_given p false w v item so h e = let h' = rw e at h in absurd h'
+none_given p false w v item so h e = absurd (rw e at h)
 
 -- STOP ends the instructions, and no other does
 so_far_by : (p : List Instruction) (i : Instruction) (o : Op) → NoStop p → i.op ≡ o

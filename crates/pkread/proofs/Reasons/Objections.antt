@@ -6,10 +6,9 @@ use Rattle.pkops.specs.Answer.{IsWhole}
 use Rattle.pkops.specs.Spelling.{Argument, Number, Instruction}
 use Rattle.pkops.specs.declared.Op.{Op}
 use Rattle.pkops.specs.declared.Op.TheVariants as op
-use Rattle.pkops.specs.declared.Reason.{Reason}
 use Rattle.pkops.specs.declared.Reason.TheVariants.{ExtensionCode, UnsupportedProtocol}
 use Rattle.pkread.specs.Admission.{objection, unadmitted_by}
-use Rattle.pkread.specs.Rows.{IsAmiss}
+use Rattle.pkread.specs.Rows.{Reason, IsAmiss}
 
 -- the reasons that an objection may have
 abbrev IsObjection : Reason → Type 0
@@ -34,10 +33,10 @@ amiss limit b i n (UnsupportedProtocol p) k w e = (i, n, w, e)
 amiss limit b i n _ k w e = absurd k
 
 -- an instruction that is whole and not admitted is amiss
-pub objection_is_amiss : (limit : ℕ) (b : List ℕ) (i : Instruction) (n : ℕ) (r : Reason)
-    → IsWhole limit b i n → objection i ≡ Some r → IsAmiss limit b r
-objection_is_amiss limit b i n r w e = amiss limit b i n r
-    (unless (is_admitted i) (unadmitted_by i.op i.arg) r (unadmitted i.op i.arg) e) w e
+module _ {limit : ℕ} {b : List ℕ} {i : Instruction} {n : ℕ} {r : Reason} where
+  pub objection_is_amiss : IsWhole limit b i n → objection i ≡ Some r → IsAmiss limit b r
+  objection_is_amiss w e = amiss limit b i n r
+      (unless (is_admitted i) (unadmitted_by i.op i.arg) r (unadmitted i.op i.arg) e) w e
 
 admitted_by : (good : Bool) (x : Reason) → (if good then None else Some x) ≡ None → IsTrue good
 admitted_by true x e = refl

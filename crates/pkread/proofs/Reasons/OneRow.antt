@@ -3,14 +3,13 @@ use Rattle.std.proofs.Common.{◌≡◌, ◌≢◌, ℕ, ◌+◌, ◌%◌, ◌^�
 use Rattle.std.proofs.Common.{arith, inl, inr}
 use Rattle.pkops.specs.Answer.{Answer, Answers, Bad, More, Whole}
 use Rattle.pkops.specs.declared.Fault.TheVariants as fault
-use Rattle.pkops.specs.declared.Reason.{Reason}
 use Rattle.pkops.specs.declared.Reason.TheVariants.{Source, Truncated, UnknownOpcode}
 use Rattle.pkops.specs.declared.Reason.TheVariants.{BadArgument, TooLarge, ExtensionCode}
 use Rattle.pkops.specs.declared.Reason.TheVariants.{UnsupportedProtocol, OutOfMemory}
 use Rattle.pkread.specs.Admission.{objection}
 use Rattle.pkread.specs.Private.Judgement.{fault_reason}
 use Rattle.pkread.specs.Genops.{EndsOrIsAmiss}
-use Rattle.pkread.specs.Rows.{IsAmiss, ShowsReason, Sight, all_bytes}
+use Rattle.pkread.specs.Rows.{Reason, IsAmiss, ShowsReason, Sight, all_bytes}
 
 -- what `pkops` promises of the answers of a scan
 abbrev pub OneAnswer : Type 0
@@ -70,10 +69,6 @@ row_comes limit o n b t (UnsupportedProtocol p) ne w = (Whole w.1.0 w.1.1, w.1.2
 row_comes limit o n b t OutOfMemory ne w = absurd (ne refl)
 row_comes limit o n b t _ ne w = absurd w.1
 
-along : (limit : ℕ) (o n : Sight) (b : List ℕ) (t : ℕ) (r s : Reason) (a c : Answer) → a ≡ c
-    → ComesWith o n t a r → ComesWith o n t c s → s ≡ r
-along limit o n b t r s a c e p q = comes_alone o n t c r s (rw e at p) q
-
 -- two reasons with their rows are one, want of memory aside
 pub one_row : OneAnswer → (limit : ℕ) (o n : Sight) (b : List ℕ) (t : ℕ) (r : Reason)
     → ShowsReason limit o n b t r → r ≢ OutOfMemory → (s : Reason) → s ≢ OutOfMemory
@@ -81,7 +76,7 @@ pub one_row : OneAnswer → (limit : ℕ) (o n : Sight) (b : List ℕ) (t : ℕ)
 one_row one limit o n b t r p ne s nf q =
     let x = row_comes limit o n b t r ne p in
     let y = row_comes limit o n b t s nf q in
-    along limit o n b t r s x.0 y.0 (one limit b x.0 y.0 x.1 y.1) x.2 y.2
+    comes_alone o n t y.0 r s (rw (one limit b x.0 y.0 x.1 y.1) at x.2) y.2
 
 -- a source of which nothing is told
 abbrev blind : Sight

@@ -15,7 +15,6 @@ use Rattle.pkops.specs.Spelling.{line_feed, size_of}
 use Rattle.pkops.specs.Table.{code_of}
 use Rattle.pkops.specs.declared.Op.{Op}
 use Rattle.pkops.specs.declared.Rule.{Rule}
-use Rattle.pkops.specs.declared.Reason.{Reason}
 use Rattle.pkops.specs.declared.Reason.TheVariants.{Source, Truncated, TooLarge, OutOfMemory}
 use Rattle.pkread.specs.Admission.{objection}
 use Rattle.pkread.specs.Framing.{other}
@@ -24,7 +23,7 @@ use Rattle.pkread.specs.Private.Judgement.{is_plain}
 use Rattle.pkread.specs.Private.Progress.{Intake}
 use Rattle.pkread.specs.Private.Reads.{LackRow, Took}
 use Rattle.pkread.specs.Pull.{AreAllBytes}
-use Rattle.pkread.specs.Rows.{Sight, Fails, FrontsBegin, IsAmiss, Refuses, Takes, all_bytes}
+use Rattle.pkread.specs.Rows.{Reason, Sight, Fails, FrontsBegin, IsAmiss, Refuses, Takes, all_bytes}
 use Rattle.pkread.specs.declared.arms.Count.{Count}
 use Rattle.pkread.specs.declared.gather.Found.{Found}
 

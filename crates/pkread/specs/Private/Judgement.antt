@@ -9,10 +9,9 @@ use Rattle.pkops.specs.declared.Fault.{Fault}
 use Rattle.pkops.specs.declared.Fault.TheVariants as fault
 use Rattle.pkops.specs.declared.Op.{Op}
 use Rattle.pkops.specs.declared.Op.TheVariants as op
-use Rattle.pkops.specs.declared.Reason.{Reason}
 use Rattle.pkops.specs.declared.Reason.TheVariants.{BadArgument, TooLarge, UnknownOpcode}
 use Rattle.pkread.specs.Admission.{objection}
-use Rattle.pkread.specs.Rows.{IsAmiss}
+use Rattle.pkread.specs.Rows.{Reason, IsAmiss}
 
 -- the reason with the same name
 abbrev pub fault_reason : Fault → Reason

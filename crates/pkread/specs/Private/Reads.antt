@@ -2,11 +2,10 @@
 use Rattle.std.specs.Prelude.{◌≡◌, ℕ, List, [], ◌∷◌, ◌++◌, ◌+◌, ◌%◌, ◌^◌, ◌<◌, ◌≤◌, length, take}
 use Rattle.std.specs.Prelude.{drop, Result, MatchResult}
 use Rattle.std.specs.Io.KnownBytes.{IsAtEnd}
-use Rattle.pkops.specs.declared.Reason.{Reason}
 use Rattle.pkops.specs.declared.Reason.TheVariants.{Source, Truncated, TooLarge, OutOfMemory}
 use Rattle.pkread.specs.Private.Progress.{Intake}
 use Rattle.pkread.specs.Pull.{AreAllBytes}
-use Rattle.pkread.specs.Rows.{Sight, Takes, Fails, all_bytes}
+use Rattle.pkread.specs.Rows.{Reason, Sight, Takes, Fails, all_bytes}
 
 -- n bytes, at least one, were read and appended
 pub record ReadsSome (wanted n : ℕ) (old : List ℕ) (before : Sight) (new : List ℕ)

@@ -5,12 +5,11 @@ use Rattle.pkops.specs.KnownLayout.{Lies}
 use Rattle.pkops.specs.Payloads.{is_passed, payload_limit_at}
 use Rattle.pkops.specs.Spelling.{Counted}
 use Rattle.pkops.specs.declared.Op.{Op}
-use Rattle.pkops.specs.declared.Reason.{Reason}
 use Rattle.pkread.specs.Heads.{HoldsFew, SkipsBy}
 use Rattle.pkread.specs.Private.Arms.{Gathers, IsFound, Stops}
 use Rattle.pkread.specs.Private.Progress.{GatheringView, Intake}
 use Rattle.pkread.specs.Private.Reads.{LacksSome, Took, TookAll}
-use Rattle.pkread.specs.Rows.{Refuses}
+use Rattle.pkread.specs.Rows.{Reason, Refuses}
 use Rattle.pkread.specs.declared.gather.Found.{Found}
 use Rattle.pkread.specs.declared.heads.Gathered.{Gathered}
 use Rattle.pkread.specs.declared.heads.Gathered.TheVariants as gathered

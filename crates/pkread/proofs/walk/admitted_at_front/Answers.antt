@@ -8,8 +8,7 @@ use Rattle.pkread.proofs.walk.admitted_at_front.Goals as goal
 
 pub returns-in-Some-clause-err : goal.returns-in-Some-clause-err
 returns-in-Some-clause-err c = amiss_alone c.one_answer.ensures _ _ _
-    (objection_is_amiss _ _ _ _ _ c.in-Whole.ensures.answer
-    (sym c.objection_to.ensures ∙ c.in-Some.is))
+    (objection_is_amiss c.in-Whole.ensures.answer (sym c.objection_to.ensures ∙ c.in-Some.is))
 
 pub returns-in-More-clause-err : goal.returns-in-More-clause-err
 returns-in-More-clause-err c = alone c.one_answer.ensures _ _ Truncated c.in-More.ensures.answer

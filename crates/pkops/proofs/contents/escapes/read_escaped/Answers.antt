@@ -20,8 +20,8 @@ returns-in_default c = ap (joined escapes (string_bytes c.bytes.text))
 
 pub bytes-preserved : goal.bytes-preserved
 bytes-preserved c =
-    let on = kept_on escapes (string_bytes c.bytes.text) c.bytes.state c.in-Some.next c.in-Some.character
-    c.args.line.now c.bytes.byte-index _ (omega arith) c.in-Some.ensures.step
+    let on = kept_on escapes (string_bytes c.bytes.text) c.bytes.state c.in-Some.next
+    c.in-Some.character c.args.line.now c.bytes.byte-index _ (omega arith) c.in-Some.ensures.step
     c.bytes.invariant.kept in
     elim c.match-character.branch [
       | in-Some-character+in_ok-push w ↦
@@ -38,8 +38,8 @@ bytes-preserved c =
 
 pub returns-in-Outside : goal.returns-in-Outside
 returns-in-Outside c = let e =
-    rw c.in-Outside.is at (kept_last escapes (string_bytes c.bytes.text) c.bytes.state c.args.line.now
-    c.bytes.byte-index _ (omega arith) c.bytes.invariant.kept) in
+    rw c.in-Outside.is at (kept_last escapes (string_bytes c.bytes.text) c.bytes.state
+    c.args.line.now c.bytes.byte-index _ (omega arith) c.bytes.invariant.kept) in
     ap Some (sym (append-nil (string_bytes c.bytes.text))) ∙ e
 
 pub returns-in_default-state : goal.returns-in_default-state

@@ -26,6 +26,7 @@ returns-in-Outside c =
     (omega arith) c.bytes.invariant.kept)
 
 pub returns-in_default-matches : goal.returns-in_default-matches
-returns-in_default-matches c = let e = some_at_end escapes c.bytes.state c.args.line.now c.bytes.byte-index
-    _ (omega arith) c.bytes.invariant.kept in let n =
-    not_ended c.bytes.state c.in_default-matches.not-Outside in sym n ∙ e
+returns-in_default-matches c =
+    let e = some_at_end escapes c.bytes.state c.args.line.now c.bytes.byte-index _ (omega arith)
+    c.bytes.invariant.kept in
+    sym (not_ended c.bytes.state c.in_default-matches.not-Outside) ∙ e

@@ -28,6 +28,6 @@ returns-in-Outside c =
 
 pub returns-in_default-matches : goal.returns-in_default-matches
 returns-in_default-matches c =
-    let e = some_at_end (old_items c.args.quote) c.bytes.place c.args.inside.now c.bytes.byte-index _
-    (omega arith) c.bytes.invariant.kept in
+    let e = some_at_end (old_items c.args.quote) c.bytes.place c.args.inside.now c.bytes.byte-index
+    _ (omega arith) c.bytes.invariant.kept in
     sym (not_ended c.bytes.place c.in_default-matches.not-Outside) ∙ e

@@ -21,8 +21,8 @@ returns-in_default c = ap (joined (old_items c.args.quote) c.bytes.bytes.items)
 
 pub bytes-preserved : goal.bytes-preserved
 bytes-preserved c =
-    let on = kept_on (old_items c.args.quote) c.bytes.bytes.items c.bytes.place c.in-Some.next c.in-Some.ended
-    c.args.inside.now c.bytes.byte-index _ (omega arith) c.in-Some.ensures.step
+    let on = kept_on (old_items c.args.quote) c.bytes.bytes.items c.bytes.place c.in-Some.next
+    c.in-Some.ended c.args.inside.now c.bytes.byte-index _ (omega arith) c.in-Some.ensures.step
     c.bytes.invariant.kept in
     elim c.match-ended.branch [
       | in-Some-ended+in_ok-push w ↦

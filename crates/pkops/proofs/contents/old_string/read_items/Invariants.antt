@@ -9,7 +9,8 @@ use Rattle.pkops.proofs.contents.old_string.read_items.Given as goal
 -- the bytes so far and what is left give what the whole spells
 abbrev pub invariant-bytes : goal.invariant-bytes
 invariant-bytes l = record {
-  kept : joined (old_items l.quote) l.bytes.items (spelled l.quote l.place (drop l.byte-index l.inside))
+  kept : joined (old_items l.quote) l.bytes.items
+      (spelled l.quote l.place (drop l.byte-index l.inside))
       ≡ bytes_between l.quote l.inside;
   small : HoldsDigit l.place;
 }
