@@ -38,9 +38,16 @@ module _ {A : Type 0} where
   abbrev pub at : ℕ → List (ℕ × A) → Option A
   at n es = lookup (is_at (nat_cmp n)) es
 
+  -- all numbers are below this one, or above it
+  abbrev Below : ℕ → List (ℕ × A) → Type 0
+  Below n es = All (λ q. q < n) (keys_of es)
+
+  abbrev Above : ℕ → List (ℕ × A) → Type 0
+  Above n es = All (λ q. n < q) (keys_of es)
+
   -- ---- behind entries of lower numbers
 
-  at-append_below : (low es : List (ℕ × A)) (n : ℕ) → All (λ q. q < n) (keys_of low)
+  at-append_below : (low es : List (ℕ × A)) (n : ℕ) → Below n low
       → at n (low ++ es) ≡ at n es
   at-append_below [] es n h = refl
   at-append_below (e ∷ low) es n h =
@@ -48,7 +55,7 @@ module _ {A : Type 0} where
       (at-append_below low es n (All-tail (λ q. q < n) e.0 (keys_of low) h))
 
   insert_entry-append_below : (low es : List (ℕ × A)) (n : ℕ) (v : A)
-      → All (λ q. q < n) (keys_of low)
+      → Below n low
       → insert_entry nat_cmp (low ++ es) n v ≡ low ++ insert_entry nat_cmp es n v
   insert_entry-append_below [] es n v h = refl
   insert_entry-append_below (e ∷ low) es n v h =
@@ -58,26 +65,26 @@ module _ {A : Type 0} where
 
   -- ---- before entries of greater numbers
 
-  at_none : (es : List (ℕ × A)) (n : ℕ) → All (λ q. n < q) (keys_of es) → at n es ≡ None
+  at_none : (es : List (ℕ × A)) (n : ℕ) → Above n es → at n es ≡ None
   at_none [] n h = refl
   at_none (e ∷ es) n h =
       rw (below_cmp n e.0 (All-head (λ q. n < q) e.0 (keys_of es) h))
       (at_none es n (All-tail (λ q. n < q) e.0 (keys_of es) h))
 
-  at-append_above : (low es : List (ℕ × A)) (n : ℕ) → All (λ q. n < q) (keys_of es)
+  at-append_above : (low es : List (ℕ × A)) (n : ℕ) → Above n es
       → at n (low ++ es) ≡ at n low
   at-append_above [] es n h = at_none es n h
   at-append_above (e ∷ low) es n h = ap (λ r. cond (is_eq (nat_cmp n e.0)) (Some e.1) r)
       (at-append_above low es n h)
 
-  insert_entry-front : (es : List (ℕ × A)) (n : ℕ) (v : A) → All (λ q. n < q) (keys_of es)
+  insert_entry-front : (es : List (ℕ × A)) (n : ℕ) (v : A) → Above n es
       → insert_entry nat_cmp es n v ≡ (n, v) ∷ es
   insert_entry-front [] n v h = refl
   insert_entry-front (e ∷ es) n v h =
       rw (below_cmp n e.0 (All-head (λ q. n < q) e.0 (keys_of es) h)) refl
 
   insert_entry-append_above : (low es : List (ℕ × A)) (n : ℕ) (v : A)
-      → All (λ q. n < q) (keys_of es)
+      → Above n es
       → insert_entry nat_cmp (low ++ es) n v ≡ insert_entry nat_cmp low n v ++ es
   insert_entry-append_above [] es n v h = insert_entry-front es n v h
   insert_entry-append_above (e ∷ low) es n v h =
@@ -93,14 +100,14 @@ module _ {A : Type 0} where
   -- ---- values in order
 
   keys_below : (xs : List A) (k n : ℕ) → k + length xs ≤ n
-      → All (λ q. q < n) (keys_of (enumerate_from k xs))
+      → Below n (enumerate_from k xs)
   keys_below [] k n h = All-nil (λ q. q < n)
   keys_below (x ∷ xs) k n h =
       All-cons (λ q. q < n) k (keys_of (enumerate_from (k + 1) xs)) (omega arith)
       (keys_below xs (k + 1) n (omega arith))
 
   keys_above : (xs : List A) (es : List (ℕ × A)) (k n : ℕ) → n < k
-      → All (λ q. n < q) (keys_of es) → All (λ q. n < q) (keys_of (enumerate_from k xs ++ es))
+      → Above n es → Above n (enumerate_from k xs ++ es)
   keys_above [] es k n h above = above
   keys_above (x ∷ xs) es k n h above =
       All-cons (λ q. n < q) k (keys_of (enumerate_from (k + 1) xs ++ es)) h
@@ -135,8 +142,8 @@ module _ {A : Type 0} where
   each_append P [] es h k = k
   each_append P (e ∷ low) es h k = (h.0, each_append P low es h.1 k)
 
-  rising-append : (low es : List (ℕ × A)) (first : ℕ) → All (λ q. q < first) (keys_of low)
-      → ((n : ℕ) → n < first → All (λ q. n < q) (keys_of es))
+  rising-append : (low es : List (ℕ × A)) (first : ℕ) → Below first low
+      → ((n : ℕ) → n < first → Above n es)
       → IsStrictlySortedBy nat_cmp (keys_of low) → IsStrictlySortedBy nat_cmp (keys_of es)
       → IsStrictlySortedBy nat_cmp (keys_of (low ++ es))
   unfolding IsStrictlySortedBy
@@ -168,8 +175,7 @@ module _ {A : Type 0} where
   entries low first xs rest = low ++ (enumerate_from first xs ++ rest)
 
   module _ (low : List (ℕ × A)) (first : ℕ) (xs : List A) (rest : List (ℕ × A)) where
-    pub length-entries : length (entries low first xs rest)
-        ≡ length low + length xs + length rest
+    pub length-entries : length (entries low first xs rest) ≡ length low + length xs + length rest
     length-entries = omega (
       arith,
       length-append low (enumerate_from first xs ++ rest),
@@ -186,52 +192,48 @@ module _ {A : Type 0} where
           nil_from_length rest (omega (arith, none, all)),
         )
 
-    pub rising : AreParts low first xs rest → IsStrictlySortedBy nat_cmp (keys_of low)
-        → IsStrictlySortedBy nat_cmp (keys_of rest)
-        → IsStrictlySortedBy nat_cmp (keys_of (entries low first xs rest))
-    rising parts s t =
-        rising-append low (enumerate_from first xs ++ rest) first parts.below
-        (λ n h. keys_above xs rest first n h
-        (All-weaker (λ q. first + length xs ≤ q) (λ q. n < q) (λ q k. omega (arith, h, k))
-        (keys_of rest) parts.above))
-        s (rising-enumerate_from xs rest first parts.above t)
-
-    module _ (parts : AreParts low first xs rest) (n : ℕ) where
-      below : first ≤ n → All (λ q. q < n) (keys_of low)
-      below h = All-weaker (λ q. q < first) (λ q. q < n) (λ q k. omega (arith, h, k))
+    module _ (parts : AreParts low first xs rest) where
+      below : (n : ℕ) → first ≤ n → Below n low
+      below n h = All-weaker (λ q. q < first) (λ q. q < n) (λ q k. omega (arith, h, k))
           (keys_of low) parts.below
 
-      above : n < first → All (λ q. n < q) (keys_of (enumerate_from first xs ++ rest))
-      above h = keys_above xs rest first n h
+      above : (n : ℕ) → n < first → Above n (enumerate_from first xs ++ rest)
+      above n h = keys_above xs rest first n h
           (All-weaker (λ q. first + length xs ≤ q) (λ q. n < q) (λ q k. omega (arith, h, k))
           (keys_of rest) parts.above)
 
+      pub rising : IsStrictlySortedBy nat_cmp (keys_of low)
+          → IsStrictlySortedBy nat_cmp (keys_of rest)
+          → IsStrictlySortedBy nat_cmp (keys_of (entries low first xs rest))
+      rising s t = rising-append low (enumerate_from first xs ++ rest) first parts.below above s
+          (rising-enumerate_from xs rest first parts.above t)
+
+    module _ (parts : AreParts low first xs rest) (n : ℕ) where
       pub at_low : n < first → at n low ≡ at n (entries low first xs rest)
-      at_low h = sym (at-append_above low (enumerate_from first xs ++ rest) n (above h))
+      at_low h = sym (at-append_above low (enumerate_from first xs ++ rest) n (above parts n h))
 
       pub at_ordered : (j : ℕ) (d : A) → n ≡ first + j → j < length xs
           → Some (get_or xs j d) ≡ at n (entries low first xs rest)
       at_ordered j d e h =
-          sym (at-append_below low (enumerate_from first xs ++ rest) n (below (omega arith))
+          sym (at-append_below low (enumerate_from first xs ++ rest) n (below parts n (omega arith))
           ∙ at-enumerate_from xs rest first j n d e h)
 
       pub at_rest : first + length xs ≤ n → at n rest ≡ at n (entries low first xs rest)
       at_rest h =
-          sym (at-append_below low (enumerate_from first xs ++ rest) n (below (omega arith))
+          sym (at-append_below low (enumerate_from first xs ++ rest) n (below parts n (omega arith))
           ∙ at-append_below (enumerate_from first xs) rest n (keys_below xs first n h))
 
-      pub put_low : (v : A) → n < first
-          → entries (insert_entry nat_cmp low n v) first xs rest
+      pub put_low : (v : A) → n < first → entries (insert_entry nat_cmp low n v) first xs rest
           ≡ insert_entry nat_cmp (entries low first xs rest) n v
       put_low v h =
-          sym (insert_entry-append_above low (enumerate_from first xs ++ rest) n v (above h))
+          sym (insert_entry-append_above low (enumerate_from first xs ++ rest) n v (above parts n h))
 
       pub put_ordered : (j : ℕ) (v : A) → n ≡ first + j → j < length xs
           → entries low first (set xs j v) rest
           ≡ insert_entry nat_cmp (entries low first xs rest) n v
       put_ordered j v e h =
           sym (insert_entry-append_below low (enumerate_from first xs ++ rest) n v
-          (below (omega arith))
+          (below parts n (omega arith))
           ∙ ap (λ l. low ++ l) (insert_entry-enumerate_from xs rest first j n v e h))
 
       pub put_rest : (v : A) → first + length xs ≤ n
@@ -239,27 +241,23 @@ module _ {A : Type 0} where
           ≡ insert_entry nat_cmp (entries low first xs rest) n v
       put_rest v h =
           sym (insert_entry-append_below low (enumerate_from first xs ++ rest) n v
-          (below (omega arith))
+          (below parts n (omega arith))
           ∙ ap (λ l. low ++ l)
           (insert_entry-append_below (enumerate_from first xs) rest n v
           (keys_below xs first n h)))
 
-  pub put_next : (low : List (ℕ × A)) (first : ℕ) (xs : List A) (rest : List (ℕ × A))
-      → AreParts low first xs rest → (n : ℕ) (v : A) → length rest ≡ 0 → n ≡ first + length xs
-      → entries low first (xs ++ v ∷ []) rest
-      ≡ insert_entry nat_cmp (entries low first xs rest) n v
-  put_next low first xs [] parts n v none e =
-      rw (enumerate_from-push xs first n v e)
-      (rw (append-nil (enumerate_from first xs ++ (n, v) ∷ []))
-      (put_rest low first xs [] parts n v (omega arith)))
-  put_next low first xs (r ∷ rest) parts n v none e = absurd (omega (arith, none))
+      pub put_next : (v : A) → length rest ≡ 0 → n ≡ first + length xs
+          → entries low first (xs ++ v ∷ []) rest
+          ≡ insert_entry nat_cmp (entries low first xs rest) n v
+      put_next v none e =
+          let empty : rest ≡ [] = nil_from_length rest none in
+          let behind = rw empty at (put_rest v (omega arith)) in
+          rw (enumerate_from-push xs first n v e, empty, append-nil) behind
 
-  pub next_is_none : (low : List (ℕ × A)) (first : ℕ) (xs : List A) (rest : List (ℕ × A))
-      → AreParts low first xs rest → (n : ℕ) → length rest ≡ 0 → n ≡ first + length xs
-      → at n (entries low first xs rest) ≡ None
-  next_is_none low first xs [] parts n none e =
-      sym (at_rest low first xs [] parts n (omega arith))
-  next_is_none low first xs (r ∷ rest) parts n none e = absurd (omega (arith, none))
+      pub next_is_none : length rest ≡ 0 → n ≡ first + length xs
+          → at n (entries low first xs rest) ≡ None
+      next_is_none none e =
+          sym (at_rest (omega arith)) ∙ ap (at n) (nil_from_length rest none)
 
   module _ (low : List (ℕ × A)) (xs ys : List A) (rest : List (ℕ × A)) (n : ℕ) where
     pub put_first : (v : A) → low ≡ [] → xs ≡ [] → rest ≡ [] → ys ≡ xs ++ v ∷ []
