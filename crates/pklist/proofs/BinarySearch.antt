@@ -9,11 +9,12 @@ use Rattle.std.specs.Cmp.Lexicographic.{slice_cmp}
 use Rattle.std.specs.List.{list_any}
 use Rattle.std.specs.List.Sorted.{IsNonDecreasingBy}
 use Rattle.std.specs.Str.{bytes_eq}
-use Rattle.std.proofs.lemmas.Bool.{lt-ltb, ltb-false, ltb-true}
+use Rattle.std.proofs.lemmas.Bool.{false≢true, false_from_ne_true, lt-ltb, ltb-false, ltb-true}
 use Rattle.std.proofs.lemmas.Cmp.{on_total, then_total, nat_list_cmp_total}
 use Rattle.std.proofs.lemmas.List.Folds.{list_any_at}
 use Rattle.std.proofs.lemmas.List.Sorted.{searchable_from_sorted}
 use Rattle.std.proofs.lemmas.Map.Text.{is_eq-slice_cmp}
+use Rattle.std.proofs.lemmas.Option.{get_or_from_slice_get, slice_get-get_or, slice_get_within}
 use Rattle.pklist.specs.declared.pairs.Pair.{Pair}
 use Rattle.pklist.specs.Pairs.{AreInOrder, HalvingIsRight, by_middle, comes_to, found, have}
 use Rattle.pklist.specs.Pairs.{order_to}
@@ -28,8 +29,7 @@ pair_of m n = record {
 -- two comparisons give Equal if both are Equal
 both : (a b : Ordering) → is_eq (ordering_then a b) ≡ (is_eq a && is_eq b)
 both Less b = refl
-both Equal b = refl
-both Greater b = refl
+both _ b = refl
 
 -- a pair compares as Equal if it has this module and this name
 pub equal_is_same : (m n : List ℕ) (p : Pair)
@@ -39,22 +39,13 @@ equal_is_same m n p =
     ∙ (rw (is_eq-slice_cmp p.module_name.now m, is_eq-slice_cmp p.name.now n) refl)
 
 is_Equal : (o : Ordering) → is_eq o ≡ true → o ≡ Equal
-is_Equal Less h = cc
 is_Equal Equal h = refl
-is_Equal Greater h = cc
+is_Equal _ h = cc
 
 -- the element at an index
 got_inside : {A : Type 0} (xs : List A) (i : ℕ) (d x : A) → slice_get xs i ≡ Some x
     → (i < length xs) × (get_or xs i d ≡ x)
-got_inside [] i d x e = cc
-got_inside (y ∷ ys) zero d x e = (omega arith, cc)
-got_inside (y ∷ ys) (suc i) d x e = let h = got_inside ys i d x e in (omega (arith, h.0), h.1)
-
-got_at : {A : Type 0} (xs : List A) (i : ℕ) (d : A) → i < length xs
-    → slice_get xs i ≡ Some (get_or xs i d)
-got_at [] i d h = absurd (omega (arith, h))
-got_at (x ∷ xs) zero d h = refl
-got_at (x ∷ xs) (suc i) d h = got_at xs i d (omega (arith, h))
+got_inside xs i d x e = (slice_get_within xs i x e, get_or_from_slice_get xs i x d e)
 
 -- the index of an element that passes a test
 record Passes {A : Type 0} (test : A → Bool) (xs : List A) : Type 0 where
@@ -111,33 +102,18 @@ module _ (order : Pair → Ordering) (pairs : List Pair) where
       ] h
 
   module _ (rises : IsNonDecreasingBy (λ p. ordering_index (order p)) pairs) where
-    -- pairs that compare as Less come before one that is Equal, and those that are Greater after it
-    less_before : (i j : ℕ) (p q : Pair) → slice_get pairs i ≡ Some p → slice_get pairs j ≡ Some q
-        → order p ≡ Equal → order q ≡ Less → j < i
-    less_before i j p q e f equal less =
-        let a = got_inside pairs i p p e in
-        let b = got_inside pairs j p q f in
-        elim (nat_lt j i) as (λ t. nat_lt j i ≡ t → j < i) [
-          | true ↦ λ t. ltb-true _ _ t
-          | false ↦ λ t.
-              let back : i ≤ j = ltb-false j i t in
-              let low : ordering_index (order (get_or pairs i p))
-              ≤ ordering_index (order (get_or pairs j p)) = rises i j p back b.0 in
-              absurd (omega (arith, rw (a.1, equal, b.1, less) at low))
-        ] refl
-
-    greater_behind : (i j : ℕ) (p q : Pair) → slice_get pairs i ≡ Some p
-        → slice_get pairs j ≡ Some q → order p ≡ Equal → order q ≡ Greater → i < j
-    greater_behind i j p q e f equal greater =
+    -- of two pairs, the one that compares as lower comes first
+    before : (i j : ℕ) (p q : Pair) → slice_get pairs i ≡ Some p → slice_get pairs j ≡ Some q
+        → ordering_index (order p) < ordering_index (order q) → i < j
+    before i j p q e f lower =
         let a = got_inside pairs i p p e in
         let b = got_inside pairs j p q f in
         elim (nat_lt i j) as (λ t. nat_lt i j ≡ t → i < j) [
           | true ↦ λ t. ltb-true _ _ t
           | false ↦ λ t.
-              let back : j ≤ i = ltb-false i j t in
-              let low : ordering_index (order (get_or pairs j p))
-              ≤ ordering_index (order (get_or pairs i p)) = rises j i p back a.0 in
-              absurd (omega (arith, rw (a.1, equal, b.1, greater) at low))
+              let rising : ordering_index (order (get_or pairs j p))
+              ≤ ordering_index (order (get_or pairs i p)) = rises j i p (ltb-false i j t) a.0 in
+              absurd (omega (arith, lower, rw (a.1, b.1) at rising))
         ] refl
 
     -- a binary search finds a pair that compares as Equal
@@ -151,18 +127,18 @@ module _ (order : Pair → Ordering) (pairs : List Pair) where
         let m : ℕ = middle low high in
         let bounds : (low ≤ m) × (m < high) = (omega arith, omega (arith, from, to)) in
         let q : Pair = get_or pairs m p in
-        let there : slice_get pairs m ≡ Some q = got_at pairs m p
+        let there : slice_get pairs m ≡ Some q = slice_get-get_or pairs m p
         (omega (arith, bounds.1, inside)) in
         let goes : nat_lt low high ≡ true = lt-ltb low high (omega (arith, from, to)) in
         rw (goes, there)
         (elim (order q) as (λ o. order q ≡ o → by_middle (Some o)
         (comes_to order pairs steps (m + 1) high) (comes_to order pairs steps low m) ≡ true) [
           | Less ↦ λ o. comes_to_equal steps (m + 1) high i p e equal
-              (omega (arith, less_before i m p q e there equal o)) to inside
+              (omega (arith, before m i q p there e (rw (o, equal) (omega arith)))) to inside
               (omega (arith, bounds.0, bounds.1, few))
           | Equal ↦ λ o. refl
           | Greater ↦ λ o. comes_to_equal steps low m i p e equal from
-              (greater_behind i m p q e there equal o) (omega (arith, bounds.1, inside))
+              (before i m p q e there (rw (o, equal) (omega arith))) (omega (arith, bounds.1, inside))
               (omega (arith, bounds.0, bounds.1, few))
         ] refl)
 
@@ -199,10 +175,7 @@ found_or_not : (pairs : List Pair) (m n : List ℕ) → AreInOrder pairs → (b 
     → have pairs m n ≡ b → found pairs m n ≡ b
 found_or_not pairs m n sorted true h = had_is_found pairs m n sorted h
 found_or_not pairs m n sorted false h =
-    elim (found pairs m n) as (λ f. found pairs m n ≡ f → f ≡ false) [
-      | true ↦ λ f. sym (found_is_had pairs m n f) ∙ h
-      | false ↦ λ f. refl
-    ] refl
+    false_from_ne_true _ (λ f. false≢true (sym h ∙ found_is_had pairs m n f))
 
 pub halving_is_right : HalvingIsRight
 halving_is_right = record {

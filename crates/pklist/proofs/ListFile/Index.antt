@@ -31,16 +31,15 @@ or_false true = refl
 or_false false = refl
 
 drop_all : {A : Type 0} (i : ℕ) (xs : List A) → length xs ≤ i → drop i xs ≡ []
-drop_all zero [] h = refl
-drop_all (suc i) [] h = refl
 drop_all zero (x ∷ xs) h = absurd (omega (arith, h))
 drop_all (suc i) (x ∷ xs) h = drop_all i xs (omega (arith, h))
+drop_all zero [] h = refl
+drop_all (suc i) [] h = refl
 
 -- one more name
 pub one_more_name : (b has rest : Bool) → (cond b true has || rest) ≡ (has || (b || rest))
 one_more_name true true rest = refl
-one_more_name true false rest = refl
-one_more_name false has rest = refl
+one_more_name _ _ rest = refl
 
 -- the names of the module if the index has it, and otherwise what the rest of the table says
 abbrev pub has_or : Option TextSet → Text → Bool → Bool

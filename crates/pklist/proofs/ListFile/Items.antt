@@ -11,8 +11,7 @@ pub are_names_step : (values : List Value) (i : ℕ) (other : Value) → i < len
 are_names_step values i other in_range = rw (add-one, drop-cons values i other) refl
 
 pub items_have_step : (name : Text) (values : List Value) (i : ℕ) (other : Value)
-    → i < length values
-    → items_have name (items_view (drop i values))
-    ≡ is_this_text name (view (get_or values i other))
-    || items_have name (items_view (drop (i + 1) values))
+    → i < length values → items_have name (items_view (drop i values))
+    ≡ is_this_text name (view (get_or values i other)) || items_have name
+    (items_view (drop (i + 1) values))
 items_have_step name values i other in_range = rw (add-one, drop-cons values i other) refl

@@ -1,14 +1,14 @@
 -- An upper bound on the length of all modules and names of a list.
 use Rattle.std.proofs.Common.{◌≡◌, ℕ, ◌+◌, ◌≤◌, ◌||◌, ◌&&◌, List, [], ◌∷◌, refl, ap, sym, ◌∙◌, Bool}
-use Rattle.std.proofs.Common.{true, false, length, arith, Option, Some, None, codes, Ordering, Less}
-use Rattle.std.proofs.Common.{Equal, Greater, nat_cmp, is_eq}
+use Rattle.std.proofs.Common.{true, false, length, arith, Option, Some, codes, Ordering, Equal}
+use Rattle.std.proofs.Common.{nat_cmp, is_eq}
 use Rattle.std.specs.Str.{bytes_eq}
 use Rattle.std.proofs.lemmas.Slice.Eq.{bytes_eq-Decides}
 use Rattle.std.specs.Cmp.Lexicographic.{slice_cmp}
 use Rattle.std.specs.Ordering.{match_ordering}
 use Rattle.std.proofs.lemmas.Map.Text.{is_eq-slice_cmp}
-use Rattle.toml.specs.Data.{Data, string, integer, float, boolean, datetime, array, table, Items}
-use Rattle.toml.specs.Data.{no_items, item, Members, no_members, member, get_member}
+use Rattle.toml.specs.Data.{Data, string, array, table, Items, no_items, item, Members, no_members}
+use Rattle.toml.specs.Data.{member, get_member}
 use Rattle.pklist.specs.declared.allow.Allow.{Allow}
 use Rattle.pklist.specs.Allow.{document_of, lists}
 use Rattle.pklist.specs.declared.pairs.Pair.{Pair}
@@ -24,10 +24,10 @@ bytes_eq_sym : (x y : Text) → bytes_eq x y ≡ true → bytes_eq y x ≡ true
 bytes_eq_sym x y e = grind (arith, bytes_eq-Decides)
 
 -- a bound on both sides of an `or`
-either_bound : (a b : Bool) (x s n : ℕ) → (a ≡ true → x ≤ s) → (b ≡ true → x ≤ n) → (a || b) ≡ true
-    → x ≤ s + n
-either_bound true b x s n left right h = let r = left refl in omega arith
-either_bound false b x s n left right h = let r = right h in omega arith
+either_bound : {a b : Bool} {x s n : ℕ} → (a ≡ true → x ≤ s) → (b ≡ true → x ≤ n)
+    → (a || b) ≡ true → x ≤ s + n
+either_bound {a = true} left right h = let r = left refl in omega arith
+either_bound {a = false} left right h = let r = right h in omega arith
 
 -- an upper bound on the length of the names that have this property
 abbrev BoundOf : (Text → Bool) → Type 0
@@ -36,44 +36,27 @@ BoundOf has = (bound : ℕ) × ((name : Text) → has name ≡ true → length n
 items_bound : (values : Items) → BoundOf (λ name. items_have name values)
 items_bound no_items = (0, λ name h. cc)
 items_bound (item (string s) rest) =
-    let (bound, below) = items_bound rest in (
-      length s + bound,
-      λ name h. either_bound (bytes_eq s name) (items_have name rest) (length name)
-          (length s) bound (same_length s name) (below name) h,
-    )
-items_bound (item (integer _) rest) = items_bound rest
-items_bound (item (float _) rest) = items_bound rest
-items_bound (item (boolean _) rest) = items_bound rest
-items_bound (item (datetime _) rest) = items_bound rest
-items_bound (item (array _) rest) = items_bound rest
-items_bound (item (table _) rest) = items_bound rest
+    let (bound, below) = items_bound rest in
+    (length s + bound, λ name. either_bound (same_length s name) (below name))
+items_bound (item _ rest) = items_bound rest
 
 names_bound : (value : Data) → BoundOf (λ name. has_name name (Some value))
 names_bound (array values) = items_bound values
-names_bound (string _) = (0, λ name h. cc)
-names_bound (integer _) = (0, λ name h. cc)
-names_bound (float _) = (0, λ name h. cc)
-names_bound (boolean _) = (0, λ name h. cc)
-names_bound (datetime _) = (0, λ name h. cc)
-names_bound (table _) = (0, λ name h. cc)
+names_bound _ = (0, λ name h. cc)
 
 -- one more member: the requested module comes before it, is it, or comes after it
 member_bound : (order : Ordering) (key first name : Text) (value : Data) (rest : Members) (n s : ℕ)
-    → order ≡ slice_cmp nat_cmp key first
-    → (has_name name (Some value) ≡ true → length name ≤ n)
+    → order ≡ slice_cmp nat_cmp key first → (has_name name (Some value) ≡ true → length name ≤ n)
     → (has_name name (get_member key rest) ≡ true → (length key ≤ s) × (length name ≤ s))
     → has_name name (match_ordering order (get_member key rest) (Some value) (get_member key rest))
-    ≡ true
-    → (length key ≤ length first + n + s) × (length name ≤ length first + n + s)
-member_bound Less key first name value rest n s e here below h = let r = below h in
-    (omega arith, omega arith)
+    ≡ true → (length key ≤ length first + n + s) × (length name ≤ length first + n + s)
 member_bound Equal key first name value rest n s e here below h =
     let r = here h in
     let t = same_length first key
     (bytes_eq_sym key first (sym (is_eq-slice_cmp key first) ∙ ap is_eq (sym e))) in
     (omega arith, omega arith)
-member_bound Greater key first name value rest n s e here below h = let r = below h in
-    (omega arith, omega arith)
+member_bound _ key first name value rest n s e here below h =
+    let r = below h in (omega arith, omega arith)
 
 members_bound : (modules : Members) → HasLongest
     (λ key name. has_name name (get_member key modules))
@@ -88,26 +71,18 @@ members_bound (member first value rest) =
 
 imports_bound : (imports : Option Data) → HasLongest (lists_in imports)
 imports_bound (Some (table modules)) = members_bound modules
-imports_bound None = (0, λ key name h. cc)
-imports_bound (Some (array _)) = (0, λ key name h. cc)
-imports_bound (Some (string _)) = (0, λ key name h. cc)
-imports_bound (Some (integer _)) = (0, λ key name h. cc)
-imports_bound (Some (float _)) = (0, λ key name h. cc)
-imports_bound (Some (boolean _)) = (0, λ key name h. cc)
-imports_bound (Some (datetime _)) = (0, λ key name h. cc)
+imports_bound _ = (0, λ key name h. cc)
 
 -- an upper bound on the length of the modules and names of a list
 lists_bound : (list : Allow) → HasLongest (lists list)
 lists_bound list = imports_bound (get_member (codes "imports") (document_of list))
 
 -- one more pair: the requested module and name are its own, or those of a later pair
-pair_bound : (a b c : Bool) (k n u v s : ℕ) → (a ≡ true → k ≤ u) → (b ≡ true → n ≤ v)
-    → (c ≡ true → (k ≤ s) × (n ≤ s)) → ((a && b) || c) ≡ true
-    → (k ≤ u + v + s) × (n ≤ u + v + s)
-pair_bound true true c k n u v s home name below h = let r = home refl in let t = name refl in
-    (omega arith, omega arith)
-pair_bound true false c k n u v s home name below h = let r = below h in (omega arith, omega arith)
-pair_bound false b c k n u v s home name below h = let r = below h in (omega arith, omega arith)
+pair_bound : {a b c : Bool} {k n u v s : ℕ} → (a ≡ true → k ≤ u) → (b ≡ true → n ≤ v)
+    → (c ≡ true → (k ≤ s) × (n ≤ s)) → ((a && b) || c) ≡ true → (k ≤ u + v + s) × (n ≤ u + v + s)
+pair_bound {a = true} {b = true} home name below h =
+    let r = home refl in let t = name refl in (omega arith, omega arith)
+pair_bound home name below h = let r = below h in (omega arith, omega arith)
 
 -- an upper bound on the length of the modules and names of an array
 pairs_bound : (pairs : List Pair) → HasLongest (have pairs)
@@ -115,10 +90,8 @@ pairs_bound [] = (0, λ key name h. cc)
 pairs_bound (p ∷ rest) =
     let (s, below) = pairs_bound rest in (
       length p.module_name.now + length p.name.now + s,
-      λ key name h. pair_bound (bytes_eq p.module_name.now key) (bytes_eq p.name.now name)
-          (have rest key name) (length key) (length name) (length p.module_name.now)
-          (length p.name.now) s (same_length p.module_name.now key) (same_length p.name.now name)
-          (below key name) h,
+      λ key name. pair_bound (same_length p.module_name.now key) (same_length p.name.now name)
+          (below key name),
     )
 
 -- a binary search finds none but these
