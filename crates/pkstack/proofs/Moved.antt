@@ -6,8 +6,7 @@ use Rattle.pkstack.specs.declared.moves.Move.TheVariants.{Duplicates, Stores, Fe
 use Rattle.pkstack.specs.Shape.{Shape, Item, NoMemo, top, Breach, Entry, recalled, stored, moved}
 use Rattle.pkops.specs.Limits.{Bounds}
 use Rattle.pkops.specs.declared.Reason.{Reason}
-use Rattle.pkstack.specs.Faults.{IsFault, IsFaultOf, MoveMayWantMemory, WantsRoom}
-use Rattle.pkstack.specs.Faults.{WantsMemo}
+use Rattle.pkstack.specs.Faults.{IsFault, IsFaultOf, MoveMayWantMemory, WantsRoom, WantsMemo}
 
 -- one entry more than the limit allows
 pub grown : {A : Type 0} (b : Bounds) (n : ℕ) (x : Result (Shape A) Breach) (e : Entry A)
