@@ -8,23 +8,21 @@ use Rattle.std.proofs.lemmas.List.{map-append}
 use Rattle.pkimport.specs.Private.Entries.{AreCopies, AreEntries, IsEntry, KeepsCopies, entry_asked}
 use Rattle.pkimport.specs.Table.{HasMoreTexts}
 use Rattle.pkimport.specs.declared.import_table.ListedImport.{ListedImport}
-use Rattle.pkimport.proofs.NotedImports.{are_grown, are_more, asked_grown, longer, map_more}
-use Rattle.pkimport.proofs.NotedImports.{text_grown, same_table}
+use Rattle.pkimport.proofs.NotedImports.{are_grown, are_more, are_written, asked_grown, asked_written}
+use Rattle.pkimport.proofs.NotedImports.{longer, map_more, same_table, text_grown}
 
 -- a lookup in a list after one of its elements was set
 at_set : (copies : List (Option ℕ)) (k i n copy : ℕ)
     → get_or (set copies k (Some n)) i None ≡ Some copy → ((i ≡ k) × (copy ≡ n))
     ⊎ (get_or copies i None ≡ Some copy)
-at_set [] k i n copy e = inr e
 at_set (x ∷ xs) zero zero n copy e = inl (refl, cc)
-at_set (x ∷ xs) zero (suc i) n copy e = inr e
-at_set (x ∷ xs) (suc k) zero n copy e = inr e
 at_set (x ∷ xs) (suc k) (suc i) n copy e = one_on (at_set xs k i n copy e)
   where
     one_on : ((i ≡ k) × (copy ≡ n)) ⊎ (get_or xs i None ≡ Some copy)
         → ((suc i ≡ suc k) × (copy ≡ n)) ⊎ (get_or (x ∷ xs) (suc i) None ≡ Some copy)
     one_on (inl (same, is)) = inl (ap suc same, is)
     one_on (inr e) = inr e
+at_set _ _ _ n copy e = inr e
 
 -- the name with this number
 abbrev pub Names : List (List ℕ) → ℕ → List ℕ → Type 0
@@ -92,15 +90,13 @@ module _ (ts ws : List (List ℕ)) (es : List ListedImport) (before : List (List
       → IsEntry 0 (length new) e × (entry_asked [] new e ≡ entry_asked ts ws (get_or es count d))
       → CopiedSoFar ts ws es before new next (copied ++ e ∷ []) (count + 1)
   copied_more now new copies next copied count d e h lt kept ok =
-      let none : HasMoreTexts [] [] = same_table [] in
-      let here = asked_grown [] [] now new none kept.grows copied h.named in
+      let here = asked_written [] kept.grows copied h.named in
       let last = take-suc es count d lt in
       record {
         grows = grows_more before now new h.grows kept.grows;
         size = kept.count ∙ h.size;
         stand = kept.copies;
-        named = are_more 0 (length new) copied e
-            (are_grown [] [] now new none kept.grows copied h.named) ok.0;
+        named = are_more 0 (length new) copied e (are_written [] kept.grows copied h.named) ok.0;
         same = map_more (entry_asked [] new) copied e ∙ (λ i. (here ∙ h.same) i ++ ok.1 i ∷ [])
             ∙ sym (map_more (entry_asked ts ws) (take count es) (get_or es count d))
             ∙ ap (map (entry_asked ts ws)) (sym last ∙ ap (λ n. take n es) (sym (add-one count)));
@@ -119,11 +115,11 @@ module _ (ts ws vs : List (List ℕ)) (old more : List ListedImport) (g : HasMor
 
   -- appended entries
   pub are_behind : AreEntries (length ts) (length vs) (old ++ more)
-  are_behind = both old more (are_grown ts ts ws vs (same_table ts) g old h)
+  are_behind = both old more (are_written ts g old h)
       (are_grown [] ts vs vs any (same_table vs) more k)
 
   pub asked_behind : map (entry_asked ts vs) (old ++ more) ≡ map (entry_asked ts ws) old
       ++ map (entry_asked [] vs) more
   asked_behind = map-append (entry_asked ts vs) old more
-      ∙ (λ i. asked_grown ts ts ws vs (same_table ts) g old h i
+      ∙ (λ i. asked_written ts g old h i
       ++ asked_grown [] ts vs vs any (same_table vs) more k i)

@@ -50,6 +50,15 @@ module _ (ts us ws vs : List (List ℕ)) (g : HasMoreTexts ts us) (h : HasMoreTe
   are_grown [] k = tt
   are_grown (e ∷ es) k = (is_grown e k.0, are_grown es k.1)
 
+-- more written names alone
+module _ (ts : List (List ℕ)) {ws vs : List (List ℕ)} (h : HasMoreTexts ws vs)
+    (es : List ListedImport) (k : AreEntries (length ts) (length ws) es) where
+  pub asked_written : map (entry_asked ts vs) es ≡ map (entry_asked ts ws) es
+  asked_written = asked_grown ts ts ws vs (same_table ts) h es k
+
+  pub are_written : AreEntries (length ts) (length vs) es
+  are_written = are_grown ts ts ws vs (same_table ts) h es k
+
 -- ---- one import more or fewer
 
 pub are_more : (made written : ℕ) (es : List ListedImport) (e : ListedImport)
@@ -59,9 +68,8 @@ are_more made written (d ∷ es) e h k = (h.0, are_more made written es e h.1 k)
 
 pub are_kept : (made written count : ℕ) (es : List ListedImport) → AreEntries made written es
     → AreEntries made written (take count es)
-are_kept made written zero es h = tt
-are_kept made written (suc n) [] h = tt
 are_kept made written (suc n) (e ∷ es) h = (h.0, are_kept made written n es h.1)
+are_kept made written _ _ h = tt
 
 pub are_left : (made written count : ℕ) (es : List ListedImport) → AreEntries made written es
     → AreEntries made written (drop count es)

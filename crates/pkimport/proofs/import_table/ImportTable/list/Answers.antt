@@ -3,19 +3,17 @@ use Rattle.std.proofs.Common.{[], ◌∷◌, ◌++◌, ◌∙◌, length, refl, 
 use Rattle.std.proofs.lemmas.Result.{err_from_is_err_and}
 use Rattle.pkimport.specs.Table.{IsNamedIf, Noted}
 use Rattle.pkimport.specs.Private.Entries.{entry_asked}
-use Rattle.pkimport.proofs.NotedImports.{are_grown, are_more, asked_grown, map_more, same_table}
+use Rattle.pkimport.proofs.NotedImports.{are_more, are_written, asked_written, map_more}
 use Rattle.pkimport.proofs.import_table.ImportTable.list.Goals as goal
 
 pub invariant_of-self : goal.invariant_of-self
-invariant_of-self c = are_grown c.self.inside.texts c.self.inside.texts c.self.inside.written
-    c.enter.new.written (same_table c.self.inside.texts) c.enter.ensures.grows
+invariant_of-self c = are_written c.self.inside.texts c.enter.ensures.grows
     c.self.inside.entries.items c.self.invariant
 
 pub returns-in_err-entry-clause-err : goal.returns-in_err-entry-clause-err
 returns-in_err-entry-clause-err c =
     let p = err_from_is_err_and c.from_residual.result c.from_residual.ensures.1 in
-    let same = asked_grown c.self.inside.texts c.self.inside.texts c.self.inside.written
-    c.enter.new.written (same_table c.self.inside.texts) c.enter.ensures.grows
+    let same = asked_written c.self.inside.texts c.enter.ensures.grows
     c.self.inside.entries.items c.self.invariant in
     rw (p.1, p.2) (
       rw (← c.self.view_is) (λ i. record { texts = c.self.inside.texts; asked = same i }),
@@ -25,16 +23,14 @@ returns-in_err-entry-clause-err c =
 
 pub invariant_of-self-in_err-push : goal.invariant_of-self-in_err-push
 invariant_of-self-in_err-push c = rw c.in_err-push.ensures.items
-    (are_grown c.self.inside.texts c.self.inside.texts c.self.inside.written c.enter.new.written
-    (same_table c.self.inside.texts) c.enter.ensures.grows c.self.inside.entries.items
-    c.self.invariant)
+    (are_written c.self.inside.texts c.enter.ensures.grows
+    c.self.inside.entries.items c.self.invariant)
 
 pub returns-in_err-push-clause-err : goal.returns-in_err-push-clause-err
 returns-in_err-push-clause-err c =
     let p = err_from_is_err_and c.from_residual-in_err-push.result
     c.from_residual-in_err-push.ensures.1 in
-    let same = asked_grown c.self.inside.texts c.self.inside.texts c.self.inside.written
-    c.enter.new.written (same_table c.self.inside.texts) c.enter.ensures.grows
+    let same = asked_written c.self.inside.texts c.enter.ensures.grows
     c.self.inside.entries.items c.self.invariant in
     rw (p.1, p.2) (
       rw (← c.self.view_is, c.in_err-push.ensures.items)
@@ -48,8 +44,7 @@ invariant_of-self-2 c =
     let is = subst (λ (n : Noted). IsNamedIf (length n.texts) c.args.named)
     (sym c.self.view_is) c.requires in
     let named = subst (IsNamedIf (length c.self.inside.texts)) c.in-Some.is is in
-    let before = are_grown c.self.inside.texts c.self.inside.texts c.self.inside.written
-    c.enter.new.written (same_table c.self.inside.texts) c.enter.ensures.grows
+    let before = are_written c.self.inside.texts c.enter.ensures.grows
     c.self.inside.entries.items c.self.invariant in
     rw c.in_ok-push.ensures.items
     (are_more (length c.self.inside.texts) (length c.enter.new.written)
@@ -58,8 +53,7 @@ invariant_of-self-2 c =
 
 pub returns-clause-ok : goal.returns-clause-ok
 returns-clause-ok c =
-    let same = asked_grown c.self.inside.texts c.self.inside.texts c.self.inside.written
-    c.enter.new.written (same_table c.self.inside.texts) c.enter.ensures.grows
+    let same = asked_written c.self.inside.texts c.enter.ensures.grows
     c.self.inside.entries.items c.self.invariant in
     let more = map_more (entry_asked c.self.inside.texts c.enter.new.written)
     c.self.inside.entries.items c.in_ok-entry.entry in
