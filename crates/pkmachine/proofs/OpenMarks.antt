@@ -9,7 +9,4 @@ pub marks_alike : {A B : Type 0} (R : A → B → Type 0) (es : List (Entry A)) 
 marks_alike R [] [] h = refl
 marks_alike R (Mark ∷ es) (Mark ∷ fs) h = ap suc (marks_alike R es fs h.1)
 marks_alike R (Item x ∷ es) (Item y ∷ fs) h = marks_alike R es fs h.1
-marks_alike R (Mark ∷ es) (Item y ∷ fs) h = absurd h.0
-marks_alike R (Item x ∷ es) (Mark ∷ fs) h = absurd h.0
-marks_alike R [] (f ∷ fs) h = absurd h
-marks_alike R (e ∷ es) [] h = absurd h
+marks_alike R _ _ h = absurd (assumption)

@@ -5,7 +5,6 @@ use Rattle.std.proofs.Common.{subst, ◌∙◌, arith, append-nil, length-append
 use Rattle.std.proofs.Math.ListN.{get_or-append}
 use Rattle.std.proofs.Math.Seq.{get_or-append_seam}
 use Rattle.pkmachine.specs.declared.value.Value.{Value}
-use Rattle.pkmachine.specs.declared.value.Value.TheVariants.{Unknown, Made}
 use Rattle.pkmachine.specs.declared.value.Value.TheVariants as value
 use Rattle.pkstack.specs.declared.Move.{Move}
 use Rattle.pkstack.specs.declared.Takes.{Takes}
@@ -37,10 +36,7 @@ module _ (ts : List (List ℕ)) where
   sees_is [] [] h = refl
   sees_is (Mark ∷ es) (Mark ∷ ks) h = ap (λ l. Mark ∷ l) (sees_is es ks h.1)
   sees_is (Item v ∷ es) (Item k ∷ ks) h = λ i. Item (sym h.0.is i) ∷ sees_is es ks h.1 i
-  sees_is (Mark ∷ es) (Item k ∷ ks) h = absurd h.0
-  sees_is (Item v ∷ es) (Mark ∷ ks) h = absurd h.0
-  sees_is [] (k ∷ ks) h = absurd h
-  sees_is (e ∷ es) [] h = absurd h
+  sees_is _ _ h = absurd (assumption)
 
   pub sees_seen : (es : List (Entry Value)) (ks : List (Entry Known)) → Sees ts es ks
       → Sees ts es (seen ts es)
@@ -50,15 +46,13 @@ module _ (ts : List (List ℕ)) where
       → Pointwise (AlikeCell (StandsAs ts)) cs ks → ks ≡ remembered ts cs
   recalls_is [] [] h = refl
   recalls_is (c ∷ cs) (k ∷ ks) h = λ i. (sym h.0.0 i, sym h.0.1.is i) ∷ recalls_is cs ks h.1 i
-  recalls_is [] (k ∷ ks) h = absurd h
-  recalls_is (c ∷ cs) [] h = absurd h
+  recalls_is _ _ h = absurd h
 
   pub values_are : (vs : List Value) (ks : List Known) → Pointwise (StandsAs ts) vs ks
       → ks ≡ map (known ts) vs
   values_are [] [] h = refl
   values_are (v ∷ vs) (k ∷ ks) h = λ i. sym h.0.is i ∷ values_are vs ks h.1 i
-  values_are [] (k ∷ ks) h = absurd h
-  values_are (v ∷ vs) [] h = absurd h
+  values_are _ _ h = absurd h
 
   resolves_is : (h : Shape Value) (k : Knowledge) → Alike (StandsAs ts) h k → k ≡ resolved ts h
   resolves_is h k a = λ i.
@@ -202,21 +196,18 @@ module _ (ts : List (List ℕ)) where
   pub top_seen : (es : List (Entry Value)) (v : Value) → top es ≡ Ok (v, drop 1 es)
       → top (seen ts es) ≡ Ok (known ts v, drop 1 (seen ts es))
   top_seen (Item w ∷ es) v e = top_of v w es e
-  top_seen (Mark ∷ es) v e = cc
-  top_seen [] v e = cc
+  top_seen _ v e = cc
 
 -- ---- one more text
 
 numbered_more : (n m : ℕ) (v : Value) → n ≤ m → IsNumbered n v → IsNumbered m v
-numbered_more n m Unknown le h = tt
-numbered_more n m (Made c) le h = tt
 numbered_more n m (value.Text t) le h = omega arith
+numbered_more n m _ le h = tt
 
 known_more : (ts more : List (List ℕ)) (v : Value) → IsNumbered (length ts) v
     → known (ts ++ more) v ≡ known ts v
-known_more ts more Unknown h = refl
-known_more ts more (Made c) h = refl
 known_more ts more (value.Text n) h = ap (λ t. Some (Text t)) (get_or-append ts more [] n h)
+known_more ts more _ h = refl
 
 stands_more : (ts more : List (List ℕ)) (v : Value) (k : Known) → StandsAs ts v k
     → StandsAs (ts ++ more) v k
@@ -264,8 +255,7 @@ module _ (ts us : List (List ℕ)) (g : HasMoreTexts ts us) where
     put_by None None h = sees_grown _ _
         (front_alike (StandsAs ts) t.operands (map (known ts) t.operands) is.operands)
     put_by (Some v) (Some k) h = (h, tt)
-    put_by None (Some k) h = absurd h
-    put_by (Some v) None h = absurd h
+    put_by _ _ h = absurd h
 
     puts : Sees us (put v t.operands ++ t.below)
         (put o (map (known ts) t.operands) ++ seen ts t.below)

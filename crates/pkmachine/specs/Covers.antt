@@ -4,8 +4,7 @@ use Rattle.std.specs.Prelude.{◌≡◌, ℕ, ◌<◌, ⊤, true, ◌⊎◌, Lis
 use Rattle.std.specs.Prelude.{None, slice_get}
 use Rattle.pkstack.specs.Shape.{Entry, Mark, Item, Shape}
 use Rattle.pkmachine.specs.Runs.{Object, State, Event, Import, Did, Stepped, WentOn, Raised}
-use Rattle.pkmachine.specs.Runs.{Stopped}
-use Rattle.pkmachine.specs.Runs.{Stuck}
+use Rattle.pkmachine.specs.Runs.{Stopped, Stuck}
 use Rattle.pkmachine.specs.Knowledge.{Known, Knowledge, Progress}
 use Rattle.pkimport.specs.Import.{Asked, AskedPair, AskedUnknown}
 
@@ -13,15 +12,13 @@ use Rattle.pkimport.specs.Import.{Asked, AskedPair, AskedUnknown}
 abbrev pub Pointwise : {A B : Type 0} → (A → B → Type 0) → List A → List B → Type 0
 Pointwise R [] [] = ⊤
 Pointwise R (x ∷ xs) (y ∷ ys) = R x y × Pointwise R xs ys
-Pointwise R [] (y ∷ ys) = ⊥
-Pointwise R (x ∷ xs) [] = ⊥
+Pointwise R _ _ = ⊥
 
 -- two marks, or two items related by R
 abbrev pub AlikeEntry : {A B : Type 0} → (A → B → Type 0) → Entry A → Entry B → Type 0
 AlikeEntry R Mark Mark = ⊤
 AlikeEntry R (Item x) (Item y) = R x y
-AlikeEntry R Mark (Item y) = ⊥
-AlikeEntry R (Item x) Mark = ⊥
+AlikeEntry R _ _ = ⊥
 
 -- two memo entries with the same number, whose items are related by R
 abbrev pub AlikeCell : {A B : Type 0} → (A → B → Type 0) → ℕ × A → ℕ × B → Type 0
@@ -36,17 +33,24 @@ pub record Alike {A B : Type 0} (R : A → B → Type 0) (a : Shape A) (b : Shap
 abbrev pub IsObject : List Object → ℕ → Type 0
 IsObject objects number = number < length objects
 
--- what is known about an object is true of the object with this number: it has this class, and the
--- machine made it; if nothing is known, it may be any object
-abbrev pub TrueOf : List Object → Known → ℕ → Type 0
-TrueOf objects None number = IsObject objects number
-TrueOf objects (Some kind) number =
+-- what is known about the object with this number is true: it has this class, and the machine made
+-- it; if nothing is known, U holds of it
+abbrev pub TrueBy : (List Object → ℕ → Type 0) → List Object → Known → ℕ → Type 0
+TrueBy U objects None number = U objects number
+TrueBy U objects (Some kind) number =
     slice_get objects number ≡ Some (record { class_of = kind; made = true })
 
--- the knowledge covers the state: marks, items and memo numbers are where it says, and everything
--- known about the items is true
+-- the knowledge covers the state, and U holds of each object about which nothing is known: marks,
+-- items and memo numbers are where it says, and everything known about the items is true
+abbrev pub CoversBy : (List Object → ℕ → Type 0) → Knowledge → State → Type 0
+CoversBy U known state = Alike (TrueBy U state.objects) known state.shape
+
+-- the knowledge covers the state; an object about which nothing is known may be any object
+abbrev pub TrueOf : List Object → Known → ℕ → Type 0
+TrueOf = TrueBy IsObject
+
 abbrev pub Covers : Knowledge → State → Type 0
-Covers known state = Alike (TrueOf state.objects) known state.shape
+Covers = CoversBy IsObject
 
 -- the imported pairs, in order
 abbrev pub imports_of : List Event → List (List ℕ × List ℕ)

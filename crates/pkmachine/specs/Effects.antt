@@ -26,9 +26,8 @@ use Rattle.pkmachine.specs.declared.old_strings.OldStrings.{OldStrings}
 use Rattle.pkmachine.specs.declared.old_strings.OldStrings.TheVariants.{Unknown, Ascii, Bytes}
 use Rattle.pkmachine.specs.declared.effect.Gives.{Gives}
 use Rattle.pkstack.specs.declared.Move.{Move}
-use Rattle.pkstack.specs.declared.Move.TheVariants.{PushesMark, Pops, PopsMark, Duplicates}
-use Rattle.pkstack.specs.declared.Move.TheVariants.{Stores, StoresNext, Fetches, Passes}
-use Rattle.pkstack.specs.declared.Move.TheVariants.{Extends}
+use Rattle.pkstack.specs.declared.Move.TheVariants.{PushesMark, Pops, PopsMark, Duplicates, Stores}
+use Rattle.pkstack.specs.declared.Move.TheVariants.{StoresNext, Fetches, Passes, Extends}
 use Rattle.pkstack.specs.Shape.{number_moved}
 
 -- what an instruction does: an operation takes objects, may name a pair to import, and leaves an

@@ -18,7 +18,7 @@ use Rattle.pkstack.specs.Shape.{Breach, NoMark, NoItem, NoMemo, Odd, Taken, oper
 use Rattle.pkmachine.specs.Runs.{ObjectClass, Text, Object, State, Outcome, Stepped, WentOn, Raised}
 use Rattle.pkmachine.specs.Runs.{Stopped, Stuck, step_as}
 use Rattle.pkmachine.specs.Knowledge.{Policy, suits}
-use Rattle.pkimport.specs.Import.{Asked, AskedPair, AskedUnknown}
+use Rattle.pkimport.specs.Import.{Asked, AskedPair}
 use Rattle.pkmachine.specs.Covers.{Adds}
 
 -- the machine made the object with this number, and this is its class
@@ -48,21 +48,21 @@ NonText OfOperands objects (first ∷ second ∷ []) =
     IsNonText objects first ⊎ IsNonText objects second
 NonText _ objects numbers = ⊥
 
--- the instruction finds a receiver that the machine made and whose class is wrong
-abbrev pub HasWrongReceiver : Effect → State → Type 0
-HasWrongReceiver (Operates takes names gives) state =
+-- the operation finds operands with this property
+abbrev Finds : (Names → Gives → List Object → List ℕ → Type 0) → Effect → State → Type 0
+Finds Holds (Operates takes names gives) state =
     (taken : Taken ℕ)
     × (operands takes state.shape.entries ≡ Ok taken)
-    × WrongReceiver gives state.objects taken.operands
-HasWrongReceiver _ state = ⊥
+    × Holds names gives state.objects taken.operands
+Finds Holds _ state = ⊥
+
+-- the instruction finds a receiver that the machine made and whose class is wrong
+abbrev pub HasWrongReceiver : Effect → State → Type 0
+HasWrongReceiver = Finds (λ names. WrongReceiver)
 
 -- the instruction finds a name that the machine made and that isn't text
 abbrev pub HasNonText : Effect → State → Type 0
-HasNonText (Operates takes names gives) state =
-    (taken : Taken ℕ)
-    × (operands takes state.shape.entries ≡ Ok taken)
-    × NonText names state.objects taken.operands
-HasNonText _ state = ⊥
+HasNonText = Finds (λ names gives. NonText names)
 
 -- there is a list, and the pair isn't on it
 abbrev pub IsOff : Policy → List ℕ → List ℕ → Type 0
@@ -75,8 +75,7 @@ AsksFor module_name name state (WentOn after) =
     Adds (Some (AskedPair module_name name)) state.events after.events
 AsksFor module_name name state (Raised after) =
     Adds (Some (AskedPair module_name name)) state.events after.events
-AsksFor module_name name state (Stopped result after) = ⊥
-AsksFor module_name name state (Stuck breach) = ⊥
+AsksFor module_name name state _ = ⊥
 
 -- STOP leaves an object or a mark below the result
 abbrev pub LeavesMore : Stepped → Type 0
@@ -88,29 +87,18 @@ abbrev pub IsRaise : Stepped → Type 0
 IsRaise (Raised after) = ⊤
 IsRaise _ = ⊥
 
--- the stack has more entries than the limit
-abbrev pub StackIsPast : Bounds → State → Type 0
-StackIsPast limits state = limits.stack < length state.shape.entries
-
--- the memo has more entries than the limit
-abbrev pub MemoIsPast : Bounds → State → Type 0
-MemoIsPast limits state = limits.memo < length state.shape.memo
-
--- the instruction stores into the memo under this number, which exceeds the limit
-abbrev pub NumberIsPast : Bounds → ℕ → Type 0
-NumberIsPast limits number = limits.numbers < number
-
--- one of these limits is exceeded
+-- the stack or the memo has more entries than its limit, or the instruction stores into the memo
+-- under this number, which exceeds the limit
 abbrev pub IsPast : Bounds → ℕ → State → Type 0
 IsPast limits number state =
-    StackIsPast limits state ⊎ (MemoIsPast limits state ⊎ NumberIsPast limits number)
+    (limits.stack < length state.shape.entries)
+    ⊎ ((limits.memo < length state.shape.memo) ⊎ (limits.numbers < number))
 
 -- the step goes on and exceeds a limit
 abbrev pub GoesOnPast : Bounds → ℕ → Stepped → Type 0
 GoesOnPast limits number (WentOn after) = IsPast limits number after
 GoesOnPast limits number (Stopped result after) = IsPast limits number after
-GoesOnPast limits number (Raised after) = ⊥
-GoesOnPast limits number (Stuck breach) = ⊥
+GoesOnPast limits number _ = ⊥
 
 -- the runs that reach an instruction
 pub record Arrivals : Type 1 where
@@ -132,49 +120,50 @@ pub record InEachRun (here : Arrivals) (Holds : State → Type 0) : Type 0 where
   pub each : (state : State) → here.any state → Holds state
   pub some : (state : State) × here.some state
 
--- the instruction can't be executed because this is missing
-abbrev pub IsStuck : OldStrings → Instruction → Breach → State → Type 0
-IsStuck setting instruction breach state =
-    (outcome : Outcome) → step_as setting instruction state outcome ≡ Stuck breach
+-- what a step from a state does, whatever the outcome
+module _ (setting : OldStrings) (instruction : Instruction) where
+  -- it can't be executed because this is missing
+  abbrev pub IsStuck : Breach → State → Type 0
+  IsStuck breach state =
+      (outcome : Outcome) → step_as setting instruction state outcome ≡ Stuck breach
 
--- the instruction is a STOP and leaves more than the result
-abbrev pub LeavesMoreThere : OldStrings → Instruction → State → Type 0
-LeavesMoreThere setting instruction state =
-    (outcome : Outcome) → LeavesMore (step_as setting instruction state outcome)
+  -- it is a STOP and leaves more than the result
+  abbrev pub LeavesMoreThere : State → Type 0
+  LeavesMoreThere state =
+      (outcome : Outcome) → LeavesMore (step_as setting instruction state outcome)
 
--- the instruction raises, whatever the outcome
-abbrev pub RaisesThere : OldStrings → Instruction → State → Type 0
-RaisesThere setting instruction state =
-    (outcome : Outcome) → IsRaise (step_as setting instruction state outcome)
+  -- it raises
+  abbrev pub RaisesThere : State → Type 0
+  RaisesThere state = (outcome : Outcome) → IsRaise (step_as setting instruction state outcome)
 
--- the instruction imports this pair, whatever the outcome
-abbrev pub AsksAlways : OldStrings → Instruction → List ℕ → List ℕ → State → Type 0
-AsksAlways setting instruction module_name name state =
-    (outcome : Outcome)
-    → AsksFor module_name name state (step_as setting instruction state outcome)
+  -- it imports this pair
+  abbrev pub AsksAlways : List ℕ → List ℕ → State → Type 0
+  AsksAlways module_name name state =
+      (outcome : Outcome)
+      → AsksFor module_name name state (step_as setting instruction state outcome)
 
--- some run imports this pair here
-abbrev pub AsksOnce : Arrivals → Instruction → List ℕ → List ℕ → Type 0
-AsksOnce here instruction module_name name =
-    (state : State)
-    × (outcome : Outcome)
-    × here.some state
-    × here.outcome outcome
-    × AsksFor module_name name state (step_as here.setting instruction state outcome)
+module _ (here : Arrivals) (instruction : Instruction) where
+  -- some run imports this pair here
+  abbrev pub AsksOnce : List ℕ → List ℕ → Type 0
+  AsksOnce module_name name =
+      (state : State)
+      × (outcome : Outcome)
+      × here.some state
+      × here.outcome outcome
+      × AsksFor module_name name state (step_as here.setting instruction state outcome)
 
--- two runs import different pairs here, and this is the first of them
-abbrev pub AsksOtherThan : Arrivals → Instruction → List ℕ → List ℕ → Type 0
-AsksOtherThan here instruction module_name name =
-    AsksOnce here instruction module_name name
-    × ((other_module : List ℕ)
-    × (other_name : List ℕ)
-    × AsksOnce here instruction other_module other_name
-    × ((module_name ≡ other_module) → (name ≡ other_name) → ⊥))
+  -- two runs import different pairs here, and this is the first of them
+  abbrev pub AsksOtherThan : List ℕ → List ℕ → Type 0
+  AsksOtherThan module_name name =
+      AsksOnce module_name name
+      × ((other_module : List ℕ)
+      × (other_name : List ℕ)
+      × AsksOnce other_module other_name
+      × ((module_name ≡ other_module) → (name ≡ other_name) → ⊥))
 
--- two runs import different pairs here
-abbrev pub AsksForTwo : Arrivals → Instruction → Type 0
-AsksForTwo here instruction =
-    (module_name : List ℕ) × (name : List ℕ) × AsksOtherThan here instruction module_name name
+  -- two runs import different pairs here
+  abbrev pub AsksForTwo : Type 0
+  AsksForTwo = (module_name : List ℕ) × (name : List ℕ) × AsksOtherThan module_name name
 
 -- every run that gets here imports this pair, which is off the list
 abbrev pub AsksOffList : Policy → Arrivals → Instruction → List ℕ → List ℕ → Type 0
@@ -195,32 +184,29 @@ GoesPast limits here instruction =
 
 -- the fault that a reason names, for an instruction that these runs reach; reasons that concern
 -- reading, frames or memory name none
-abbrev pub HasFaultHere : Policy → Bounds → Arrivals → Instruction → Reason → Type 0
-HasFaultHere policy limits here instruction MissingMark =
-    InEachRun here (IsStuck here.setting instruction NoMark)
-HasFaultHere policy limits here instruction MissingItem =
-    InEachRun here (IsStuck here.setting instruction NoItem)
-HasFaultHere policy limits here instruction (MissingMemo number) =
-    InEachRun here (IsStuck here.setting instruction (NoMemo number))
-HasFaultHere policy limits here instruction OddItems =
-    InEachRun here (IsStuck here.setting instruction Odd)
-HasFaultHere policy limits here instruction WrongClass =
-    InEachRun here (HasWrongReceiver (effect_as here.setting instruction))
-HasFaultHere policy limits here instruction NotText =
-    InEachRun here (HasNonText (effect_as here.setting instruction))
-HasFaultHere policy limits here instruction UnknownImport =
-    (module_name : List ℕ)
-    × (name : List ℕ)
-    × AsksOtherThan here instruction module_name name
-    × IsOff policy module_name name
-HasFaultHere policy limits here instruction ImportOffList =
-    (module_name : List ℕ) × (name : List ℕ) × AsksOffList policy here instruction module_name name
-HasFaultHere policy limits here instruction LeftOver =
-    InEachRun here (LeavesMoreThere here.setting instruction)
-HasFaultHere policy limits here instruction NotAscii =
-    InEachRun here (RaisesThere here.setting instruction)
-HasFaultHere policy limits here instruction TooLarge = GoesPast limits here instruction
-HasFaultHere policy limits here instruction _ = ⊥
+module _ (policy : Policy) (limits : Bounds) (here : Arrivals) (instruction : Instruction) where
+  abbrev pub HasFaultHere : Reason → Type 0
+  HasFaultHere MissingMark = InEachRun here (IsStuck here.setting instruction NoMark)
+  HasFaultHere MissingItem = InEachRun here (IsStuck here.setting instruction NoItem)
+  HasFaultHere (MissingMemo number) =
+      InEachRun here (IsStuck here.setting instruction (NoMemo number))
+  HasFaultHere OddItems = InEachRun here (IsStuck here.setting instruction Odd)
+  HasFaultHere WrongClass =
+      InEachRun here (HasWrongReceiver (effect_as here.setting instruction))
+  HasFaultHere NotText = InEachRun here (HasNonText (effect_as here.setting instruction))
+  HasFaultHere UnknownImport =
+      (module_name : List ℕ)
+      × (name : List ℕ)
+      × AsksOtherThan here instruction module_name name
+      × IsOff policy module_name name
+  HasFaultHere ImportOffList =
+      (module_name : List ℕ)
+      × (name : List ℕ)
+      × AsksOffList policy here instruction module_name name
+  HasFaultHere LeftOver = InEachRun here (LeavesMoreThere here.setting instruction)
+  HasFaultHere NotAscii = InEachRun here (RaisesThere here.setting instruction)
+  HasFaultHere TooLarge = GoesPast limits here instruction
+  HasFaultHere _ = ⊥
 
 -- the position of a reason in the order in which they are tried for an instruction that was read
 abbrev pub rank : Reason → ℕ
@@ -247,8 +233,7 @@ IsEarlier earlier reason = rank earlier < rank reason
 abbrev pub IsPairOf : Policy → Arrivals → Instruction → Reason → Option Asked → Type 0
 IsPairOf policy here instruction ImportOffList (Some (AskedPair module_name name)) =
     AsksOffList policy here instruction module_name name
-IsPairOf policy here instruction ImportOffList (Some AskedUnknown) = ⊥
-IsPairOf policy here instruction ImportOffList None = ⊥
+IsPairOf policy here instruction ImportOffList _ = ⊥
 IsPairOf policy here instruction _ pair = pair ≡ None
 
 -- the instruction has the fault that the reason names and none that is tried earlier; the pair is

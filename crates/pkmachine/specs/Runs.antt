@@ -111,9 +111,7 @@ abbrev pub asks : Gives → Bool
 asks (Makes kind) = false
 asks MakesIntOrBool = false
 asks MakesText = false
-asks (MayMake kind) = true
-asks Answers = true
-asks (Leaves wanted) = true
+asks _ = true
 
 -- INT's arguments 00 and 01 are False and True
 abbrev pub int_or_bool : Instruction → Class

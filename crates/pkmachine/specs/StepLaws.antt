@@ -7,14 +7,14 @@ use Rattle.pkimport.specs.Import.{AskedUnknown}
 use Rattle.pklist.specs.Bounded.{HasLongest}
 use Rattle.pkstack.specs.Shape.{marks_of}
 use Rattle.pkmachine.specs.declared.old_strings.OldStrings.{OldStrings}
-use Rattle.pkmachine.specs.Covers.{Covers, Follows}
+use Rattle.pkmachine.specs.Covers.{Covers, CoversBy, Follows}
 use Rattle.pkmachine.specs.Faults.{AsksForTwo, HasNoFault, IsFirstFault}
 use Rattle.pkmachine.specs.Knowledge.{Knowledge, Policy, Progress, Refusal, advance, reason_of}
 use Rattle.pkmachine.specs.RowRuns.{Beginning, RunsFrom}
 use Rattle.pkmachine.specs.Runs.{State, Outcome, step_as}
 use Rattle.pkmachine.specs.Step.{IsPermitted}
 use Rattle.pkmachine.specs.View.{off_pair}
-use Rattle.pkmachine.specs.Witnesses.{Answered, CoversBy, StepsPast, Stands, new_text}
+use Rattle.pkmachine.specs.Witnesses.{Answered, StepsPast, Stands, new_text}
 
 -- whatever the outcome, an accepted step does in each covered state what the checker says
 abbrev pub AcceptedIsSound : Type 0

@@ -5,7 +5,7 @@ use Rattle.pkmachine.specs.declared.old_strings.OldStrings.{OldStrings}
 use Rattle.pkmachine.specs.declared.old_strings.OldStrings.TheVariants.{Unknown}
 use Rattle.pkmachine.specs.Effects.{effect_as}
 use Rattle.pkmachine.specs.Runs.{State, Outcome, CanCome, Raise, Stepped, WentOn, Raised, Stopped}
-use Rattle.pkmachine.specs.Runs.{Stuck, step_as, effect_asks, start}
+use Rattle.pkmachine.specs.Runs.{step_as, effect_asks, start}
 use Rattle.pkmachine.specs.Covers.{imports_of}
 
 -- how far a run got: it reached this state, or its last step ended it
@@ -27,8 +27,7 @@ outcomes_after asks outcomes = outcomes
 abbrev pub go_on : Stepped → (State → Ended) → Ended
 go_on (WentOn state) next = next state
 go_on (Stopped result state) next = EndedBy (Stopped result state)
-go_on (Raised state) next = EndedBy (Raised state)
-go_on (Stuck breach) next = EndedBy (Stuck breach)
+go_on step next = EndedBy step
 
 -- the run of these instructions with these outcomes, given the decoding of old strings
 abbrev pub run_as : OldStrings → List Instruction → List Outcome → State → Ended
@@ -62,11 +61,10 @@ AllListed list (pair ∷ pairs) = (list pair.0 pair.1 ≡ true) × AllListed lis
 -- the run isn't stuck, imported only listed pairs, and left nothing but the result if it stopped
 abbrev pub EndsWell : (List ℕ → List ℕ → Bool) → Ended → Type 0
 EndsWell list (Reached state) = AllListed list (imports_of state.events)
-EndsWell list (EndedBy (WentOn state)) = ⊥
 EndsWell list (EndedBy (Raised state)) = AllListed list (imports_of state.events)
 EndsWell list (EndedBy (Stopped result state)) =
     (state.shape.entries ≡ []) × AllListed list (imports_of state.events)
-EndsWell list (EndedBy (Stuck breach)) = ⊥
+EndsWell list _ = ⊥
 
 -- every run ends well, whatever its outcomes
 abbrev pub Sound : OldStrings → List Instruction → (List ℕ → List ℕ → Bool) → Type 0

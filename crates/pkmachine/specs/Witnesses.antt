@@ -1,22 +1,11 @@
 -- Runs whose answers are all one text: the witnesses of what some run does.
-use Rattle.std.specs.Prelude.{◌≡◌, ℕ, List, None, Some, false, length, slice_get, true}
+use Rattle.std.specs.Prelude.{◌≡◌, ℕ, List, Some, false, length, slice_get}
 use Rattle.std.specs.Str.{IsUtf8}
-use Rattle.pkmachine.specs.Covers.{Alike, Covers}
+use Rattle.pkmachine.specs.Covers.{Covers}
+pub use Rattle.pkmachine.specs.Covers.{CoversBy}
 use Rattle.pkmachine.specs.Faults.{Arrivals}
-use Rattle.pkmachine.specs.Knowledge.{Known, Knowledge}
-use Rattle.pkmachine.specs.Runs.{Object, Text, State, Outcome, Go, Stepped, WentOn, Raised, Stopped}
-use Rattle.pkmachine.specs.Runs.{Stuck}
-
--- what is known about the object with this number is true: it has this class, and the machine made
--- it; if nothing is known, U holds of it
-abbrev pub TrueBy : (List Object → ℕ → Type 0) → List Object → Known → ℕ → Type 0
-TrueBy U objects None number = U objects number
-TrueBy U objects (Some kind) number =
-    slice_get objects number ≡ Some (record { class_of = kind; made = true })
-
--- the knowledge covers the state, and U holds of each object about which nothing is known
-abbrev pub CoversBy : (List Object → ℕ → Type 0) → Knowledge → State → Type 0
-CoversBy U known state = Alike (TrueBy U state.objects) known state.shape
+use Rattle.pkmachine.specs.Knowledge.{Knowledge}
+use Rattle.pkmachine.specs.Runs.{Object, Text, State, Outcome, Go, Stepped, WentOn, Stopped}
 
 -- the object with this number was answered, and is this text
 abbrev pub Answered : List ℕ → List Object → ℕ → Type 0
@@ -37,8 +26,7 @@ new_text text state = Go (length state.objects) (Text text)
 abbrev pub StepsPast : List ℕ → Knowledge → Stepped → Type 0
 StepsPast text after (WentOn state) = CoversBy (Answered text) after state
 StepsPast text after (Stopped result state) = CoversBy (Answered text) after state
-StepsPast text after (Raised state) = ⊥
-StepsPast text after (Stuck breach) = ⊥
+StepsPast text after _ = ⊥
 
 -- the knowledge covers each state in which a run gets here; and for each text, some run gets here
 -- in a covered state in which each object about which nothing is known is an answer with this text

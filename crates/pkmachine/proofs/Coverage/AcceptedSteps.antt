@@ -3,7 +3,7 @@ use Rattle.pkmachine.specs.declared.old_strings.OldStrings.{OldStrings}
 use Rattle.pkops.specs.Operands.{memo_number, pair_named}
 use Rattle.std.proofs.Common.{◌≡◌, ℕ, ◌<◌, Bool, true, false, cond, ltb, List, [], ◌∷◌, ◌++◌}
 use Rattle.std.proofs.Common.{length, map, Option, Some, None, Result, Ok, Err, ◌⊎◌, inl, inr, refl}
-use Rattle.std.proofs.Common.{sym, ap, subst, ◌∙◌, arith, length-append, append_assoc, append-nil}
+use Rattle.std.proofs.Common.{sym, ap, ◌∙◌, arith, length-append, append_assoc, append-nil}
 use Rattle.std.specs.Prelude.{slice_get}
 use Rattle.std.proofs.lemmas.Option.{slice_get_within, slice_get-get_or, get_or_from_slice_get}
 use Rattle.std.proofs.Math.ListN.{get_or-append}
@@ -11,31 +11,27 @@ use Rattle.std.proofs.Math.Seq.{get_or-append_seam}
 use Rattle.pkmachine.specs.declared.effect.Names.{Names}
 use Rattle.pkmachine.specs.declared.effect.Names.TheVariants.{NoName, OfArgument, OfOperands}
 use Rattle.pkmachine.specs.declared.effect.Gives.{Gives}
-use Rattle.pkmachine.specs.declared.effect.Gives.TheVariants.{Makes, MakesIntOrBool, MakesText}
-use Rattle.pkmachine.specs.declared.effect.Gives.TheVariants.{MayMake, Answers, Leaves}
+use Rattle.pkmachine.specs.declared.effect.Gives.TheVariants.{Answers, Leaves}
 use Rattle.pkmachine.specs.Effects.{Effect, Operates, Moves, Stops, Raises, effect_as}
 use Rattle.pkmachine.specs.Effects.{number_stored}
-use Rattle.pkstack.specs.Shape.{top, put, Breach, Entry, Item, Mark, Shape, Taken, and_then, unless}
+use Rattle.pkstack.specs.Shape.{top, put, Breach, Entry, Item, Shape, Taken, and_then, unless}
 use Rattle.pkstack.specs.Shape.{front, moved}
 use Rattle.pkops.specs.Spelling.{Instruction}
-use Rattle.pkmachine.specs.Runs.{argument_named, ObjectClass, Text, Plain, Foreign, Object, Event}
-use Rattle.pkmachine.specs.Runs.{Import, Did, State, Outcome, Raise, Go, Stepped, Stopped, Named}
-use Rattle.pkmachine.specs.Runs.{NoImport, Pair, NotTexts, class_at, texts_named, named, asks}
-use Rattle.pkmachine.specs.Runs.{given, come_of, operated, move_step, stop_step, operate_step}
-use Rattle.pkmachine.specs.Runs.{perform, step_as}
+use Rattle.pkmachine.specs.Runs.{argument_named, ObjectClass, Text, Foreign, Object, Event, Import}
+use Rattle.pkmachine.specs.Runs.{Did, State, Outcome, Raise, Go, Stepped, Stopped, Named, NoImport}
+use Rattle.pkmachine.specs.Runs.{Pair, NotTexts, class_at, texts_named, named, asks, given, come_of}
+use Rattle.pkmachine.specs.Runs.{operated, move_step, stop_step, operate_step, perform, step_as}
 use Rattle.pkmachine.specs.Knowledge.{argument_asked, Known, Knowledge, Policy, Progress, Refusal}
 use Rattle.pkmachine.specs.Knowledge.{WrongClass, OffList, TooLarge, wrong_receiver, permitted}
 use Rattle.pkmachine.specs.Knowledge.{unknown_pair, operands_asked, asked_of, known_given, is_past}
-use Rattle.pkmachine.specs.Knowledge.{within, left_over, move_learned, stop_learned}
-use Rattle.pkmachine.specs.Knowledge.{operate_learned}
-use Rattle.pkmachine.specs.Knowledge.{learn, advance}
+use Rattle.pkmachine.specs.Knowledge.{within, left_over, move_learned, operated_on, stop_learned}
+use Rattle.pkmachine.specs.Knowledge.{operate_learned, learn, advance}
 use Rattle.pkimport.specs.Import.{Asked, AskedPair, AskedUnknown}
 use Rattle.pkops.specs.Limits.{Bounds}
 use Rattle.pkmachine.specs.Covers.{Pointwise, AlikeEntry, AlikeCell, Alike, imports_of, IsAsked}
-use Rattle.pkmachine.specs.Covers.{Adds}
-use Rattle.pkmachine.proofs.Coverage.CoversBy.{Choose, AnswerHolds, OutcomeHolds}
-use Rattle.pkmachine.specs.Witnesses.{TrueBy, CoversBy}
-use Rattle.pkmachine.proofs.Coverage.CoversBy.{FollowsBy, FollowsIfOk}
+use Rattle.pkmachine.specs.Covers.{Adds, TrueBy, CoversBy}
+use Rattle.pkmachine.proofs.Coverage.CoversBy.{Choose, AnswerHolds, OutcomeHolds, FollowsBy}
+use Rattle.pkmachine.proofs.Coverage.CoversBy.{FollowsIfOk}
 use Rattle.pkmachine.proofs.Coverage.Alike.{AlikeTop, top_alike, SameResult, Pointwise-append}
 use Rattle.pkmachine.proofs.Coverage.Alike.{Alike-map, AlikeTaken, operands_alike, moved_alike}
 use Rattle.pkmachine.proofs.Coverage.Alike.{front_alike}
@@ -83,12 +79,7 @@ unknown_alike : (p : Policy) (x y : Option ObjectClass)
     → NamesAlike p (unknown_pair p) (texts_named x y)
 unknown_alike (Some list) x y = tt
 unknown_alike None (Some (Text a)) (Some (Text b)) = inl (a, b, refl)
-unknown_alike None None y = inr refl
-unknown_alike None (Some (Plain s)) y = inr refl
-unknown_alike None (Some Foreign) y = inr refl
-unknown_alike None (Some (Text a)) None = inr refl
-unknown_alike None (Some (Text a)) (Some (Plain s)) = inr refl
-unknown_alike None (Some (Text a)) (Some Foreign) = inr refl
+unknown_alike None _ _ = inr refl
 
 -- the class of an object agrees with what is known about it
 abbrev pub Says : Known → Option ObjectClass → Type 0
@@ -102,12 +93,7 @@ texts_alike p (Some (Text a)) (Some (Text b)) x y h g = permitted_alike p a b (t
 texts_alike p None None x y h g = unknown_alike p x y
 texts_alike p None (Some (Text b)) x y h g = unknown_alike p x y
 texts_alike p (Some (Text a)) None x y h g = unknown_alike p x y
-texts_alike p (Some (Plain s)) k x y h g = tt
-texts_alike p (Some Foreign) k x y h g = tt
-texts_alike p None (Some (Plain s)) x y h g = tt
-texts_alike p None (Some Foreign) x y h g = tt
-texts_alike p (Some (Text a)) (Some (Plain s)) x y h g = tt
-texts_alike p (Some (Text a)) (Some Foreign) x y h g = tt
+texts_alike p _ _ x y h g = tt
 
 -- the property that an answered object must have
 abbrev AnswerIfAny : Gives → (List Object → ℕ → Type 0) → List Object → ℕ → ObjectClass → Type 0
@@ -117,20 +103,12 @@ AnswerIfAny gives U objects n c = Unit {0}
 answer_if_any : (gives : Gives) (U : List Object → ℕ → Type 0) (objects : List Object) (n : ℕ)
     (c : ObjectClass) → AnswerHolds U objects n c → AnswerIfAny gives U objects n c
 answer_if_any Answers U objects n c h = h
-answer_if_any (Makes s) U objects n c h = tt
-answer_if_any MakesIntOrBool U objects n c h = tt
-answer_if_any MakesText U objects n c h = tt
-answer_if_any (MayMake s) U objects n c h = tt
-answer_if_any (Leaves w) U objects n c h = tt
+answer_if_any _ U objects n c h = tt
 
 no_answer : (gives : Gives) (U : List Object → ℕ → Type 0) (objects : List Object) (n : ℕ)
     (c : ObjectClass) → asks gives ≡ false → AnswerIfAny gives U objects n c
 no_answer Answers U objects n c h = cc
-no_answer (Makes s) U objects n c h = tt
-no_answer MakesIntOrBool U objects n c h = tt
-no_answer MakesText U objects n c h = tt
-no_answer (MayMake s) U objects n c h = tt
-no_answer (Leaves w) U objects n c h = tt
+no_answer _ U objects n c h = tt
 
 module _ (U : List Object → ℕ → Type 0) where
   pub TrueBy-Says : (objects : List Object) (k : Known) (n : ℕ) → TrueBy U objects k n
@@ -150,12 +128,7 @@ module _ (U : List Object → ℕ → Type 0) where
       (class_at objects m) (class_at objects n) (TrueBy-Says objects j m h.0)
       (TrueBy-Says objects k n h.1.0)
   names_alike p OfOperands i objects (j ∷ k ∷ l ∷ ks) (m ∷ n ∷ o ∷ ns) h = refl
-  names_alike p OfOperands i objects [] (n ∷ ns) h = absurd h
-  names_alike p OfOperands i objects (k ∷ ks) [] h = absurd h
-  names_alike p OfOperands i objects (j ∷ []) (m ∷ n ∷ ns) h = absurd h.1
-  names_alike p OfOperands i objects (j ∷ k ∷ ks) (m ∷ []) h = absurd h.1
-  names_alike p OfOperands i objects (j ∷ k ∷ []) (m ∷ n ∷ o ∷ ns) h = absurd h.1.1
-  names_alike p OfOperands i objects (j ∷ k ∷ l ∷ ks) (m ∷ n ∷ []) h = absurd h.1.1
+  names_alike p OfOperands i objects _ _ h = absurd (assumption)
 
   module _ (grows : Grows U) where
     TrueOf-grow : (objects : List Object) (r : Object) (k : Known) (n : ℕ) → TrueBy U objects k n
@@ -184,14 +157,6 @@ module _ (U : List Object → ℕ → Type 0) where
         → Alike (TrueBy U (given gives i n c objects).1) (record
         { entries = put (known_given gives i) t.operands ++ t.below; memo = ms })
         (record { entries = put (given gives i n c objects).0 u.operands ++ u.below; memo = ns })
-    given_alike (Makes s) i t u n c objects ms ns o h g =
-        push_alike objects _ _ t.below u.below ms ns (new_at objects _) h.below g
-    given_alike MakesIntOrBool i t u n c objects ms ns o h g =
-        push_alike objects _ _ t.below u.below ms ns (new_at objects _) h.below g
-    given_alike MakesText i t u n c objects ms ns o h g =
-        push_alike objects _ _ t.below u.below ms ns (new_at objects _) h.below g
-    given_alike (MayMake s) i t u n c objects ms ns o h g =
-        push_alike objects _ _ t.below u.below ms ns (new_at objects _) h.below g
     given_alike (Leaves w) i t u n c objects ms ns o h g =
         record {
           entries = Pointwise-append (AlikeEntry (TrueBy U objects)) (front t.operands)
@@ -209,15 +174,16 @@ module _ (U : List Object → ℕ → Type 0) where
           | true ↦ λ v. record { entries = (v, h.below); memo = g }
           | false ↦ λ v. push_alike objects _ _ t.below u.below ms ns v h.below g
         ] o
-
-    -- what the checker knows after an operation
-    abbrev after_of : Gives → Instruction → Taken Known → Knowledge → Knowledge
-    after_of gives i t k =
-        record { entries = put (known_given gives i) t.operands ++ t.below; memo = k.memo }
+    given_alike _ i t u n c objects ms ns o h g =
+        push_alike objects _ _ t.below u.below ms ns (new_at objects _) h.below g
 
     module _ (gives : Gives) (i : Instruction) (t : Taken Known) (u : Taken ℕ) (k : Knowledge)
         (s : State) (h : AlikeTaken (TrueBy U s.objects) t u)
         (m : Pointwise (AlikeCell (TrueBy U s.objects)) k.memo s.shape.memo) where
+      -- what the checker knows after the operation
+      abbrev progress : Option Asked → Progress
+      progress a = operated_on gives i k t a
+
       -- the events extend those of s by `fresh`, and the step makes the import `a`
       record Fresh (a : Option Asked) (ev fresh : List Event) : Type 0 where
         ev_is : ev ≡ s.events ++ fresh
@@ -234,8 +200,7 @@ module _ (U : List Object → ℕ → Type 0) where
 
       asked_follows : (b : Bool) (o : Outcome) (a : Option Asked) (ev fresh : List Event)
           → asks gives ≡ b → Fresh a ev fresh → OutcomeHolds U s.objects o
-          → FollowsBy U (record { after = after_of gives i t k; import = a }) s
-          (come_of b gives i u o (record s { events = ev }))
+          → FollowsBy U (progress a) s (come_of b gives i u o (record s { events = ev }))
       asked_follows true Raise a ev fresh e f w = inl (adds a ev fresh f None)
       asked_follows true (Go n c) a ev fresh e f w = (
         given_alike gives i t u n c s.objects k.memo s.shape.memo
@@ -248,44 +213,26 @@ module _ (U : List Object → ℕ → Type 0) where
         adds a ev fresh f _,
       )
 
-      no_import : (o : Outcome) → OutcomeHolds U s.objects o
-          → FollowsBy U (record { after = after_of gives i t k; import = None }) s
-          (operated NoImport gives i u o s)
-      no_import o w = asked_follows (asks gives) o None s.events [] refl
-          (record { ev_is = sym (append-nil s.events); asked_is = λ d. refl }) w
-
       one_import : (o : Outcome) (a : Option Asked) (x y : List ℕ) → IsAsked a ((x, y) ∷ [])
-          → OutcomeHolds U s.objects o → FollowsBy U
-          (record { after = after_of gives i t k; import = a }) s
-          (operated (Pair x y) gives i u o s)
+          → OutcomeHolds U s.objects o
+          → FollowsBy U (progress a) s (operated (Pair x y) gives i u o s)
       one_import o a x y e w = asked_follows (asks gives) o a (s.events ++ Import x y ∷ [])
           (Import x y ∷ []) refl (record { ev_is = refl; asked_is = λ d. e }) w
 
-      no_texts : (o : Outcome)
-          → FollowsBy U (record { after = after_of gives i t k; import = Some AskedUnknown }) s
-          (operated NotTexts gives i u o s)
-      no_texts o =
-          inr (refl, record { added = Did i u.operands None ∷ []; grown = refl; asked = refl })
-
-      abbrev progress_here : Result (Option Asked) Refusal → Result Progress Refusal
-      progress_here a = and_then a (λ x. Ok (record { after = after_of gives i t k; import = x }))
-
       imports_follow : (p : Policy) (a : Result (Option Asked) Refusal) (n : Named) (o : Outcome)
           → NamesAlike p a n → OutcomeHolds U s.objects o
-          → FollowsIfOk U (progress_here a) s (operated n gives i u o s)
+          → FollowsIfOk U (and_then a (λ x. Ok (progress x))) s (operated n gives i u o s)
       imports_follow p (Err r) n o h w = tt
-      imports_follow p (Ok None) n o e w = subst
-          (λ n. FollowsBy U (record { after = after_of gives i t k; import = None }) s
-          (operated n gives i u o s)) (sym e) (no_import o w)
-      imports_follow p (Ok (Some (AskedPair x y))) n o e w = subst
-          (λ n. FollowsBy U (record { after = after_of gives i t k; import = Some (AskedPair x y) })
-          s (operated n gives i u o s)) (sym e) (one_import o _ x y refl w)
-      imports_follow p (Ok (Some AskedUnknown)) n o (inl g) w = subst
-          (λ n. FollowsBy U (record { after = after_of gives i t k; import = Some AskedUnknown }) s
-          (operated n gives i u o s)) (sym g.2) (one_import o _ g.0 g.1 (g.0, g.1, refl) w)
-      imports_follow p (Ok (Some AskedUnknown)) n o (inr e) w = subst
-          (λ n. FollowsBy U (record { after = after_of gives i t k; import = Some AskedUnknown }) s
-          (operated n gives i u o s)) (sym e) (no_texts o)
+      imports_follow p (Ok None) n o e w =
+          rw e
+          (asked_follows (asks gives) o None s.events [] refl
+          (record { ev_is = sym (append-nil s.events); asked_is = λ d. refl }) w)
+      imports_follow p (Ok (Some (AskedPair x y))) n o e w = rw e (one_import o _ x y refl w)
+      imports_follow p (Ok (Some AskedUnknown)) n o (inl g) w =
+          rw g.2 (one_import o _ g.0 g.1 (g.0, g.1, refl) w)
+      imports_follow p (Ok (Some AskedUnknown)) n o (inr e) w =
+          rw e
+          (inr (refl, record { added = Did i u.operands None ∷ []; grown = refl; asked = refl }))
 
     refused_follows : (b : Bool) (r : Refusal) (x : Result Progress Refusal) (s : State)
         (st : Stepped) → FollowsIfOk U x s st → FollowsIfOk U (cond b (Err r) x) s st
@@ -315,12 +262,10 @@ module _ (U : List Object → ℕ → Type 0) where
 
     only_item : (es : List (Entry ℕ)) (n : ℕ) (fs : List (Entry ℕ)) → top es ≡ Ok (n, fs)
         → es ≡ Item n ∷ fs
-    only_item [] n fs e = cc
-    only_item (Mark ∷ es) n fs e = cc
     only_item (Item m ∷ es) n fs e =
-        let pair = λ (r : Result (ℕ × List (Entry ℕ)) Breach).
-        elim r as (λ _. ℕ × List (Entry ℕ)) [ Ok t ↦ t | Err b ↦ (m, es) ] in
-        ap (λ r. Item (pair r).0 ∷ (pair r).1) e
+        let same : ◌≡◌ {A = ℕ × List (Entry ℕ)} (m, es) (n, fs) = cc in
+        λ j. Item (same j).0 ∷ (same j).1
+    only_item _ n fs e = cc
 
     emptied : (es : List (Entry Known)) (ms : List (ℕ × Known)) (s : State) (n : ℕ)
         (fs : List (Entry ℕ)) → top s.shape.entries ≡ Ok (n, fs)

@@ -5,13 +5,12 @@ use Rattle.std.specs.Ordering.{nat_cmp, match_ordering, is_eq}
 use Rattle.std.specs.declared.cmp.Ordering.TheVariants.{Less, Equal, Greater}
 use Rattle.std.specs.BTreeMap.{insert_entry}
 use Rattle.pkstack.specs.declared.SliceRule.{SliceRule}
-use Rattle.pkstack.specs.declared.SliceRule.TheVariants.{AnySlice, EvenSlice, FullSlice}
+use Rattle.pkstack.specs.declared.SliceRule.TheVariants.{EvenSlice, FullSlice}
 use Rattle.pkstack.specs.declared.Takes.{Takes}
 use Rattle.pkstack.specs.declared.Takes.TheVariants.{Objects, Slice, SliceAndReceiver}
 use Rattle.pkstack.specs.declared.Move.{Move}
-use Rattle.pkstack.specs.declared.Move.TheVariants.{PushesMark, Pops, PopsMark, Duplicates}
-use Rattle.pkstack.specs.declared.Move.TheVariants.{Stores, StoresNext, Fetches, Passes}
-use Rattle.pkstack.specs.declared.Move.TheVariants.{Extends}
+use Rattle.pkstack.specs.declared.Move.TheVariants.{PushesMark, Pops, PopsMark, Duplicates, Stores}
+use Rattle.pkstack.specs.declared.Move.TheVariants.{StoresNext, Fetches, Passes, Extends}
 use Rattle.pkstack.specs.Shape.{Breach, Odd, Entry, Mark, Item, Shape, Taken, and_then, unless}
 use Rattle.pkstack.specs.Shape.{is_even, items, slice, breaks, operands, front, top, stored}
 use Rattle.pkstack.specs.Shape.{recalled, fetched, popped, moved}
@@ -30,43 +29,37 @@ pub and_then_alike : {X Y V W : Type 0} (P : X → Y → Type 0) (Q : V → W �
     → SameResult Q (and_then a f) (and_then b g)
 and_then_alike P Q (Ok x) (Ok y) f g h on = on x y h
 and_then_alike P Q (Err r) (Err q) f g h on = h
-and_then_alike P Q (Ok x) (Err q) f g h on = absurd h
-and_then_alike P Q (Err r) (Ok y) f g h on = absurd h
+and_then_alike P Q _ _ f g h on = absurd h
 
 pub unless_alike : {X Y : Type 0} (P : X → Y → Type 0) (o q : Option Breach) (a : Result X Breach)
     (b : Result Y Breach) → o ≡ q → SameResult P a b → SameResult P (unless o a) (unless q b)
 unless_alike P None None a b e h = h
 unless_alike P (Some r) (Some q) a b e h = cc
-unless_alike P None (Some q) a b e h = cc
-unless_alike P (Some r) None a b e h = cc
+unless_alike P _ _ a b e h = cc
 
 pub Pointwise-map : {A B : Type 0} (P Q : A → B → Type 0) (xs : List A) (ys : List B)
     → ((x : A) (y : B) → P x y → Q x y) → Pointwise P xs ys → Pointwise Q xs ys
 Pointwise-map P Q [] [] f h = tt
 Pointwise-map P Q (x ∷ xs) (y ∷ ys) f h = (f x y h.0, Pointwise-map P Q xs ys f h.1)
-Pointwise-map P Q [] (y ∷ ys) f h = absurd h
-Pointwise-map P Q (x ∷ xs) [] f h = absurd h
+Pointwise-map P Q _ _ f h = absurd h
 
 pub Pointwise-append : {A B : Type 0} (P : A → B → Type 0) (xs : List A) (ys : List B) (vs : List A)
     (ws : List B) → Pointwise P xs ys → Pointwise P vs ws → Pointwise P (xs ++ vs) (ys ++ ws)
 Pointwise-append P [] [] vs ws h g = g
 Pointwise-append P (x ∷ xs) (y ∷ ys) vs ws h g = (h.0, Pointwise-append P xs ys vs ws h.1 g)
-Pointwise-append P [] (y ∷ ys) vs ws h g = absurd h
-Pointwise-append P (x ∷ xs) [] vs ws h g = absurd h
+Pointwise-append P _ _ vs ws h g = absurd h
 
 pub length-Pointwise : {A B : Type 0} (P : A → B → Type 0) (xs : List A) (ys : List B)
     → Pointwise P xs ys → length xs ≡ length ys
 length-Pointwise P [] [] h = refl
 length-Pointwise P (x ∷ xs) (y ∷ ys) h = ap suc (length-Pointwise P xs ys h.1)
-length-Pointwise P [] (y ∷ ys) h = absurd h
-length-Pointwise P (x ∷ xs) [] h = absurd h
+length-Pointwise P _ _ h = absurd h
 
 pub AlikeEntry-map : {A B : Type 0} (P Q : A → B → Type 0) → ((x : A) (y : B) → P x y → Q x y)
     → (x : Entry A) (y : Entry B) → AlikeEntry P x y → AlikeEntry Q x y
 AlikeEntry-map P Q f Mark Mark h = tt
 AlikeEntry-map P Q f (Item x) (Item y) h = f x y h
-AlikeEntry-map P Q f Mark (Item y) h = absurd h
-AlikeEntry-map P Q f (Item x) Mark h = absurd h
+AlikeEntry-map P Q f _ _ h = absurd h
 
 pub Alike-map : {A B : Type 0} (P Q : A → B → Type 0) → ((x : A) (y : B) → P x y → Q x y)
     → (a : Shape A) (b : Shape B) → Alike P a b → Alike Q a b
@@ -96,10 +89,7 @@ module _ {A B : Type 0} (R : A → B → Type 0) where
   items_alike (suc k) (Mark ∷ es) (Mark ∷ fs) xs ys h g = refl
   items_alike (suc k) (Item x ∷ es) (Item y ∷ fs) xs ys h g =
       items_alike k es fs (x ∷ xs) (y ∷ ys) h.1 (h.0, g)
-  items_alike (suc k) (Mark ∷ es) (Item y ∷ fs) xs ys h g = absurd h.0
-  items_alike (suc k) (Item x ∷ es) (Mark ∷ fs) xs ys h g = absurd h.0
-  items_alike (suc k) [] (f ∷ fs) xs ys h g = absurd h
-  items_alike (suc k) (e ∷ es) [] xs ys h g = absurd h
+  items_alike (suc k) _ _ xs ys h g = absurd (assumption)
 
   pub slice_alike : (es : List (Entry A)) (fs : List (Entry B)) (xs : List A) (ys : List B)
       → Pointwise (AlikeEntry R) es fs → Pointwise R xs ys
@@ -108,25 +98,19 @@ module _ {A B : Type 0} (R : A → B → Type 0) where
   slice_alike (Mark ∷ es) (Mark ∷ fs) xs ys h g = record { operands = g; below = h.1 }
   slice_alike (Item x ∷ es) (Item y ∷ fs) xs ys h g =
       slice_alike es fs (x ∷ xs) (y ∷ ys) h.1 (h.0, g)
-  slice_alike (Mark ∷ es) (Item y ∷ fs) xs ys h g = absurd h.0
-  slice_alike (Item x ∷ es) (Mark ∷ fs) xs ys h g = absurd h.0
-  slice_alike [] (f ∷ fs) xs ys h g = absurd h
-  slice_alike (e ∷ es) [] xs ys h g = absurd h
+  slice_alike _ _ xs ys h g = absurd (assumption)
 
   is_even_alike : (xs : List A) (ys : List B) → Pointwise R xs ys → is_even xs ≡ is_even ys
   is_even_alike [] [] h = refl
   is_even_alike (x ∷ xs) (y ∷ ys) h = ap not (is_even_alike xs ys h.1)
-  is_even_alike [] (y ∷ ys) h = absurd h
-  is_even_alike (x ∷ xs) [] h = absurd h
+  is_even_alike _ _ h = absurd h
 
   breaks_alike : (rule : SliceRule) (xs : List A) (ys : List B) → Pointwise R xs ys
       → breaks rule xs ≡ breaks rule ys
-  breaks_alike AnySlice xs ys h = refl
   breaks_alike EvenSlice xs ys h = ap (λ b. cond b None (Some Odd)) (is_even_alike xs ys h)
-  breaks_alike FullSlice [] [] h = refl
-  breaks_alike FullSlice (x ∷ xs) (y ∷ ys) h = refl
   breaks_alike FullSlice [] (y ∷ ys) h = absurd h
   breaks_alike FullSlice (x ∷ xs) [] h = absurd h
+  breaks_alike _ _ _ h = refl
 
   pub operands_alike : (t : Takes) (es : List (Entry A)) (fs : List (Entry B))
       → Pointwise (AlikeEntry R) es fs → SameResult AlikeTaken (operands t es) (operands t fs)
@@ -149,8 +133,7 @@ module _ {A B : Type 0} (R : A → B → Type 0) where
       → Pointwise (AlikeEntry R) (front xs) (front ys)
   front_alike [] [] h = tt
   front_alike (x ∷ xs) (y ∷ ys) h = (h.0, tt)
-  front_alike [] (y ∷ ys) h = absurd h
-  front_alike (x ∷ xs) [] h = absurd h
+  front_alike _ _ h = absurd h
 
   insert_here : (n : ℕ) (x : A) (y : B) (m : ℕ) (a : A) (b : B) (es : List (ℕ × A))
       (fs : List (ℕ × B)) → R x y → R a b → Pointwise (AlikeCell R) es fs
@@ -177,8 +160,7 @@ module _ {A B : Type 0} (R : A → B → Type 0) where
       (λ m. Pointwise (AlikeCell R) (insert_entry nat_cmp (e ∷ es) n x)
       (insert_entry nat_cmp ((m, f.1) ∷ fs) n y)) h.0.0
       (insert_here n x y e.0 e.1 f.1 es fs r h.0.1 h.1 (insert_alike n x y es fs r h.1))
-  insert_alike n x y [] (f ∷ fs) r h = absurd h
-  insert_alike n x y (e ∷ es) [] r h = absurd h
+  insert_alike n x y _ _ r h = absurd h
 
   recalled_here : (n m : ℕ) (a : A) (b : B) (es : List (ℕ × A)) (fs : List (ℕ × B)) → R a b
       → AlikeOption (recalled n es) (recalled n fs)
@@ -193,23 +175,20 @@ module _ {A B : Type 0} (R : A → B → Type 0) where
   recalled_alike n (e ∷ es) (f ∷ fs) h =
       subst (λ m. AlikeOption (recalled n (e ∷ es)) (recalled n ((m, f.1) ∷ fs))) h.0.0
       (recalled_here n e.0 e.1 f.1 es fs h.0.1 (recalled_alike n es fs h.1))
-  recalled_alike n [] (f ∷ fs) h = absurd h
-  recalled_alike n (e ∷ es) [] h = absurd h
+  recalled_alike n _ _ h = absurd h
 
   fetched_alike : (o : Option A) (q : Option B) (n : ℕ) (a : Shape A) (b : Shape B)
       → AlikeOption o q → Alike R a b → SameResult (Alike R) (fetched o n a) (fetched q n b)
   fetched_alike None None n a b h g = refl
   fetched_alike (Some x) (Some y) n a b h g = record { entries = (h, g.entries); memo = g.memo }
-  fetched_alike None (Some y) n a b h g = absurd h
-  fetched_alike (Some x) None n a b h g = absurd h
+  fetched_alike _ _ n a b h g = absurd h
 
   popped_alike : (es : List (Entry A)) (fs : List (Entry B)) (a : Shape A) (b : Shape B)
       → Pointwise (AlikeEntry R) es fs → Alike R a b
       → SameResult (Alike R) (popped es a) (popped fs b)
   popped_alike [] [] a b h g = refl
   popped_alike (e ∷ es) (f ∷ fs) a b h g = record { entries = h.1; memo = g.memo }
-  popped_alike [] (f ∷ fs) a b h g = absurd h
-  popped_alike (e ∷ es) [] a b h g = absurd h
+  popped_alike _ _ a b h g = absurd h
 
   -- the topmost items are related, and the entries below them are alike
   pub record AlikeTop (t : A × List (Entry A)) (u : B × List (Entry B)) : Type 0 where
@@ -221,10 +200,7 @@ module _ {A B : Type 0} (R : A → B → Type 0) where
   top_alike [] [] h = refl
   top_alike (Mark ∷ es) (Mark ∷ fs) h = refl
   top_alike (Item x ∷ es) (Item y ∷ fs) h = record { item = h.0; below = h.1 }
-  top_alike (Mark ∷ es) (Item y ∷ fs) h = absurd h.0
-  top_alike (Item x ∷ es) (Mark ∷ fs) h = absurd h.0
-  top_alike [] (f ∷ fs) h = absurd h
-  top_alike (e ∷ es) [] h = absurd h
+  top_alike _ _ h = absurd (assumption)
 
   on_top : (a : Shape A) (b : Shape B) (f : A × List (Entry A) → Shape A)
       (g : B × List (Entry B) → Shape B) → Alike R a b

@@ -7,9 +7,10 @@ use Rattle.std.proofs.lemmas.Bool.{ltb-true}
 use Rattle.pkstack.specs.Shape.{Item}
 use Rattle.pkmachine.specs.Runs.{ObjectClass, Object, State, Outcome, Raise, Go, Stepped, WentOn}
 use Rattle.pkmachine.specs.Runs.{Raised, Stopped, Stuck}
-use Rattle.pkmachine.specs.Knowledge.{Progress, Refusal}
-use Rattle.pkmachine.specs.Covers.{IsObject, Adds, AddsRaising}
-use Rattle.pkmachine.specs.Witnesses.{CoversBy}
+use Rattle.pkmachine.specs.Knowledge.{Knowledge, Progress, Refusal}
+use Rattle.pkmachine.specs.Covers.{AlikeCell, AlikeEntry, IsObject, Adds, AddsRaising}
+use Rattle.pkmachine.specs.Covers.{TrueBy, CoversBy}
+use Rattle.pkmachine.proofs.Coverage.Alike.{length-Pointwise}
 
 -- one of two propositions
 abbrev pub Choose : Bool → Type 0 → Type 0 → Type 0
@@ -39,6 +40,14 @@ abbrev pub FollowsIfOk : (List Object → ℕ → Type 0) → Result Progress Re
     → Type 0
 FollowsIfOk U (Ok q) s st = FollowsBy U q s st
 FollowsIfOk U (Err r) s st = ⊤
+
+-- as many entries are known as there are
+pub covered_lengths : (U : List Object → ℕ → Type 0) (k : Knowledge) (s : State) → CoversBy U k s
+    → (length k.entries ≡ length s.shape.entries) × (length k.memo ≡ length s.shape.memo)
+covered_lengths U k s h = (
+  length-Pointwise (AlikeEntry (TrueBy U s.objects)) k.entries s.shape.entries h.entries,
+  length-Pointwise (AlikeCell (TrueBy U s.objects)) k.memo s.shape.memo h.memo,
+)
 
 -- ---- any object
 

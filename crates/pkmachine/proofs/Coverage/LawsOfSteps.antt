@@ -6,22 +6,22 @@ use Rattle.pkmachine.specs.Covers.{IsObject, TrueOf}
 use Rattle.pkmachine.specs.Effects.{Effect, effect_as, number_stored}
 use Rattle.pkmachine.specs.Knowledge.{Knowledge, Progress, Refusal, learn, within}
 use Rattle.pkmachine.specs.RowRuns.{RunsFrom}
-use Rattle.pkmachine.specs.Runs.{State, Stepped, Text, WentOn, Raised, Stopped, Stuck, step_as}
+use Rattle.pkmachine.specs.Runs.{State, Stepped, Text, WentOn, Stopped, step_as}
 use Rattle.pkmachine.specs.StepLaws.{AcceptedGoesOn, AcceptedHasNoFault, AcceptedIsSound}
 use Rattle.pkmachine.specs.StepLaws.{MarksAreKnown, RefusedHasFault, StepLaws, UnknownIsOfTwo}
 use Rattle.pkmachine.specs.Witnesses.{Answered, StepsPast, new_text}
 use Rattle.pkmachine.proofs.OpenMarks.{marks_alike}
 use Rattle.pkmachine.proofs.Coverage.AcceptedSteps.{step_follows}
 use Rattle.pkmachine.proofs.Coverage.CoversBy.{FollowsBy, FollowsIfOk, any_answer, objects_grow}
-use Rattle.pkmachine.proofs.Coverage.FirstFault.{first_fault, no_fault, unknown_exactly}
+use Rattle.pkmachine.proofs.Coverage.FirstFault.{first_fault, no_fault}
+use Rattle.pkmachine.proofs.Coverage.FaultsReached.{unknown_exactly}
 use Rattle.pkmachine.proofs.Coverage.OneTextStates.{Exactly, IsGoing, grows, learn_exactly}
 use Rattle.pkmachine.proofs.Coverage.OneTextStates.{new_text_holds}
-use Rattle.pkmachine.proofs.Coverage.PermittedImports.{permitted_ok}
-use Rattle.pkmachine.proofs.StepParts.Extensions.{no_extension}
+use Rattle.pkmachine.proofs.Coverage.PermittedImports.{no_extension, permitted_ok}
 use Rattle.pkmachine.proofs.StepParts.Longest.{longer_than}
 use Rattle.pkmachine.proofs.StepParts.Settings.{wants_no_registry}
 
-sound : AcceptedIsSound
+pub sound : AcceptedIsSound
 sound setting policy limits i k q e s o c =
     subst (λ x. FollowsIfOk IsObject x s (step_as setting i s o)) e
     (step_follows IsObject objects_grow setting policy limits i k s o c (any_answer s.objects o))
@@ -37,8 +37,7 @@ gets_past : (v : List ℕ) (e : Effect) (q : Progress) (s : State) (st : Stepped
     → FollowsBy (Answered v) q s st → StepsPast v q.after st
 gets_past v e q s (WentOn t) g h = h.0
 gets_past v e q s (Stopped r t) g h = h.2
-gets_past v e q s (Raised t) g h = g
-gets_past v e q s (Stuck b) g h = g
+gets_past v e q s _ g h = g
 
 goes_on : AcceptedGoesOn
 goes_on setting policy limits i k q e v s c =

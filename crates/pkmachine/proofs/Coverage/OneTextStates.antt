@@ -14,20 +14,19 @@ use Rattle.pkstack.specs.Shape.{operands, moved}
 use Rattle.std.specs.Str.{IsUtf8}
 use Rattle.std.proofs.lemmas.List.Elements.{All-append, All-cons, All-nil}
 use Rattle.pkops.specs.Spelling.{Instruction}
-use Rattle.pkmachine.specs.Runs.{argument_named, ObjectClass, AnswersCanBe, CanBe, Text, Plain}
-use Rattle.pkmachine.specs.Runs.{Foreign, Object, State, Outcome, Go, Stepped, WentOn, Raised}
-use Rattle.pkmachine.specs.Runs.{Stopped, Stuck, Named, NoImport, Pair, NotTexts, class_at}
-use Rattle.pkmachine.specs.Runs.{texts_named, of_two, named, asks, come_of, operated, move_step}
-use Rattle.pkmachine.specs.Runs.{stop_step, operate_step, perform}
+use Rattle.pkmachine.specs.Runs.{argument_named, ObjectClass, AnswersCanBe, CanBe, Text, Object}
+use Rattle.pkmachine.specs.Runs.{State, Outcome, Go, Stepped, WentOn, Raised, Stopped, Stuck, Named}
+use Rattle.pkmachine.specs.Runs.{NoImport, Pair, NotTexts, class_at, texts_named, of_two, named}
+use Rattle.pkmachine.specs.Runs.{asks, come_of, operated, move_step, stop_step, operate_step}
+use Rattle.pkmachine.specs.Runs.{perform}
 use Rattle.pkmachine.specs.Knowledge.{argument_asked, Known, Knowledge, Policy, Progress, Refusal}
-use Rattle.pkmachine.specs.Knowledge.{Lacks, WrongClass, NotText, UnknownImport, OffList, LeftOver}
-use Rattle.pkmachine.specs.Knowledge.{NotAscii, TooLarge, wrong_receiver, permitted, unknown_pair}
-use Rattle.pkmachine.specs.Knowledge.{text_fault, operands_asked, asked_of, left_over, move_learned}
-use Rattle.pkmachine.specs.Knowledge.{stop_learned, operate_learned, learn}
+use Rattle.pkmachine.specs.Knowledge.{WrongClass, UnknownImport, OffList, TooLarge, wrong_receiver}
+use Rattle.pkmachine.specs.Knowledge.{permitted, unknown_pair, text_fault, operands_asked, asked_of}
+use Rattle.pkmachine.specs.Knowledge.{left_over, move_learned, stop_learned, operate_learned, learn}
 use Rattle.pkimport.specs.Import.{Asked, AskedPair, AskedUnknown}
-use Rattle.pkmachine.specs.Covers.{Pointwise, Alike}
+use Rattle.pkmachine.specs.Covers.{Pointwise, Alike, TrueBy, CoversBy}
 use Rattle.pkmachine.proofs.Coverage.CoversBy.{Choose, OutcomeHolds}
-use Rattle.pkmachine.specs.Witnesses.{Answered, CoversBy, TrueBy, new_text}
+use Rattle.pkmachine.specs.Witnesses.{Answered, new_text}
 use Rattle.pkmachine.specs.Faults.{AsksFor}
 use Rattle.pkmachine.proofs.Coverage.Alike.{SameResult, AlikeTaken, operands_alike, moved_alike}
 use Rattle.pkmachine.proofs.Coverage.Alike.{AlikeTop, top_alike}
@@ -86,8 +85,7 @@ module _ (v : List ℕ) where
   class_of objects None n e h =
       ap (λ o. elim o as (λ _. Option ObjectClass) [ None ↦ None | Some r ↦ Some r.class_of ]) h
   class_of objects (Some (Text m)) n e h = TrueBy-Says (Answered v) objects (Some (Text m)) n h
-  class_of objects (Some (Plain s)) n e h = cc
-  class_of objects (Some Foreign) n e h = cc
+  class_of objects _ n e h = cc
 
   texts_of : (objects : List Object) (j k : Known) (m n : ℕ) → text_fault j ≡ None
       → text_fault k ≡ None → TrueBy (Answered v) objects j m → TrueBy (Answered v) objects k n
@@ -96,39 +94,41 @@ module _ (v : List ℕ) where
       (class_of objects j m e h) ∙ ap (texts_named (Some (Text (guess v j))))
       (class_of objects k n f g)
 
-  -- for two names
-  abbrev TwoExactly : Known → Known → Named → Result (Option Asked) Refusal → Type 0
-  TwoExactly j k nm (Ok a) = IsNamed nm
-      × (a ≡ Some AskedUnknown → (nm ≡ Pair (guess v j) (guess v k)) × ((j ≡ None) ⊎ (k ≡ None)))
-  TwoExactly j k nm (Err UnknownImport) = (nm ≡ Pair (guess v j) (guess v k))
-      × ((j ≡ None) ⊎ (k ≡ None))
-  TwoExactly j k nm (Err TooLarge) = ⊥
-  TwoExactly j k nm (Err r) = Unit {0}
+  -- the names are two, of which one at least is not known and is this text
+  abbrev Guessed : List Known → Named → Type 0
+  Guessed ks nm = (j : Known) × (k : Known) × (ks ≡ j ∷ k ∷ [])
+      × (nm ≡ Pair (guess v j) (guess v k)) × ((j ≡ None) ⊎ (k ≡ None))
+
+  -- the names of an import, given what is known about the operands
+  abbrev NamesExactly : List Known → Named → Result (Option Asked) Refusal → Type 0
+  NamesExactly ks nm (Ok a) = IsNamed nm × (a ≡ Some AskedUnknown → Guessed ks nm)
+  NamesExactly ks nm (Err UnknownImport) = Guessed ks nm
+  NamesExactly ks nm (Err TooLarge) = ⊥
+  NamesExactly ks nm (Err r) = Unit {0}
 
   named_is : (nm : Named) (a b : List ℕ) → nm ≡ Pair a b → IsNamed nm
-  named_is nm a b e = subst IsNamed (sym e) tt
+  named_is nm a b e = rw e tt
 
-  permitted_exactly : (p : Policy) (j k : Known) (a b : List ℕ) (nm : Named) → nm ≡ Pair a b
-      → TwoExactly j k nm (permitted p a b)
-  permitted_exactly None j k a b nm e = (named_is nm a b e, λ h. cc)
-  permitted_exactly (Some list) j k a b nm e =
-      elim (list a b) as (λ t. TwoExactly j k nm
+  permitted_exactly : (p : Policy) (ks : List Known) (a b : List ℕ) (nm : Named) → nm ≡ Pair a b
+      → NamesExactly ks nm (permitted p a b)
+  permitted_exactly None ks a b nm e = (named_is nm a b e, λ h. cc)
+  permitted_exactly (Some list) ks a b nm e =
+      elim (list a b) as (λ t. NamesExactly ks nm
       (cond t (Ok (Some (AskedPair a b))) (Err (OffList a b)))) [
         | true ↦ (named_is nm a b e, λ h. cc)
         | false ↦ tt
       ]
 
   unknown_exactly : (p : Policy) (j k : Known) (nm : Named) → nm ≡ Pair (guess v j) (guess v k)
-      → (j ≡ None) ⊎ (k ≡ None) → TwoExactly j k nm (unknown_pair p)
-  unknown_exactly None j k nm e h = (named_is nm _ _ e, λ _. (e, h))
-  unknown_exactly (Some list) j k nm e h = (e, h)
+      → (j ≡ None) ⊎ (k ≡ None) → NamesExactly (j ∷ k ∷ []) nm (unknown_pair p)
+  unknown_exactly None j k nm e h = (named_is nm _ _ e, λ _. (j, k, refl, e, h))
+  unknown_exactly (Some list) j k nm e h = (j, k, refl, e, h)
 
   two_exactly : (p : Policy) (objects : List Object) (j k : Known) (m n : ℕ)
       → TrueBy (Answered v) objects j m → TrueBy (Answered v) objects k n
-      → TwoExactly j k (texts_named (class_at objects m) (class_at objects n))
+      → NamesExactly (j ∷ k ∷ []) (texts_named (class_at objects m) (class_at objects n))
       (operands_asked p j k)
-  two_exactly p objects (Some (Text a)) (Some (Text b)) m n h g = permitted_exactly p
-      (Some (Text a)) (Some (Text b)) a b _
+  two_exactly p objects (Some (Text a)) (Some (Text b)) m n h g = permitted_exactly p _ a b _
       (texts_of objects (Some (Text a)) (Some (Text b)) m n refl refl h g)
   two_exactly p objects None None m n h g = unknown_exactly p None None _
       (texts_of objects None None m n refl refl h g) (inl refl)
@@ -136,66 +136,24 @@ module _ (v : List ℕ) where
       (texts_of objects None (Some (Text b)) m n refl refl h g) (inl refl)
   two_exactly p objects (Some (Text a)) None m n h g = unknown_exactly p (Some (Text a)) None _
       (texts_of objects (Some (Text a)) None m n refl refl h g) (inr refl)
-  two_exactly p objects (Some (Plain s)) k m n h g = tt
-  two_exactly p objects (Some Foreign) k m n h g = tt
-  two_exactly p objects None (Some (Plain s)) m n h g = tt
-  two_exactly p objects None (Some Foreign) m n h g = tt
-  two_exactly p objects (Some (Text a)) (Some (Plain s)) m n h g = tt
-  two_exactly p objects (Some (Text a)) (Some Foreign) m n h g = tt
+  two_exactly p objects _ _ m n h g = tt
 
-  -- the names of an import, given what is known about the operands
-  abbrev NamesExactly : List Known → Named → Result (Option Asked) Refusal → Type 0
-  NamesExactly ks nm (Ok a) = IsNamed nm
-      × (a ≡ Some AskedUnknown → (j : Known) × (k : Known) × (ks ≡ j ∷ k ∷ [])
-      × (nm ≡ Pair (guess v j) (guess v k)) × ((j ≡ None) ⊎ (k ≡ None)))
-  NamesExactly ks nm (Err UnknownImport) = (j : Known) × (k : Known) × (ks ≡ j ∷ k ∷ [])
-      × (nm ≡ Pair (guess v j) (guess v k)) × ((j ≡ None) ⊎ (k ≡ None))
-  NamesExactly ks nm (Err TooLarge) = ⊥
-  NamesExactly ks nm (Err r) = Unit {0}
-
-  from_two : (j k : Known) (nm : Named) (a : Result (Option Asked) Refusal) → TwoExactly j k nm a
-      → NamesExactly (j ∷ k ∷ []) nm a
-  from_two j k nm (Ok a) h = (h.0, λ e. let g = h.1 e in (j, k, refl, g.0, g.1))
-  from_two j k nm (Err UnknownImport) h = (j, k, refl, h.0, h.1)
-  from_two j k nm (Err (Lacks b)) h = tt
-  from_two j k nm (Err WrongClass) h = tt
-  from_two j k nm (Err NotText) h = tt
-  from_two j k nm (Err (OffList a b)) h = tt
-  from_two j k nm (Err LeftOver) h = tt
-  from_two j k nm (Err NotAscii) h = tt
-  from_two j k nm (Err TooLarge) h = h
-
-  from_pair : (p : Policy) (ks : List Known) (a b : List ℕ)
-      → NamesExactly ks (Pair a b) (permitted p a b)
-  from_pair None ks a b = (tt, λ h. cc)
-  from_pair (Some list) ks a b =
-      elim (list a b) as (λ t. NamesExactly ks (Pair a b)
-      (cond t (Ok (Some (AskedPair a b))) (Err (OffList a b)))) [
-        | true ↦ (tt, λ h. cc)
-        | false ↦ tt
-      ]
-
-  from_argument : (p : Policy) (ks : List Known) (q : Option (List ℕ × List ℕ))
+  argument_exactly : (p : Policy) (ks : List Known) (q : Option (List ℕ × List ℕ))
       → NamesExactly ks (argument_named q) (argument_asked p q)
-  from_argument p ks (Some q) = from_pair p ks q.0 q.1
-  from_argument p ks None = (tt, λ h. cc)
+  argument_exactly p ks (Some q) = permitted_exactly p ks q.0 q.1 _ refl
+  argument_exactly p ks None = (tt, λ h. cc)
 
   names_exactly : (p : Policy) (names : Names) (i : Instruction) (objects : List Object)
       (ks : List Known) (ns : List ℕ) → Pointwise (TrueBy (Answered v) objects) ks ns
       → NamesExactly ks (named names i (map (class_at objects) ns)) (asked_of p names i ks)
   names_exactly p NoName i objects ks ns h = (tt, λ e. cc)
-  names_exactly p OfArgument i objects ks ns h = from_argument p ks (pair_named i)
+  names_exactly p OfArgument i objects ks ns h = argument_exactly p ks (pair_named i)
   names_exactly p OfOperands i objects (j ∷ k ∷ []) (m ∷ n ∷ []) h =
-      from_two j k _ (operands_asked p j k) (two_exactly p objects j k m n h.0 h.1.0)
+      two_exactly p objects j k m n h.0 h.1.0
   names_exactly p OfOperands i objects [] [] h = (tt, λ e. cc)
   names_exactly p OfOperands i objects (j ∷ []) (m ∷ []) h = (tt, λ e. cc)
   names_exactly p OfOperands i objects (j ∷ k ∷ l ∷ ks) (m ∷ n ∷ o ∷ ns) h = (tt, λ e. cc)
-  names_exactly p OfOperands i objects [] (n ∷ ns) h = absurd h
-  names_exactly p OfOperands i objects (k ∷ ks) [] h = absurd h
-  names_exactly p OfOperands i objects (j ∷ []) (m ∷ n ∷ ns) h = absurd h.1
-  names_exactly p OfOperands i objects (j ∷ k ∷ ks) (m ∷ []) h = absurd h.1
-  names_exactly p OfOperands i objects (j ∷ k ∷ []) (m ∷ n ∷ o ∷ ns) h = absurd h.1.1
-  names_exactly p OfOperands i objects (j ∷ k ∷ l ∷ ks) (m ∷ n ∷ []) h = absurd h.1.1
+  names_exactly p OfOperands i objects _ _ h = absurd (assumption)
 
   -- an operation goes on if its names are texts
   asked_goes : (e : Effect) (b : Bool) (gives : Gives) (i : Instruction) (u : Taken ℕ) (n : ℕ)
@@ -215,23 +173,20 @@ module _ (v : List ℕ) where
     here st x = Exactly v (Operates takes names gives) k s st x
 
     asks_guess : (t : Taken Known) (u : Taken ℕ) (nm : Named) (o : Outcome)
-        → operands takes k.entries ≡ Ok t → ((a : Known) × (b : Known) × (t.operands ≡ a ∷ b ∷ []) ×
-        (nm ≡ Pair (guess v a) (guess v b)) × ((a ≡ None) ⊎ (b ≡ None)))
+        → operands takes k.entries ≡ Ok t → Guessed t.operands nm
         → AsksGuess v (Operates takes names gives) k s (operated nm gives i u o s)
-    asks_guess t u nm o e g =
-        let known : known_pair (Operates takes names gives) k ≡ Some (g.0, g.1) =
-        ap (λ r. elim r as (λ _. Option (Known × Known)) [
-          | Ok t ↦ of_two t.operands None (λ a b. Some (a, b))
-          | Err b ↦ None
-        ]) e
-        ∙ ap (λ l. of_two l None (λ a b. Some (a, b))) g.2 in (
-          g.0,
-          g.1,
-          known,
-          g.4,
-          subst (λ m. AsksFor (guess v g.0) (guess v g.1) s (operated m gives i u o s)) (sym g.3)
-              (operate_asks gives i u s (guess v g.0) (guess v g.1) o),
-        )
+    asks_guess t u nm o e (a, b, two, is, one) = (
+      a,
+      b,
+      ap
+          (λ r. elim r as (λ _. Option (Known × Known)) [
+            | Ok t ↦ of_two t.operands None (λ a b. Some (a, b))
+            | Err b ↦ None
+          ]) e
+          ∙ ap (λ l. of_two l None (λ a b. Some (a, b))) two,
+      one,
+      rw is (operate_asks gives i u s (guess v a) (guess v b) o),
+    )
 
     names_go : (t : Taken Known) (u : Taken ℕ) (nm : Named) (n : ℕ) (c : ObjectClass)
         (a : Result (Option Asked) Refusal) (after : Knowledge) → operands takes k.entries ≡ Ok t
@@ -242,13 +197,8 @@ module _ (v : List ℕ) where
       λ g. asks_guess t u nm (Go n c) e (h.1 g),
     )
     names_go t u nm n c (Err UnknownImport) after e h = asks_guess t u nm (Go n c) e h
-    names_go t u nm n c (Err (Lacks b)) after e h = tt
-    names_go t u nm n c (Err WrongClass) after e h = tt
-    names_go t u nm n c (Err NotText) after e h = tt
-    names_go t u nm n c (Err (OffList a b)) after e h = tt
-    names_go t u nm n c (Err LeftOver) after e h = tt
-    names_go t u nm n c (Err NotAscii) after e h = tt
     names_go t u nm n c (Err TooLarge) after e h = h
+    names_go t u nm n c _ after e h = tt
 
     unless_goes : (b : Bool) (st : Stepped) (x : Result Progress Refusal) → here st x
         → here st (cond b (Err WrongClass) x)

@@ -1,34 +1,26 @@
--- If the checker accepts a step under a list, the import that it lists is on the list.
+-- A step that the checker accepts lists only an import that the policy permits, and one that it
+-- refuses lacks no extension registry, unless it needs one.
 use Rattle.pkmachine.specs.declared.old_strings.OldStrings.{OldStrings}
 use Rattle.pkops.specs.Operands.{memo_number, pair_named}
-use Rattle.std.proofs.Common.{◌≡◌, ℕ, Bool, true, false, cond, List, [], ◌∷◌, ◌++◌, Option, Some}
-use Rattle.std.proofs.Common.{None, Result, Ok, Err, refl, ap, subst}
+use Rattle.std.proofs.Common.{◌≡◌, ◌≢◌, ℕ, Bool, true, false, cond, List, [], ◌∷◌, ◌++◌, Option}
+use Rattle.std.proofs.Common.{Some, None, Result, Ok, Err, refl, ap, subst}
 use Rattle.pkmachine.specs.declared.effect.Names.{Names}
-use Rattle.pkmachine.specs.declared.effect.Names.TheVariants.{NoName, OfArgument, OfOperands}
+use Rattle.pkmachine.specs.declared.effect.Names.TheVariants.{OfArgument, OfOperands}
 use Rattle.pkmachine.specs.Effects.{Effect, Operates, Moves, Stops, Raises, effect_as}
 use Rattle.pkmachine.specs.Effects.{number_stored}
-use Rattle.pkstack.specs.Shape.{top, Breach, Entry, Taken, and_then, unless, operands, moved}
+use Rattle.pkstack.specs.declared.Move.TheVariants.{Extends}
+use Rattle.pkstack.specs.Shape.{top, Breach, Entry, Extension, and_then, unless, operands, moved}
 use Rattle.pkops.specs.Spelling.{Instruction}
-use Rattle.pkmachine.specs.Runs.{Text, Plain, Foreign, Event, Import, Did}
-use Rattle.pkmachine.specs.Knowledge.{argument_asked, Known, Knowledge, Progress, Refusal}
-use Rattle.pkmachine.specs.Knowledge.{WrongClass}
-use Rattle.pkmachine.specs.Knowledge.{OffList, TooLarge, lacking, permitted, operands_asked}
-use Rattle.pkmachine.specs.Knowledge.{asked_of}
-use Rattle.pkmachine.specs.Knowledge.{is_past, within, left_over, move_learned, stop_learned, learn}
-use Rattle.pkmachine.specs.Knowledge.{Policy, advance}
+use Rattle.pkmachine.specs.Runs.{Text, Event, Import, Did}
+use Rattle.pkmachine.specs.Knowledge.{argument_asked, Known, Knowledge, Progress, Refusal, Lacks}
+use Rattle.pkmachine.specs.Knowledge.{WrongClass, OffList, TooLarge, lacking, permitted}
+use Rattle.pkmachine.specs.Knowledge.{unknown_pair, operands_asked, asked_of, wrong_receiver}
+use Rattle.pkmachine.specs.Knowledge.{is_past, within, left_over, learn, Policy, advance}
 use Rattle.pkimport.specs.Import.{Asked, AskedPair}
 use Rattle.pkops.specs.Limits.{Bounds}
 use Rattle.pkmachine.specs.Covers.{Pointwise, imports_of}
 use Rattle.pkmachine.specs.Step.{IsPermitted}
-
--- under a list, an import that passes is on the list
-abbrev ListedIfOk : (List ℕ → List ℕ → Bool) → Result (Option Asked) Refusal → Type 0
-ListedIfOk list (Ok a) = IsPermitted (Some list) a
-ListedIfOk list (Err r) = Unit {0}
-
-abbrev pub PassesListed : (List ℕ → List ℕ → Bool) → Result Progress Refusal → Type 0
-PassesListed list (Ok q) = IsPermitted (Some list) q.import
-PassesListed list (Err r) = Unit {0}
+use Rattle.pkmachine.proofs.StepParts.Extensions.{NoExtension, moved_none, operands_none, top_none}
 
 pub emptied : {A B : Type 0} (es : List A) (fs : List B) (R : A → B → Type 0) → es ≡ []
     → Pointwise R es fs → fs ≡ []
@@ -42,94 +34,108 @@ imports_of-append [] bs = refl
 imports_of-append (Import m n ∷ as') bs = ap (λ l. (m, n) ∷ l) (imports_of-append as' bs)
 imports_of-append (Did i ns d ∷ as') bs = imports_of-append as' bs
 
-module _ (list : List ℕ → List ℕ → Bool) where
-  permitted_listed : (m n : List ℕ) → ListedIfOk list (permitted (Some list) m n)
-  permitted_listed m n = elim (list m n) as (λ b. list m n ≡ b
-      → ListedIfOk list (cond b (Ok (Some (AskedPair m n))) (Err (OffList m n)))) [
-        | true ↦ λ e. e
-        | false ↦ λ e. tt
-      ] refl
+-- what the policy says of an import
+abbrev AskedWell : Policy → Result (Option Asked) Refusal → Type 0
+AskedWell p (Ok a) = IsPermitted p a
+AskedWell p (Err r) = r ≢ Lacks Extension
 
-  argument_listed : (q : Option (List ℕ × List ℕ)) → ListedIfOk list (argument_asked (Some list) q)
-  argument_listed (Some q) = permitted_listed q.0 q.1
-  argument_listed None = tt
+no_import : (p : Policy) → IsPermitted p None
+no_import None = tt
+no_import (Some list) = tt
 
-  two_listed : (j k : Known) → ListedIfOk list (operands_asked (Some list) j k)
-  two_listed (Some (Text a)) (Some (Text b)) = permitted_listed a b
-  two_listed None None = tt
-  two_listed None (Some (Text b)) = tt
-  two_listed (Some (Text a)) None = tt
-  two_listed (Some (Plain s)) k = tt
-  two_listed (Some Foreign) k = tt
-  two_listed None (Some (Plain s)) = tt
-  two_listed None (Some Foreign) = tt
-  two_listed (Some (Text a)) (Some (Plain s)) = tt
-  two_listed (Some (Text a)) (Some Foreign) = tt
+permitted_well : (p : Policy) (m n : List ℕ) → AskedWell p (permitted p m n)
+permitted_well None m n = tt
+permitted_well (Some list) m n =
+    elim (list m n) as (λ b. list m n ≡ b → AskedWell (Some list)
+    (cond b (Ok (Some (AskedPair m n))) (Err (OffList m n)))) [
+      | true ↦ λ e. e
+      | false ↦ λ e f. cc
+    ] refl
 
-  asked_listed : (names : Names) (i : Instruction) (ks : List Known)
-      → ListedIfOk list (asked_of (Some list) names i ks)
-  asked_listed NoName i ks = tt
-  asked_listed OfArgument i ks = argument_listed (pair_named i)
-  asked_listed OfOperands i [] = tt
-  asked_listed OfOperands i (j ∷ []) = tt
-  asked_listed OfOperands i (j ∷ k ∷ []) = two_listed j k
-  asked_listed OfOperands i (j ∷ k ∷ l ∷ ks) = tt
+unknown_well : (p : Policy) → AskedWell p (unknown_pair p)
+unknown_well None = tt
+unknown_well (Some list) = λ e. cc
 
-  named_listed : (a : Result (Option Asked) Refusal) (k : Knowledge) → ListedIfOk list a
-      → PassesListed list (and_then a (λ x. Ok (record { after = k; import = x })))
-  named_listed (Ok a) k h = h
-  named_listed (Err r) k h = tt
+two_well : (p : Policy) (j k : Known) → AskedWell p (operands_asked p j k)
+two_well p (Some (Text a)) (Some (Text b)) = permitted_well p a b
+two_well p None None = unknown_well p
+two_well p None (Some (Text b)) = unknown_well p
+two_well p (Some (Text a)) None = unknown_well p
+two_well p _ _ = λ e. cc
 
-  refused_listed : (b : Bool) (r : Refusal) (x : Result Progress Refusal) → PassesListed list x
-      → PassesListed list (cond b (Err r) x)
-  refused_listed true r x h = tt
-  refused_listed false r x h = h
+argument_well : (p : Policy) (o : Option (List ℕ × List ℕ)) → AskedWell p (argument_asked p o)
+argument_well p None = no_import p
+argument_well p (Some q) = permitted_well p q.0 q.1
 
-  operate_listed : (names : Names) (i : Instruction) (b : Taken Known → Bool)
-      (k : Taken Known → Knowledge) (x : Result (Taken Known) Breach)
-      → PassesListed list (and_then (lacking x) (λ t. cond (b t) (Err WrongClass)
-      (and_then (asked_of (Some list) names i t.operands) (λ a. Ok
-      (record { after = k t; import = a })))))
-  operate_listed names i b k (Ok t) = refused_listed (b t) WrongClass _
-      (named_listed (asked_of (Some list) names i t.operands) (k t)
-      (asked_listed names i t.operands))
-  operate_listed names i b k (Err r) = tt
+asked_well : (p : Policy) (names : Names) (i : Instruction) (ks : List Known)
+    → AskedWell p (asked_of p names i ks)
+asked_well p OfArgument i ks = argument_well p (pair_named i)
+asked_well p OfOperands i (j ∷ k ∷ []) = two_well p j k
+asked_well p _ i _ = no_import p
 
-  shape_listed : (x : Result Knowledge Breach) → PassesListed list (move_learned x)
-  shape_listed (Ok a) = tt
-  shape_listed (Err b) = tt
+-- an accepted step lists a permitted import; under this condition, a refused one lacks no registry
+module _ (p : Policy) (Condition : Type 0) where
+  abbrev LearnedWell : Result Progress Refusal → Type 0
+  LearnedWell (Ok q) = IsPermitted p q.import
+  LearnedWell (Err r) = Condition → r ≢ Lacks Extension
 
-  left_listed : (es : List (Entry Known)) (a : Knowledge)
-      → PassesListed list (unless (left_over es) (Ok (record { after = a; import = None })))
-  left_listed [] a = tt
-  left_listed (e ∷ es) a = tt
+  lacking_well : {A : Type 0} (x : Result A Breach) (f : A → Result Progress Refusal)
+      → (Condition → NoExtension x) → ((a : A) → LearnedWell (f a))
+      → LearnedWell (and_then (lacking x) f)
+  lacking_well (Ok a) f h g = g a
+  lacking_well (Err b) f h g = λ c e. h c (cc)
 
-  stop_listed : (ms : List (ℕ × Known)) (x : Result (Known × List (Entry Known)) Breach)
-      → PassesListed list (stop_learned ms x)
-  stop_listed ms (Ok a) = left_listed a.1 _
-  stop_listed ms (Err b) = tt
+  asks_well : (a : Result (Option Asked) Refusal) (k : Knowledge) → AskedWell p a
+      → LearnedWell (and_then a (λ x. Ok (record { after = k; import = x })))
+  asks_well (Ok a) k h = h
+  asks_well (Err r) k h = λ c. h
 
-  pub learn_listed : (e : Effect) (i : Instruction) (k : Knowledge)
-      → PassesListed list (learn (Some list) e i k)
-  learn_listed (Operates takes names gives) i k =
-      operate_listed names i _ _ (operands takes k.entries)
-  learn_listed (Moves m) i k = shape_listed (moved m (memo_number i) k)
-  learn_listed Stops i k = stop_listed k.memo (top k.entries)
-  learn_listed Raises i k = tt
+  either_well : (b : Bool) (r : Refusal) (x : Result Progress Refusal) → r ≢ Lacks Extension
+      → LearnedWell x → LearnedWell (cond b (Err r) x)
+  either_well true r x h g = λ c. h
+  either_well false r x h g = g
 
-  within_listed : (l : Bounds) (n : ℕ) (x : Result Progress Refusal) → PassesListed list x
-      → PassesListed list (and_then x (within l n))
-  within_listed l n (Err r) h = tt
-  within_listed l n (Ok q) h = refused_listed (is_past l n q.after) TooLarge (Ok q) h
+  left_well : (es : List (Entry Known)) (a : Knowledge)
+      → LearnedWell (unless (left_over es) (Ok (record { after = a; import = None })))
+  left_well [] a = no_import p
+  left_well (e ∷ es) a = λ c f. cc
 
-  pub advance_listed : (setting : OldStrings) (l : Bounds) (i : Instruction) (k : Knowledge)
-      → PassesListed list (advance setting (Some list) l i k)
-  advance_listed setting l i k = within_listed l (number_stored (effect_as setting i) i)
-      (learn (Some list) (effect_as setting i) i k) (learn_listed (effect_as setting i) i k)
+  within_well : (l : Bounds) (n : ℕ) (x : Result Progress Refusal) → LearnedWell x
+      → LearnedWell (and_then x (within l n))
+  within_well l n (Err r) h = h
+  within_well l n (Ok q) h = either_well (is_past l n q.after) TooLarge (Ok q) (λ e. cc) h
 
--- so it is under every policy
-pub permitted_ok : (setting : OldStrings) (p : Policy) (l : Bounds) (i : Instruction)
-    (k : Knowledge) (q : Progress) → advance setting p l i k ≡ Ok q → IsPermitted p q.import
-permitted_ok setting None l i k q e = tt
-permitted_ok setting (Some list) l i k q e = subst (PassesListed list) e
-    (advance_listed list setting l i k)
+learn_well : (p : Policy) (e : Effect) (i : Instruction) (k : Knowledge)
+    → LearnedWell p (e ≢ Moves Extends) (learn p e i k)
+learn_well p (Operates takes names gives) i k =
+    lacking_well p _ (operands takes k.entries) _ (λ c. operands_none takes k.entries)
+    (λ t. either_well p _ (wrong_receiver gives t.operands) WrongClass _ (λ e. cc)
+    (asks_well p _ (asked_of p names i t.operands) _ (asked_well p names i t.operands)))
+learn_well p (Moves m) i k =
+    lacking_well p _ (moved m (memo_number i) k) _
+    (λ c. moved_none m (memo_number i) k (λ e. c (ap Moves e))) (λ a. no_import p)
+learn_well p Stops i k =
+    lacking_well p _ (top k.entries) _ (λ c. top_none k.entries) (λ a. left_well p _ a.1 _)
+learn_well p Raises i k = λ c e. cc
+
+pub permitted_learned : (p : Policy) (e : Effect) (i : Instruction) (k : Knowledge) (q : Progress)
+    → learn p e i k ≡ Ok q → IsPermitted p q.import
+permitted_learned p e i k q is = subst (LearnedWell p (e ≢ Moves Extends)) is (learn_well p e i k)
+
+module _ (setting : OldStrings) (p : Policy) (l : Bounds) (i : Instruction) (k : Knowledge) where
+  abbrev effect : Effect
+  effect = effect_as setting i
+
+  advance_well : LearnedWell p (effect ≢ Moves Extends) (advance setting p l i k)
+  advance_well = within_well p (effect ≢ Moves Extends) l (number_stored effect i)
+      (learn p effect i k) (learn_well p effect i k)
+
+  pub permitted_ok : (q : Progress) → advance setting p l i k ≡ Ok q → IsPermitted p q.import
+  permitted_ok q e = subst (LearnedWell p (effect ≢ Moves Extends)) e advance_well
+
+  pub no_extension : (f : Refusal) → effect ≢ Moves Extends → advance setting p l i k ≡ Err f
+      → f ≢ Lacks Extension
+  no_extension f x e =
+      let well : LearnedWell p (effect ≢ Moves Extends) (Err f) =
+      subst (LearnedWell p (effect ≢ Moves Extends)) e advance_well in
+      well x

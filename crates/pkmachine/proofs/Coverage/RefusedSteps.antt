@@ -1,22 +1,22 @@
 -- If the checker refuses an instruction, every state that it covers has the fault.
 use Rattle.pkmachine.specs.declared.old_strings.OldStrings.{OldStrings}
 use Rattle.pkops.specs.Operands.{memo_number, pair_named}
-use Rattle.std.proofs.Common.{◌≡◌, ℕ, ◌<◌, Bool, true, false, not, cond, List, [], ◌∷◌, ◌++◌}
-use Rattle.std.proofs.Common.{length, map, Option, Some, None, Result, Ok, Err, inl, inr, refl, sym}
-use Rattle.std.proofs.Common.{ap, subst, ◌∙◌, append_assoc}
+use Rattle.std.proofs.Common.{◌≡◌, ℕ, Bool, true, false, cond, List, [], ◌∷◌, ◌++◌, map, Option}
+use Rattle.std.proofs.Common.{Some, None, Result, Ok, Err, inl, inr, refl, sym, ap, ◌∙◌}
+use Rattle.std.proofs.Common.{append_assoc}
+use Rattle.std.proofs.lemmas.Bool.{not-true}
 use Rattle.pkstack.specs.declared.Takes.{Takes}
 use Rattle.pkmachine.specs.declared.effect.Names.{Names}
-use Rattle.pkmachine.specs.declared.effect.Names.TheVariants.{NoName, OfArgument, OfOperands}
+use Rattle.pkmachine.specs.declared.effect.Names.TheVariants.{OfArgument, OfOperands}
 use Rattle.pkmachine.specs.declared.effect.Wanted.{Wanted}
 use Rattle.pkmachine.specs.declared.effect.Gives.{Gives}
-use Rattle.pkmachine.specs.declared.effect.Gives.TheVariants.{Makes, MakesIntOrBool, MakesText}
-use Rattle.pkmachine.specs.declared.effect.Gives.TheVariants.{MayMake, Answers, Leaves}
+use Rattle.pkmachine.specs.declared.effect.Gives.TheVariants.{Leaves}
 use Rattle.pkmachine.specs.Effects.{Effect, Operates, Moves, Stops, Raises, effect_as}
 use Rattle.pkmachine.specs.Effects.{number_stored}
 use Rattle.pkstack.specs.Shape.{top, Breach, Entry, Shape, Taken, and_then, unless, operands, moved}
 use Rattle.pkops.specs.Spelling.{Instruction}
 use Rattle.pkmachine.specs.Runs.{argument_named, Text, Plain, Foreign, Object, Import, Did, State}
-use Rattle.pkmachine.specs.Runs.{Outcome, Raise, Go, Stepped, WentOn, Raised, Stopped, Stuck, Named}
+use Rattle.pkmachine.specs.Runs.{Outcome, Raise, Stepped, WentOn, Raised, Stopped, Stuck, Named}
 use Rattle.pkmachine.specs.Runs.{Pair, class_at, texts_named, named, asks, come_of, operated}
 use Rattle.pkmachine.specs.Runs.{move_step, stop_step, operate_step, perform, step_as}
 use Rattle.pkmachine.specs.Knowledge.{argument_asked, Known, Knowledge, Policy, Progress, Refusal}
@@ -24,18 +24,16 @@ use Rattle.pkmachine.specs.Knowledge.{Lacks, WrongClass, NotText, UnknownImport,
 use Rattle.pkmachine.specs.Knowledge.{NotAscii, TooLarge, suits, wrong_first, wrong_receiver}
 use Rattle.pkmachine.specs.Knowledge.{permitted, unknown_pair, operands_asked, asked_of, is_past}
 use Rattle.pkmachine.specs.Knowledge.{within, left_over, move_learned, stop_learned}
-use Rattle.pkmachine.specs.Knowledge.{operate_learned}
-use Rattle.pkmachine.specs.Knowledge.{learn, advance}
+use Rattle.pkmachine.specs.Knowledge.{operate_learned, learn, advance}
 use Rattle.pkimport.specs.Import.{Asked, AskedPair}
 use Rattle.pkops.specs.Limits.{Bounds}
-use Rattle.pkmachine.specs.Covers.{Pointwise, AlikeEntry, AlikeCell, Alike, Adds}
+use Rattle.pkmachine.specs.Covers.{Pointwise, AlikeEntry, Alike, Adds, TrueBy, CoversBy}
 use Rattle.pkmachine.proofs.Coverage.CoversBy.{OutcomeHolds, FollowsBy, FollowsIfOk}
-use Rattle.pkmachine.specs.Witnesses.{TrueBy, CoversBy}
+use Rattle.pkmachine.proofs.Coverage.CoversBy.{covered_lengths}
 use Rattle.pkmachine.specs.Faults.{WrongReceiver, NonText, HasWrongReceiver, HasNonText, IsOff}
 use Rattle.pkmachine.specs.Faults.{IsPast, AsksFor, LeavesMore}
-use Rattle.pkmachine.proofs.Coverage.Alike.{SameResult, length-Pointwise, AlikeTaken}
-use Rattle.pkmachine.proofs.Coverage.Alike.{operands_alike}
-use Rattle.pkmachine.proofs.Coverage.Alike.{moved_alike, AlikeTop, top_alike}
+use Rattle.pkmachine.proofs.Coverage.Alike.{SameResult, AlikeTaken, operands_alike, moved_alike}
+use Rattle.pkmachine.proofs.Coverage.Alike.{AlikeTop, top_alike}
 use Rattle.pkmachine.proofs.Coverage.AcceptedSteps.{TrueBy-Says, Grows, learn_follows}
 use Rattle.pkmachine.proofs.StepParts.Past.{PastBy, past_by}
 
@@ -89,15 +87,10 @@ module _ (gives : Gives) (i : Instruction) (u : Taken ℕ) (s : State) (m n : Li
   asked_asks : (b : Bool) (o : Outcome) → AsksFor m n s
       (come_of b gives i u o (record s { events = s.events ++ Import m n ∷ [] }))
   asked_asks true Raise = adds_pair None
-  asked_asks true (Go k c) = adds_pair _
-  asked_asks false o = adds_pair _
+  asked_asks _ _ = adds_pair _
 
   pub operate_asks : (o : Outcome) → AsksFor m n s (operated (Pair m n) gives i u o s)
   operate_asks o = asked_asks (asks gives) o
-
-not-true : (b : Bool) → not b ≡ true → b ≡ false
-not-true true e = cc
-not-true false e = refl
 
 abbrev NamesFault : Policy → Names → List Object → List ℕ → Named → Result (Option Asked) Refusal
     → Type 0
@@ -136,94 +129,72 @@ module _ (U : List Object → ℕ → Type 0) (p : Policy) where
       (texts_named (class_at objects m) (class_at objects n)) a b
       (ap (λ v. texts_named v (class_at objects n)) (TrueBy-Says U objects (Some (Text a)) m h)
       ∙ ap (texts_named (Some (Text a))) (TrueBy-Says U objects (Some (Text b)) n g))
-  two_fault objects None None m n h g = unknown_fault p OfOperands objects (m ∷ n ∷ [])
-      (texts_named (class_at objects m) (class_at objects n))
-  two_fault objects None (Some (Text b)) m n h g = unknown_fault p OfOperands objects (m ∷ n ∷ [])
-      (texts_named (class_at objects m) (class_at objects n))
-  two_fault objects (Some (Text a)) None m n h g = unknown_fault p OfOperands objects (m ∷ n ∷ [])
-      (texts_named (class_at objects m) (class_at objects n))
   two_fault objects (Some (Plain s)) k m n h g = inl (Plain s, h, refl)
   two_fault objects (Some Foreign) k m n h g = inl (Foreign, h, refl)
   two_fault objects None (Some (Plain s)) m n h g = inr (Plain s, g, refl)
   two_fault objects None (Some Foreign) m n h g = inr (Foreign, g, refl)
   two_fault objects (Some (Text a)) (Some (Plain s)) m n h g = inr (Plain s, g, refl)
   two_fault objects (Some (Text a)) (Some Foreign) m n h g = inr (Foreign, g, refl)
+  two_fault objects _ _ m n h g = unknown_fault p OfOperands objects (m ∷ n ∷ [])
+      (texts_named (class_at objects m) (class_at objects n))
 
   names_fault : (names : Names) (i : Instruction) (objects : List Object) (ks : List Known)
       (ns : List ℕ) → Pointwise (TrueBy U objects) ks ns
       → NamesFault p names objects ns (named names i (map (class_at objects) ns))
       (asked_of p names i ks)
-  names_fault NoName i objects ks ns h = tt
   names_fault OfArgument i objects ks ns h = argument_fault objects ns (pair_named i)
-  names_fault OfOperands i objects [] ns h = tt
-  names_fault OfOperands i objects (j ∷ []) ns h = tt
-  names_fault OfOperands i objects (j ∷ k ∷ l ∷ ks) ns h = tt
   names_fault OfOperands i objects (j ∷ k ∷ []) (m ∷ n ∷ []) h = two_fault objects j k m n h.0 h.1.0
   names_fault OfOperands i objects (j ∷ k ∷ []) [] h = absurd h
   names_fault OfOperands i objects (j ∷ k ∷ []) (m ∷ []) h = absurd h.1
   names_fault OfOperands i objects (j ∷ k ∷ []) (m ∷ n ∷ o ∷ ns) h = absurd h.1.1
+  names_fault _ i objects _ ns h = tt
 
   wanted_fault : (w : Wanted) (objects : List Object) (ks : List Known) (ns : List ℕ)
       → Pointwise (TrueBy U objects) ks ns → wrong_first w ks ≡ true
       → WrongReceiver (Leaves w) objects ns
-  wanted_fault w objects [] ns h e = cc
-  wanted_fault w objects (None ∷ ks) ns h e = cc
   wanted_fault w objects (Some c ∷ ks) [] h e = absurd h
   wanted_fault w objects (Some c ∷ ks) (n ∷ ns) h e = (c, h.0, not-true (suits w c) e)
+  wanted_fault w objects _ ns h e = cc
 
   gives_fault : (gives : Gives) (objects : List Object) (ks : List Known) (ns : List ℕ)
       → Pointwise (TrueBy U objects) ks ns → wrong_receiver gives ks ≡ true
       → WrongReceiver gives objects ns
   gives_fault (Leaves w) objects ks ns h e = wanted_fault w objects ks ns h e
-  gives_fault (Makes s) objects ks ns h e = cc
-  gives_fault MakesIntOrBool objects ks ns h e = cc
-  gives_fault MakesText objects ks ns h e = cc
-  gives_fault (MayMake s) objects ks ns h e = cc
-  gives_fault Answers objects ks ns h e = cc
+  gives_fault _ objects ks ns h e = cc
 
   module _ (l : Bounds) (number : ℕ) where
-    receiver_refused : (takes : Takes) (names : Names) (gives : Gives) (s : State) (st : Stepped)
-        (u : Taken ℕ) (b : Bool) (x : Result Progress Refusal)
-        → operands takes s.shape.entries ≡ Ok u → (b ≡ true → WrongReceiver gives s.objects
-        u.operands) → FaultIfErr p l number (Operates takes names gives) s st x
-        → FaultIfErr p l number (Operates takes names gives) s st (cond b (Err WrongClass) x)
-    receiver_refused takes names gives s st u false x e h g = g
-    receiver_refused takes names gives s st u true x e h g = (u, e, h refl)
+    module _ (takes : Takes) (names : Names) (gives : Gives) (i : Instruction) (s : State) where
+      abbrev Refused : Stepped → Result Progress Refusal → Type 0
+      Refused st x = FaultIfErr p l number (Operates takes names gives) s st x
 
-    names_refused : (takes : Takes) (names : Names) (gives : Gives) (i : Instruction) (s : State)
-        (o : Outcome) (u : Taken ℕ) (nm : Named) (a : Result (Option Asked) Refusal)
-        (f : Option Asked → Progress) → operands takes s.shape.entries ≡ Ok u
-        → NamesFault p names s.objects u.operands nm a
-        → FaultIfErr p l number (Operates takes names gives) s (operated nm gives i u o s)
-        (and_then a (λ v. Ok (f v)))
-    names_refused takes names gives i s o u nm (Ok a) f e h = tt
-    names_refused takes names gives i s o u nm (Err (OffList a b)) f e h = (
-      h.0,
-      subst (λ v. AsksFor a b s (operated v gives i u o s)) (sym h.1)
-          (operate_asks gives i u s a b o),
-    )
-    names_refused takes names gives i s o u nm (Err NotText) f e h = (u, e, h)
-    names_refused takes names gives i s o u nm (Err UnknownImport) f e h = h
-    names_refused takes names gives i s o u nm (Err (Lacks b)) f e h = absurd h
-    names_refused takes names gives i s o u nm (Err WrongClass) f e h = absurd h
-    names_refused takes names gives i s o u nm (Err LeftOver) f e h = absurd h
-    names_refused takes names gives i s o u nm (Err NotAscii) f e h = absurd h
-    names_refused takes names gives i s o u nm (Err TooLarge) f e h = absurd h
+      module _ (u : Taken ℕ) (e : operands takes s.shape.entries ≡ Ok u) where
+        receiver_refused : (st : Stepped) (b : Bool) (x : Result Progress Refusal)
+            → (b ≡ true → WrongReceiver gives s.objects u.operands) → Refused st x
+            → Refused st (cond b (Err WrongClass) x)
+        receiver_refused st false x h g = g
+        receiver_refused st true x h g = (u, e, h refl)
 
-    operate_refused : (takes : Takes) (names : Names) (gives : Gives) (i : Instruction)
-        (k : Knowledge) (s : State) (o : Outcome) (x : Result (Taken Known) Breach)
-        (y : Result (Taken ℕ) Breach) → operands takes s.shape.entries ≡ y
-        → SameResult (AlikeTaken (TrueBy U s.objects)) x y
-        → FaultIfErr p l number (Operates takes names gives) s (operate_step names gives i o s y)
-        (operate_learned p names gives i k x)
-    operate_refused takes names gives i k s o (Ok t) (Ok u) e h =
-        receiver_refused takes names gives s _ u (wrong_receiver gives t.operands) _ e
-        (gives_fault gives s.objects t.operands u.operands h.operands)
-        (names_refused takes names gives i s o u _ (asked_of p names i t.operands) _ e
-        (names_fault names i s.objects t.operands u.operands h.operands))
-    operate_refused takes names gives i k s o (Err b) (Err c) e h = ap Stuck (sym h)
-    operate_refused takes names gives i k s o (Ok t) (Err c) e h = absurd h
-    operate_refused takes names gives i k s o (Err b) (Ok u) e h = absurd h
+        names_refused : (o : Outcome) (nm : Named) (a : Result (Option Asked) Refusal)
+            (f : Option Asked → Progress) → NamesFault p names s.objects u.operands nm a
+            → Refused (operated nm gives i u o s) (and_then a (λ v. Ok (f v)))
+        names_refused o nm (Ok a) f h = tt
+        names_refused o nm (Err (OffList a b)) f h =
+            (h.0, rw h.1 (operate_asks gives i u s a b o))
+        names_refused o nm (Err NotText) f h = (u, e, h)
+        names_refused o nm (Err UnknownImport) f h = h
+        names_refused o nm _ f h = absurd h
+
+      operate_refused : (k : Knowledge) (o : Outcome) (x : Result (Taken Known) Breach)
+          (y : Result (Taken ℕ) Breach) → operands takes s.shape.entries ≡ y
+          → SameResult (AlikeTaken (TrueBy U s.objects)) x y
+          → Refused (operate_step names gives i o s y) (operate_learned p names gives i k x)
+      operate_refused k o (Ok t) (Ok u) e h =
+          receiver_refused u e _ (wrong_receiver gives t.operands) _
+          (gives_fault gives s.objects t.operands u.operands h.operands)
+          (names_refused u e o _ (asked_of p names i t.operands) _
+          (names_fault names i s.objects t.operands u.operands h.operands))
+      operate_refused k o (Err b) (Err c) e h = ap Stuck (sym h)
+      operate_refused k o _ _ e h = absurd h
 
     shape_refused : (e : Effect) (s : State) (x : Result Knowledge Breach)
         (y : Result (Shape ℕ) Breach) → SameResult (Alike (TrueBy U s.objects)) x y
@@ -250,12 +221,11 @@ module _ (U : List Object → ℕ → Type 0) (p : Policy) where
         → FaultIfErr p l number e s (stop_step s y) (stop_learned ms x)
     stop_refused e s ms (Ok a) (Ok b) h = left_refused a.1 b.1 ms b.0 e s h.below
     stop_refused e s ms (Err b) (Err c) h = ap Stuck (sym h)
-    stop_refused e s ms (Err b) (Ok a) h = absurd h
-    stop_refused e s ms (Ok a) (Err c) h = absurd h
+    stop_refused e s ms _ _ h = absurd h
 
     pub learn_refused : (e : Effect) (i : Instruction) (k : Knowledge) (s : State) (o : Outcome)
         → CoversBy U k s → FaultIfErr p l number e s (perform e i s o) (learn p e i k)
-    learn_refused (Operates takes names gives) i k s o h = operate_refused takes names gives i k s o
+    learn_refused (Operates takes names gives) i k s o h = operate_refused takes names gives i s k o
         _ _ refl (operands_alike (TrueBy U s.objects) takes k.entries s.shape.entries h.entries)
     learn_refused (Moves m) i k s o h = shape_refused (Moves m) s (moved m (memo_number i) k)
         (moved m (memo_number i) s.shape)
@@ -265,44 +235,17 @@ module _ (U : List Object → ℕ → Type 0) (p : Policy) where
     learn_refused Raises i k s o h =
         record { added = Did i [] None ∷ []; grown = refl; asked = refl }
 
-    more_stack : (q : Progress) (s : State) (st : Stepped) → FollowsBy U q s st
-        → l.stack < length q.after.entries → IsTooLarge l number st
-    more_stack q s (WentOn t) h lt = inl
-        (subst (λ n. l.stack < n)
-        (length-Pointwise (AlikeEntry (TrueBy U t.objects)) q.after.entries t.shape.entries
-        h.0.entries) lt)
-    more_stack q s (Stopped x t) h lt = inl
-        (subst (λ n. l.stack < n)
-        (length-Pointwise (AlikeEntry (TrueBy U t.objects)) q.after.entries t.shape.entries
-        h.2.entries) lt)
-    more_stack q s (Raised t) h lt = tt
-    more_stack q s (Stuck b) h lt = h
-
-    more_memo : (q : Progress) (s : State) (st : Stepped) → FollowsBy U q s st
-        → l.memo < length q.after.memo → IsTooLarge l number st
-    more_memo q s (WentOn t) h lt = inr
-        (inl
-        (subst (λ n. l.memo < n)
-        (length-Pointwise (AlikeCell (TrueBy U t.objects)) q.after.memo t.shape.memo h.0.memo) lt))
-    more_memo q s (Stopped x t) h lt = inr
-        (inl
-        (subst (λ n. l.memo < n)
-        (length-Pointwise (AlikeCell (TrueBy U t.objects)) q.after.memo t.shape.memo h.2.memo) lt))
-    more_memo q s (Raised t) h lt = tt
-    more_memo q s (Stuck b) h lt = h
-
-    more_number : (q : Progress) (s : State) (st : Stepped) → FollowsBy U q s st
-        → l.numbers < number → IsTooLarge l number st
-    more_number q s (WentOn t) h lt = inr (inr lt)
-    more_number q s (Stopped x t) h lt = inr (inr lt)
-    more_number q s (Raised t) h lt = tt
-    more_number q s (Stuck b) h lt = h
+    -- a covered state exceeds a limit if the knowledge does
+    past_too : (k : Knowledge) (s : State) → CoversBy U k s → PastBy l number k → IsPast l number s
+    past_too k s h past =
+        let (entries, memo) = covered_lengths U k s h in rw (entries, memo) at past
 
     more : (q : Progress) (s : State) (st : Stepped) → FollowsBy U q s st → PastBy l number q.after
         → IsTooLarge l number st
-    more q s st h (inl lt) = more_stack q s st h lt
-    more q s st h (inr (inl lt)) = more_memo q s st h lt
-    more q s st h (inr (inr lt)) = more_number q s st h lt
+    more q s (WentOn t) h past = past_too q.after t h.0 past
+    more q s (Stopped x t) h past = past_too q.after t h.2 past
+    more q s (Raised t) h past = tt
+    more q s (Stuck b) h past = h
 
     within_refused : (e : Effect) (x : Result Progress Refusal) (s : State) (st : Stepped)
         → FollowsIfOk U x s st → FaultIfErr p l number e s st x

@@ -2,7 +2,7 @@
 use Rattle.std.proofs.Common.{◌≡◌, ℕ, Bool, true, false, List, [], ◌∷◌, ◌++◌, Option, Some, None}
 use Rattle.std.proofs.Common.{inl, inr, sym, ap, subst, ◌∙◌}
 use Rattle.std.proofs.lemmas.List.{append_cancel_left}
-use Rattle.pkmachine.specs.Runs.{Event, State, Stepped, WentOn, Raised, Stopped, Stuck}
+use Rattle.pkmachine.specs.Runs.{Event, State, Stepped, WentOn, Raised}
 use Rattle.pkmachine.specs.Knowledge.{Progress}
 use Rattle.pkimport.specs.Import.{Asked, AskedPair, AskedUnknown}
 use Rattle.pkmachine.specs.Covers.{IsObject, imports_of, IsAsked, Adds}
@@ -47,8 +47,7 @@ pub asks_once : (m n x y : List ℕ) (s : State) (st : Stepped) → AsksFor m n 
     → (m ≡ x) × (n ≡ y)
 asks_once m n x y s (WentOn t) h g = pairs_same m n x y s.events t.events h g
 asks_once m n x y s (Raised t) h g = pairs_same m n x y s.events t.events h g
-asks_once m n x y s (Stopped r t) h g = absurd h
-asks_once m n x y s (Stuck b) h g = absurd h
+asks_once m n x y s _ h g = absurd h
 
 -- the pair of a listed import
 abbrev pub IsPairOf : Option Asked → List ℕ → List ℕ → Type 0
@@ -71,8 +70,7 @@ pub asked_listed : (q : Progress) (s : State) (st : Stepped) (m n : List ℕ)
 asked_listed q s (WentOn t) m n h g = pair_of_adds q.import m n s.events t.events h.1 g
 asked_listed q s (Raised t) m n (inl h) g = pair_of_adds q.import m n s.events t.events h g
 asked_listed q s (Raised t) m n (inr h) g = absurd (pair_of_adds None m n s.events t.events h.1 g)
-asked_listed q s (Stopped r t) m n h g = absurd g
-asked_listed q s (Stuck b) m n h g = absurd g
+asked_listed q s _ m n h g = absurd g
 
 -- a pair off the list is not the pair of a permitted import
 pub off_is_out : (list : List ℕ → List ℕ → Bool) (a : Option Asked) (m n : List ℕ)
@@ -86,6 +84,5 @@ off_is_out list (Some AskedUnknown) m n h g e = h
 
 pub same_of : (a : Option Asked) (list : List ℕ → List ℕ → Bool) (m n x y : List ℕ)
     → IsPermitted (Some list) a → IsPairOf a m n → IsPairOf a x y → (m ≡ x) × (n ≡ y)
-same_of None list m n x y l h g = absurd h
 same_of (Some (AskedPair c d)) list m n x y l h g = (sym h.0 ∙ g.0, sym h.1 ∙ g.1)
-same_of (Some AskedUnknown) list m n x y l h g = absurd l
+same_of _ list m n x y l h g = absurd (assumption)

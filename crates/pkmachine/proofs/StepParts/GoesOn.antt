@@ -5,25 +5,23 @@ use Rattle.std.proofs.Common.{◌≡◌, ℕ, ◌<◌, ◌≤◌, ◌⊎◌, inl
 use Rattle.std.proofs.Common.{◌∷◌, length, Some, None, Ok, refl, drop, arith, length-drop}
 use Rattle.pkstack.specs.declared.Move.{Move}
 use Rattle.pkmachine.specs.declared.operate.StepError.{StepError}
-use Rattle.pkmachine.specs.Effects.{Effect, Operates, Moves, Stops, Raises, effect_as}
-use Rattle.pkmachine.specs.Effects.{number_stored}
+use Rattle.pkmachine.specs.Effects.{Effect, Operates, Moves, effect_as, number_stored}
 use Rattle.pkstack.specs.Shape.{top, Entry, and_then, moved}
 use Rattle.pkops.specs.Spelling.{Instruction}
 use Rattle.pkmachine.specs.Knowledge.{Known, Knowledge, Policy, Lacks, LeftOver, TooLarge}
-use Rattle.pkmachine.specs.Knowledge.{left_over}
-use Rattle.pkmachine.specs.Knowledge.{stop_learned, learn, within, advance}
+use Rattle.pkmachine.specs.Knowledge.{left_over, stop_learned, learn, within, advance}
 use Rattle.pkimport.specs.Import.{Asked}
 use Rattle.pkops.specs.Limits.{Bounds}
 use Rattle.pkops.specs.declared.Reason.{Reason}
 use Rattle.pkops.specs.declared.Reason.TheVariants as reason
 use Rattle.pkmachine.specs.Private.Actions.{IsUnnamed}
-use Rattle.pkmachine.specs.Private.StepErrors.{GoesTo, IsRefusedWith, IsForMemory}
+use Rattle.pkmachine.specs.Private.StepErrors.{GoesTo, IsRefusedWith, IsForMemory, IsStopFault}
+use Rattle.pkmachine.specs.Private.StepErrors.{MayWantMemory, Proceeds}
 use Rattle.pkstack.specs.Faults.{IsFaultOf}
-use Rattle.pkmachine.specs.Private.StepErrors.{IsStopFault, MayWantMemory, Proceeds}
 use Rattle.pkmachine.specs.View.{moved_as}
 use Rattle.pkmachine.proofs.StepParts.Past.{within_fits, within_past}
 use Rattle.pkmachine.specs.declared.effect.Gives.{Gives}
-use Rattle.pkmachine.specs.declared.effect.Names.TheVariants.{NoName, OfArgument, OfOperands}
+use Rattle.pkmachine.specs.declared.effect.Names.TheVariants.{NoName}
 use Rattle.pkstack.specs.declared.Takes.{Takes}
 use Rattle.pkmachine.specs.declared.stepping.Moved.TheVariants.{On}
 
@@ -75,8 +73,4 @@ unnamed_goes p l i k after before now (Operates takes NoName g) u (a, is, more, 
   more,
   on takes g a b,
 )
-unnamed_goes p l i k after before now (Operates takes OfArgument g) u h s m = absurd u
-unnamed_goes p l i k after before now (Operates takes OfOperands g) u h s m = absurd u
-unnamed_goes p l i k after before now (Moves m') u h s m = absurd u
-unnamed_goes p l i k after before now Stops u h s m = absurd u
-unnamed_goes p l i k after before now Raises u h s m = absurd u
+unnamed_goes p l i k after before now _ u h s m = absurd u

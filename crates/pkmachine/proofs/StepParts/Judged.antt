@@ -7,18 +7,17 @@ use Rattle.std.specs.Prelude.{is_some, IsSome}
 use Rattle.pkmachine.specs.declared.effect.Names.{Names}
 use Rattle.pkmachine.specs.declared.effect.Names.TheVariants.{NoName, OfArgument, OfOperands}
 use Rattle.pkmachine.specs.declared.effect.Gives.{Gives}
-use Rattle.pkmachine.specs.declared.effect.Gives.TheVariants.{Makes, MakesIntOrBool, MakesText}
-use Rattle.pkmachine.specs.declared.effect.Gives.TheVariants.{MayMake, Answers, Leaves}
+use Rattle.pkmachine.specs.declared.effect.Gives.TheVariants.{Leaves}
 use Rattle.pkstack.specs.declared.Takes.{Takes}
 use Rattle.pkstack.specs.declared.Takes.TheVariants.{Objects}
 use Rattle.pkmachine.specs.Effects.{Operates}
 use Rattle.pkstack.specs.Shape.{put, Breach, Entry, Item, Taken, and_then, operands}
 use Rattle.pkops.specs.Spelling.{Instruction}
-use Rattle.pkmachine.specs.Runs.{Text, Plain, Foreign}
 use Rattle.pkmachine.specs.Knowledge.{argument_asked, Known, Knowledge, Policy, Refusal, Lacks}
 use Rattle.pkmachine.specs.Knowledge.{Progress, TooLarge, known_given, learn, within, WrongClass}
-use Rattle.pkmachine.specs.Knowledge.{wrong_first, wrong_receiver, asked_of}
+use Rattle.pkmachine.specs.Knowledge.{wrong_first, wrong_receiver, asked_of, operands_asked}
 use Rattle.pkimport.specs.Import.{Asked, asks_more}
+use Rattle.pkmachine.specs.Runs.{Text}
 use Rattle.pkops.specs.Limits.{Bounds}
 use Rattle.pkops.specs.declared.Reason.{Reason}
 use Rattle.pkops.specs.declared.Reason.TheVariants as reason
@@ -27,12 +26,11 @@ use Rattle.pkmachine.specs.declared.operate.StepError.{StepError}
 use Rattle.pkimport.specs.declared.import.Named.{Named}
 use Rattle.pkimport.specs.Table.{named_asked}
 use Rattle.pkmachine.specs.declared.value.Value.{Value}
-use Rattle.pkmachine.specs.declared.value.Value.TheVariants.{Unknown, Made}
-use Rattle.pkmachine.specs.declared.value.Value.TheVariants as value
+use Rattle.pkmachine.specs.declared.value.Value.TheVariants.{Made}
 use Rattle.pkmachine.specs.declared.effect.Wanted.{Wanted}
 use Rattle.std.specs.List.{slice_get}
-use Rattle.pkmachine.specs.Private.StepErrors.{ruled, judged, IsRefusedWith, IsForMemory}
-use Rattle.pkmachine.specs.Private.StepErrors.{MayGive, MayName, MayOperate, Proceeds, WellGiven}
+use Rattle.pkmachine.specs.Private.StepErrors.{ruled, judged, IsRefusedWith, IsForMemory, MayGive}
+use Rattle.pkmachine.specs.Private.StepErrors.{MayName, MayOperate, Proceeds, WellGiven}
 use Rattle.pkstack.specs.Faults.{IsLack, WantsRoom}
 use Rattle.pkstack.specs.Places.{HasFirst}
 use Rattle.pkmachine.proofs.StepParts.Past.{within_past}
@@ -46,24 +44,18 @@ argument_ruled : (p : Policy) (q : Option (List ℕ × List ℕ))
 argument_ruled p (Some q) = refl
 argument_ruled p None = refl
 
+two_ruled : (p : Policy) (j k : Known)
+    → operands_asked p j k ≡ and_then (operands_asked None j k) (ruled_any p)
+two_ruled p (Some (Text m)) (Some (Text n)) = refl
+two_ruled p None (Some (Text n)) = refl
+two_ruled p _ _ = refl
+
 -- an import is found without the policy, and then judged by it
 pub asked_ruled : (p : Policy) (names : Names) (i : Instruction) (ks : List Known)
     → asked_of p names i ks ≡ and_then (asked_of None names i ks) (ruled_any p)
-asked_ruled p NoName i ks = refl
 asked_ruled p OfArgument i ks = argument_ruled p (pair_named i)
-asked_ruled p OfOperands i [] = refl
-asked_ruled p OfOperands i (j ∷ []) = refl
-asked_ruled p OfOperands i (j ∷ k ∷ l ∷ ks) = refl
-asked_ruled p OfOperands i (Some (Plain s) ∷ k ∷ []) = refl
-asked_ruled p OfOperands i (Some Foreign ∷ k ∷ []) = refl
-asked_ruled p OfOperands i (None ∷ None ∷ []) = refl
-asked_ruled p OfOperands i (None ∷ Some (Text n) ∷ []) = refl
-asked_ruled p OfOperands i (None ∷ Some (Plain s) ∷ []) = refl
-asked_ruled p OfOperands i (None ∷ Some Foreign ∷ []) = refl
-asked_ruled p OfOperands i (Some (Text m) ∷ None ∷ []) = refl
-asked_ruled p OfOperands i (Some (Text m) ∷ Some (Text n) ∷ []) = refl
-asked_ruled p OfOperands i (Some (Text m) ∷ Some (Plain s) ∷ []) = refl
-asked_ruled p OfOperands i (Some (Text m) ∷ Some Foreign ∷ []) = refl
+asked_ruled p OfOperands i (j ∷ k ∷ []) = two_ruled p j k
+asked_ruled p _ i _ = refl
 
 module _ (p : Policy) (names : Names) (gives : Gives) (i : Instruction) (ks : List Known) where
   pub judged_wrong : wrong_receiver gives ks ≡ true → judged p names gives i ks ≡ Err WrongClass
@@ -142,18 +134,13 @@ module _ (p : Policy) (takes : Takes) (names : Names) (gives : Gives) (i : Instr
 
 pub may_give : (gives : Gives) (i : Instruction) (v : Known) → known_given gives i ≡ Some v
     → MayGive gives
-may_give (Makes s) i v e = tt
-may_give MakesIntOrBool i v e = tt
-may_give MakesText i v e = tt
-may_give (MayMake s) i v e = tt
-may_give Answers i v e = tt
 may_give (Leaves w) i v e = cc
+may_give _ i v e = tt
 
 pub may_name : (names : Names) (i : Instruction) (ks : List Known) (a : Asked)
     → asked_of None names i ks ≡ Ok (Some a) → MayName names
 may_name NoName i ks a e = cc
-may_name OfArgument i ks a e = tt
-may_name OfOperands i ks a e = tt
+may_name _ i ks a e = tt
 
 none_asked : (b : Bool) (r : Refusal) (a : Asked) → cond b (Err r) (Ok None) ≡ Ok (Some a) → ⊥
 none_asked true r a e = cc
@@ -166,8 +153,7 @@ pub judged_name : (p : Policy) (names : Names) (gives : Gives) (i : Instruction)
 judged_name p NoName gives i ks us (Some n) s e =
     absurd (none_asked (wrong_receiver gives ks) WrongClass (named_asked us n) e)
 judged_name p NoName gives i ks us None s e = cc
-judged_name p OfArgument gives i ks us n s e = tt
-judged_name p OfOperands gives i ks us n s e = tt
+judged_name p _ gives i ks us n s e = tt
 
 pub within_errs : (x : Result Progress Refusal) (l : Bounds) (n : ℕ) (d : StepError)
     → IsRefusedWith x d → IsRefusedWith (and_then x (within l n)) d
@@ -175,9 +161,8 @@ within_errs x l n d (f, e, g, h) = (f, rw e refl, g, h)
 
 wrong_any : (ts : List (List ℕ)) (w : Wanted) (v : Value) (ks : List Known)
     → wrong_first w (known ts v ∷ []) ≡ wrong_first w (known ts v ∷ ks)
-wrong_any ts w Unknown ks = refl
 wrong_any ts w (Made c) ks = refl
-wrong_any ts w (value.Text n) ks = refl
+wrong_any ts w _ ks = refl
 
 pub wrong_head : (ts : List (List ℕ)) (w : Wanted) (vs : List Value) (v : Value)
     → Some v ≡ slice_get vs 0 → wrong_first w (known ts v ∷ []) ≡ wrong_first w (map (known ts) vs)
@@ -238,22 +223,14 @@ module _ (p : Policy) (takes : Takes) (names : Names) (gives : Gives) (i : Instr
 -- an operation that leaves its receiver takes at least one object
 pub left_there : (takes : Takes) (gives : Gives) (i : Instruction) → WellGiven gives takes
     → known_given gives i ≡ None → HasFirst takes
-left_there takes (Makes s) i w e = cc
-left_there takes MakesIntOrBool i w e = cc
-left_there takes MakesText i w e = cc
-left_there takes (MayMake s) i w e = cc
-left_there takes Answers i w e = cc
 left_there takes (Leaves wanted) i w e = w
+left_there takes _ i w e = cc
 
 -- ---- an operation that takes nothing and imports nothing
 
 no_receiver : (gives : Gives) → wrong_receiver gives [] ≡ false
 no_receiver (Leaves wanted) = refl
-no_receiver (Makes s) = refl
-no_receiver MakesIntOrBool = refl
-no_receiver MakesText = refl
-no_receiver (MayMake s) = refl
-no_receiver Answers = refl
+no_receiver _ = refl
 
 module _ (p : Policy) (takes : Takes) (names : Names) (gives : Gives) (i : Instruction)
     (k : Knowledge) (e : takes ≡ Objects 0) (f : names ≡ NoName) where

@@ -38,8 +38,7 @@ of_action setting i o a b same e old is none =
 
       not_old : (s : OldStrings) → effect_as s i ≡ effect_of i.op
       not_old Unknown = refl
-      not_old Ascii = rw no refl
-      not_old Bytes = rw no refl
+      not_old _ = rw no refl
 
 old_of : (o : Op) → is_old_string o ≡ true → effect_of o ≡ answers (Objects 0)
 old_of op.String e = refl

@@ -12,10 +12,10 @@ use Rattle.pkmachine.specs.declared.value.Value.{Value}
 use Rattle.pkmachine.specs.Effects.{Effect, Operates, fills}
 use Rattle.pkmachine.specs.Knowledge.{Known, known_given, wrong_first, wrong_receiver}
 use Rattle.pkstack.specs.Places.{ItemsFrom, Replaced, above, below}
-use Rattle.pkmachine.specs.Private.NamelessOperations.{HasOperated, HasReplaced}
-use Rattle.pkmachine.specs.Private.NamelessOperations.{Replaces, StaysSeen}
+use Rattle.pkmachine.specs.Private.NamelessOperations.{HasOperated, HasReplaced, Replaces}
+use Rattle.pkmachine.specs.Private.NamelessOperations.{StaysSeen}
 use Rattle.pkmachine.specs.Private.Slots.{StandsIf, known, seen}
-use Rattle.pkstack.specs.Shape.{Entry, Item, Mark, Taken, items, put}
+use Rattle.pkstack.specs.Shape.{Entry, Item, Taken, items, put}
 use Rattle.pkmachine.proofs.ResolvedEntries.{found_is, found_seen, put_seen, put_sees, same_table}
 use Rattle.pkmachine.proofs.StepParts.Judged.{does_pass, judged_ok}
 
@@ -24,13 +24,11 @@ items_long : (count : ℕ) (es : List (Entry Value)) (above : List Value) (t : T
 items_long zero es above t e = let is : es ≡ t.below = cc in rw is (omega arith)
 items_long (suc count) (Item x ∷ es) above t e =
     let h = items_long count es (x ∷ above) t e in omega (arith, h)
-items_long (suc count) (Mark ∷ es) above t e = cc
-items_long (suc count) [] above t e = cc
+items_long (suc count) _ above t e = cc
 
 put_short : {A : Type 0} (v : Option A) (ks : List A) → length (put v ks) ≤ 1
-put_short (Some v) ks = omega arith
-put_short None [] = omega arith
 put_short None (k ∷ ks) = omega arith
+put_short _ _ = omega arith
 
 -- an operation that found its operands and can take the first of them
 module _ (count : ℕ) (v : Option Value) (gives : Gives) (old new : List (Entry Value))
@@ -64,9 +62,8 @@ module _ (count : ℕ) (v : Option Value) (gives : Gives) (old new : List (Entry
 -- a new object about which this is known, whatever the operands are
 pub has_replaced : (count : ℕ) (v : Value) (gives : Gives) (old new : List (Entry Value))
     → ((ts : List (List ℕ)) (i : Instruction) → StandsIf ts (Some v) (known_given gives i))
-    → ((ks : List Known) → wrong_receiver gives ks ≡ false) → 0 < count
-    → Replaced count v old new → Instruction
-    → HasReplaced (Operates (Objects count) NoName gives) old new
+    → ((ks : List Known) → wrong_receiver gives ks ≡ false) → 0 < count → Replaced count v old new
+    → Instruction → HasReplaced (Operates (Objects count) NoName gives) old new
 has_replaced count v gives old new given right some (t, e, is) i =
     operated count (Some v) gives old new t e is given (λ ts. right (map (known ts) t.operands))
     some i

@@ -1,7 +1,6 @@
 -- What an operation that imports nothing does to the stack. It doesn't depend on the texts or the
 -- memo.
-use Rattle.std.specs.Prelude.{ℕ, ◌≡◌, ◌≤◌, IfErr, List, None, OnErr, OnOk, Result, false}
-use Rattle.std.specs.Prelude.{length}
+use Rattle.std.specs.Prelude.{ℕ, ◌≡◌, ◌≤◌, IfErr, List, None, OnErr, OnOk, Result, false, length}
 use Rattle.pkmachine.specs.declared.value.Value.{Value}
 use Rattle.pkmachine.specs.Effects.{Effect}
 use Rattle.pkops.specs.Spelling.{Instruction}

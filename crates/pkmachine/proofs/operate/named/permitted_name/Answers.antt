@@ -7,8 +7,7 @@ use Rattle.pkimport.specs.Table.{named_asked}
 use Rattle.pkmachine.specs.Private.Slots.{known}
 use Rattle.pkmachine.proofs.StepParts.Judged.{judged_wrong, judged_err, judged_ok, may_name}
 use Rattle.pkmachine.proofs.operate.named.permitted_name.Goals as goal
-use Rattle.pkmachine.proofs.operate.named.permitted_name.Goals.{in-Some+in_ok-permit}
-use Rattle.pkmachine.proofs.operate.named.permitted_name.Goals.{in_default}
+use Rattle.pkmachine.proofs.operate.named.permitted_name.Goals.{in-Some+in_ok-permit, in_default}
 
 pub returns-then-receiver_fault-clause-err : goal.returns-then-receiver_fault-clause-err
 returns-then-receiver_fault-clause-err c i spelled = inl (

@@ -10,16 +10,7 @@ use Rattle.pkmachine.proofs.packed.PackedValue.made.Goals as goal
 
 counted : (c : Class) → unpacked (tag_of the_type c + 1) ≡ value.Made c
 counted class.None = refl
-counted class.Bool = refl
-counted class.Int = refl
-counted class.Float = refl
-counted class.Bytes = refl
-counted class.ByteArray = refl
-counted class.List = refl
-counted class.Tuple = refl
-counted class.Dict = refl
-counted class.Set = refl
-counted class.FrozenSet = refl
+counted _ = refl
 
 pub returns : goal.returns
 returns c = counted c.args.class
