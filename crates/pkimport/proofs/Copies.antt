@@ -8,8 +8,8 @@ use Rattle.std.proofs.lemmas.List.{map-append}
 use Rattle.pkimport.specs.Private.Entries.{AreCopies, AreEntries, IsEntry, KeepsCopies, entry_asked}
 use Rattle.pkimport.specs.Table.{HasMoreTexts}
 use Rattle.pkimport.specs.declared.import_table.ListedImport.{ListedImport}
-use Rattle.pkimport.proofs.NotedImports.{are_grown, are_more, are_written, asked_grown, asked_written}
-use Rattle.pkimport.proofs.NotedImports.{longer, map_more, same_table, text_grown}
+use Rattle.pkimport.proofs.NotedImports.{are_grown, are_more, are_written, asked_grown}
+use Rattle.pkimport.proofs.NotedImports.{asked_written, longer, map_more, same_table, text_grown}
 
 -- a lookup in a list after one of its elements was set
 at_set : (copies : List (Option ℕ)) (k i n copy : ℕ)

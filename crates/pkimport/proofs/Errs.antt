@@ -1,10 +1,6 @@
 -- Weaker statements about a result.
 use Rattle.std.proofs.Common.{Result, Ok, Err, OnErr, OnOk}
 
-pub ok_on : {A E : Type 0} (P Q : Type 0) (x : Result A E) → (P → Q) → OnOk x P → OnOk x Q
-ok_on P Q (Ok a) f h = f h
-ok_on P Q (Err r) f h = h
-
 pub on_each : {A E R P Q : Type 0} (x : Result A E) → (P → R) → (Q → R) → OnOk x P → OnErr x Q → R
 on_each (Ok a) f g h k = f h
 on_each (Err e) f g h k = g k

@@ -1,6 +1,6 @@
 -- List files as users write them, judged by the definitions.
-use Rattle.std.proofs.Common.{◌≡◌, refl, codes, Bool, true, false, Err, Ok, Result, None, Some, List}
-use Rattle.std.proofs.Common.{[], ◌∷◌, ◌++◌, map}
+use Rattle.std.proofs.Common.{◌≡◌, refl, codes, Bool, true, false, Err, Ok, Result, None, Some}
+use Rattle.std.proofs.Common.{List, [], ◌∷◌, ◌++◌, map}
 use Rattle.toml.proofs.OnLiterals.{toml_on_literals}
 use Rattle.toml.specs.Data.{Members, get_member}
 use Rattle.pkops.specs.Limits.{Bounds, large, standard}

@@ -1,6 +1,7 @@
 -- A text at the end moves no earlier one, so listed imports name the same pairs.
 use Rattle.std.proofs.Common.{[], ◌∷◌}
-use Rattle.pkimport.proofs.Errs.{ok_on, on_each}
+use Rattle.std.proofs.lemmas.Result.{on_ok_weaker}
+use Rattle.pkimport.proofs.Errs.{on_each}
 use Rattle.pkimport.proofs.NotedImports.{are_grown, asked_grown, same_table}
 use Rattle.pkimport.proofs.import_table.ImportTable.add_text.Goals as goal
 
@@ -15,7 +16,7 @@ invariant_of-self c =
 pub returns-clause-ok : goal.returns-clause-ok
 returns-clause-ok c =
     rw (← c.self.view_is)
-    (ok_on _ _ c.push.result
+    (on_ok_weaker c.push.result
     (λ h.
     let same = asked_grown c.self.inside.texts c.push.new.self c.self.inside.written
     c.self.inside.written (record { more = c.args.text.now ∷ []; is = h })

@@ -1,8 +1,8 @@
 -- A module goes from the file to the index, the first of two of the same name alone.
-use Rattle.std.proofs.Common.{◌∙◌, sym, string_bytes}
+use Rattle.std.proofs.Common.{◌∙◌, string_bytes}
 use Rattle.std.specs.BTreeMap.{get_by_text}
 use Rattle.toml.specs.View.{members_view, view}
-use Rattle.pklist.proofs.ListFile.Index.{has_none, has_or_end, module_past, module_added}
+use Rattle.pklist.proofs.ListFile.Index.{has_none, module_past, module_added}
 use Rattle.pklist.proofs.allow.index.index_modules.Goals as goal
 
 pub loop-module_name-preserved : goal.loop-module_name-preserved
@@ -21,7 +21,3 @@ loop-module_name-preserved-in-Continue-branch-2 c m n =
     (has_none _ (rw c.as_str.ensures.value at c.if-not-contains_key.ensures)) c.in_ok-set.ensures
     (rw c.as_str-then-not-contains_key.ensures.value at (c.in_ok-put_module.ensures m))
     ∙ (rw c.in-Some.ensures.steps at (c.loop-module_name.invariant m n))
-
-pub returns : goal.returns
-returns c m n = sym (has_or_end (get_by_text c.loop-module_name.index m) n)
-    ∙ (rw c.in-None.ensures.steps.0 at (c.loop-module_name.invariant m n))

@@ -3,7 +3,7 @@ use Rattle.std.proofs.Common.{◌-◌, ◌∙◌, [], refl, arith, drop}
 use Rattle.pkstack.specs.Shape.{NoItem}
 use Rattle.pkstack.specs.Private.Slots.{shown, values_of}
 use Rattle.pkstack.proofs.Bars.{marks_over_object}
-use Rattle.pkstack.proofs.Shown.{items_at_bar, items_at_object, first_object}
+use Rattle.pkstack.proofs.Shown.{items_at_bar, items_at_object}
 use Rattle.pkstack.proofs.Placed.{receiver_missing, receiver_fits, receiver_breaks}
 use Rattle.pkstack.proofs.Settled.{breaks_by_count}
 use Rattle.pkstack.proofs.stack.slots.receiver_place.Goals as goal
@@ -40,10 +40,6 @@ returns-in-None-clause-ok g c =
           (breaks_by_count c.args.rule (values_of (drop c.in-Some.place c.args.stack.now)) _
           (omega (arith, c.in-Some.ensures.count)) ∙ c.in-None.ensures),
     )
-
-pub returns-in-None-clause-well : goal.returns-in-None-clause-well
-returns-in-None-clause-well g c = first_object c.args.stack.now (c.in-Some.place - 1) _
-    (omega (arith, c.in-Some.ensures.value.0)) _ c.in-Object.is
 
 pub returns-in-None-clause-marks : goal.returns-in-None-clause-marks
 returns-in-None-clause-marks g c =
