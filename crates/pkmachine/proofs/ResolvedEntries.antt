@@ -217,7 +217,7 @@ stands_more ts more v k h = record {
       (omega (arith, length-append ts more)) h.numbered;
 }
 
-pub stands_new : (ts : List (List ℕ)) (t : List ℕ)
+stands_new : (ts : List (List ℕ)) (t : List ℕ)
     → StandsAs (ts ++ t ∷ []) (value.Text (length ts)) (Some (Text t))
 stands_new ts t = record {
   is = ap (λ u. Some (Text u)) (get_or-append_seam ts t [] []);
@@ -247,31 +247,31 @@ module _ (ts us : List (List ℕ)) (g : HasMoreTexts ts us) where
     pub recalls_grown : Pointwise (AlikeCell (StandsAs us)) cs (remembered us cs)
     recalls_grown = subst (λ z. Pointwise (AlikeCell (StandsAs us)) cs z) recalls_same grown
 
-  -- the result of an operation
-  module _ (v : Option Value) (o : Option Known) (given : StandsIf us v o) (t : Taken Value)
-      (is : IsTaken ts t) where
-    put_by : (v : Option Value) (o : Option Known) → StandsIf us v o
-        → Sees us (put v t.operands) (put o (map (known ts) t.operands))
-    put_by None None h = sees_grown _ _
-        (front_alike (StandsAs ts) t.operands (map (known ts) t.operands) is.operands)
-    put_by (Some v) (Some k) h = (h, tt)
-    put_by _ _ h = absurd h
+-- ---- the result of an operation
 
-    puts : Sees us (put v t.operands ++ t.below)
-        (put o (map (known ts) t.operands) ++ seen ts t.below)
-    puts = Pointwise-append (AlikeEntry (StandsAs us)) (put v t.operands)
-        (put o (map (known ts) t.operands)) t.below (seen ts t.below) (put_by v o given)
-        (sees_grown t.below (seen ts t.below) is.below)
+module _ (ts : List (List ℕ)) (v : Option Value) (o : Option Known) (given : StandsIf ts v o)
+    (t : Taken Value) (is : IsTaken ts t) where
+  put_by : (v : Option Value) (o : Option Known) → StandsIf ts v o
+      → Sees ts (put v t.operands) (put o (map (known ts) t.operands))
+  put_by None None h =
+      front_alike (StandsAs ts) t.operands (map (known ts) t.operands) is.operands
+  put_by (Some v) (Some k) h = (h, tt)
+  put_by _ _ h = absurd h
 
-    pub put_seen : seen us (put v t.operands ++ t.below) ≡ put o (map (known ts) t.operands)
-        ++ seen ts t.below
-    put_seen =
-        sym (sees_is us (put v t.operands ++ t.below)
-        (put o (map (known ts) t.operands) ++ seen ts t.below) puts)
+  puts : Sees ts (put v t.operands ++ t.below)
+      (put o (map (known ts) t.operands) ++ seen ts t.below)
+  puts = Pointwise-append (AlikeEntry (StandsAs ts)) (put v t.operands)
+      (put o (map (known ts) t.operands)) t.below (seen ts t.below) (put_by v o given) is.below
 
-    pub put_sees : Sees us (put v t.operands ++ t.below) (seen us (put v t.operands ++ t.below))
-    put_sees = sees_seen us (put v t.operands ++ t.below)
-        (put o (map (known ts) t.operands) ++ seen ts t.below) puts
+  pub put_seen : seen ts (put v t.operands ++ t.below) ≡ put o (map (known ts) t.operands)
+      ++ seen ts t.below
+  put_seen =
+      sym (sees_is ts (put v t.operands ++ t.below)
+      (put o (map (known ts) t.operands) ++ seen ts t.below) puts)
+
+  pub put_sees : Sees ts (put v t.operands ++ t.below) (seen ts (put v t.operands ++ t.below))
+  put_sees = sees_seen ts (put v t.operands ++ t.below)
+      (put o (map (known ts) t.operands) ++ seen ts t.below) puts
 
 -- ---- a new text on top
 
@@ -293,9 +293,6 @@ module _ (ts : List (List ℕ)) (t : List ℕ) (es : List (Entry Value))
       (seen (ts ++ t ∷ []) (Item (value.Text (length ts)) ∷ es))
   text_sees = sees_seen (ts ++ t ∷ []) (Item (value.Text (length ts)) ∷ es)
       (Item (Some (Text t)) ∷ seen ts es) text_on
-
-pub same_table : (ts : List (List ℕ)) → HasMoreTexts ts ts
-same_table ts = record { more = []; is = sym (append-nil ts) }
 
 pub table_kept : {A E : Type 0} (x : Result A E) (ts us : List (List ℕ)) → us ≡ ts
     → OnOk x (HasMoreTexts ts us)

@@ -1,5 +1,4 @@
 -- The parts of a step of the machine.
-pub mod Errs
 pub mod Past
 pub mod Judged
 pub mod GoesOn

@@ -12,19 +12,19 @@ use Rattle.pkops.specs.declared.Op.{Op}
 use Rattle.pkops.specs.declared.Op.TheVariants as op
 use Rattle.pkmachine.specs.declared.effect.Class.{Class}
 use Rattle.pkmachine.specs.declared.effect.Class.TheVariants as class
-use Rattle.pkstack.specs.declared.SliceRule.TheVariants.{AnySlice, EvenSlice, FullSlice}
-use Rattle.pkstack.specs.declared.Takes.{Takes}
-use Rattle.pkstack.specs.declared.Takes.TheVariants.{Objects, Slice, SliceAndReceiver}
-use Rattle.pkmachine.specs.declared.effect.Names.{Names}
-use Rattle.pkmachine.specs.declared.effect.Names.TheVariants.{NoName, OfArgument, OfOperands}
-use Rattle.pkmachine.specs.declared.effect.Wanted.{Wanted}
-use Rattle.pkmachine.specs.declared.effect.Wanted.TheVariants.{WantsAny, WantsList, WantsDict}
-use Rattle.pkmachine.specs.declared.effect.Wanted.TheVariants.{WantsSet}
-use Rattle.pkmachine.specs.declared.effect.Gives.TheVariants.{Makes, MakesIntOrBool, MakesText}
-use Rattle.pkmachine.specs.declared.effect.Gives.TheVariants.{MayMake, Answers, Leaves}
-use Rattle.pkmachine.specs.declared.old_strings.OldStrings.{OldStrings}
-use Rattle.pkmachine.specs.declared.old_strings.OldStrings.TheVariants.{Unknown, Ascii, Bytes}
-use Rattle.pkmachine.specs.declared.effect.Gives.{Gives}
+pub use Rattle.pkstack.specs.declared.SliceRule.TheVariants.{AnySlice, EvenSlice, FullSlice}
+pub use Rattle.pkstack.specs.declared.Takes.{Takes}
+pub use Rattle.pkstack.specs.declared.Takes.TheVariants.{Objects, Slice, SliceAndReceiver}
+pub use Rattle.pkmachine.specs.declared.effect.Names.{Names}
+pub use Rattle.pkmachine.specs.declared.effect.Names.TheVariants.{NoName, OfArgument, OfOperands}
+pub use Rattle.pkmachine.specs.declared.effect.Wanted.{Wanted}
+pub use Rattle.pkmachine.specs.declared.effect.Wanted.TheVariants.{WantsAny, WantsList, WantsDict}
+pub use Rattle.pkmachine.specs.declared.effect.Wanted.TheVariants.{WantsSet}
+pub use Rattle.pkmachine.specs.declared.effect.Gives.TheVariants.{Makes, MakesIntOrBool, MakesText}
+pub use Rattle.pkmachine.specs.declared.effect.Gives.TheVariants.{MayMake, Answers, Leaves}
+pub use Rattle.pkmachine.specs.declared.old_strings.OldStrings.{OldStrings}
+pub use Rattle.pkmachine.specs.declared.old_strings.OldStrings.TheVariants.{Unknown, Ascii, Bytes}
+pub use Rattle.pkmachine.specs.declared.effect.Gives.{Gives}
 use Rattle.pkstack.specs.declared.Move.{Move}
 use Rattle.pkstack.specs.declared.Move.TheVariants.{PushesMark, Pops, PopsMark, Duplicates, Stores}
 use Rattle.pkstack.specs.declared.Move.TheVariants.{StoresNext, Fetches, Passes, Extends}

@@ -8,12 +8,8 @@ use Rattle.pkops.specs.declared.Reason.TheVariants.{BrokenFrame, MissingMark, Mi
 use Rattle.pkops.specs.declared.Reason.TheVariants.{MissingMemo, OddItems, WrongClass, NotText}
 use Rattle.pkops.specs.declared.Reason.TheVariants.{UnknownImport, ImportOffList, LeftOver}
 use Rattle.pkops.specs.declared.Reason.TheVariants.{NotAscii, TooLarge}
-use Rattle.pkmachine.specs.declared.effect.Names.{Names}
-use Rattle.pkmachine.specs.declared.effect.Names.TheVariants.{OfOperands}
-use Rattle.pkmachine.specs.declared.effect.Gives.{Gives}
-use Rattle.pkmachine.specs.declared.effect.Gives.TheVariants.{Leaves}
-use Rattle.pkmachine.specs.declared.old_strings.OldStrings.{OldStrings}
-use Rattle.pkmachine.specs.Effects.{Effect, Operates, effect_as, number_stored}
+use Rattle.pkmachine.specs.Effects.{Effect, Operates, effect_as, number_stored, Names, OfOperands}
+use Rattle.pkmachine.specs.Effects.{Gives, Leaves, OldStrings}
 use Rattle.pkstack.specs.Shape.{Breach, NoMark, NoItem, NoMemo, Odd, Taken, operands}
 use Rattle.pkmachine.specs.Runs.{ObjectClass, Text, Object, State, Outcome, Stepped, WentOn, Raised}
 use Rattle.pkmachine.specs.Runs.{Stopped, Stuck, step_as}

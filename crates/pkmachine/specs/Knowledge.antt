@@ -8,17 +8,10 @@ use Rattle.pkops.specs.Limits.{Bounds}
 use Rattle.pkops.specs.declared.Reason.{Reason}
 use Rattle.pkops.specs.declared.Reason.TheVariants as reason
 use Rattle.pkmachine.specs.declared.effect.Class.TheVariants as class
-use Rattle.pkmachine.specs.declared.effect.Names.{Names}
-use Rattle.pkmachine.specs.declared.effect.Names.TheVariants.{NoName, OfArgument, OfOperands}
-use Rattle.pkmachine.specs.declared.effect.Wanted.{Wanted}
-use Rattle.pkmachine.specs.declared.effect.Wanted.TheVariants.{WantsAny, WantsList, WantsDict}
-use Rattle.pkmachine.specs.declared.effect.Wanted.TheVariants.{WantsSet}
-use Rattle.pkmachine.specs.declared.effect.Gives.{Gives}
-use Rattle.pkmachine.specs.declared.effect.Gives.TheVariants.{Makes, MakesIntOrBool, MakesText}
-use Rattle.pkmachine.specs.declared.effect.Gives.TheVariants.{MayMake, Answers, Leaves}
-use Rattle.pkmachine.specs.declared.old_strings.OldStrings.{OldStrings}
 use Rattle.pkmachine.specs.Effects.{Effect, Operates, Moves, Stops, Raises, effect_as}
-use Rattle.pkmachine.specs.Effects.{number_stored}
+use Rattle.pkmachine.specs.Effects.{number_stored, Names, NoName, OfArgument, OfOperands, Wanted}
+use Rattle.pkmachine.specs.Effects.{WantsAny, WantsList, WantsDict, WantsSet, Gives, Makes}
+use Rattle.pkmachine.specs.Effects.{MakesIntOrBool, MakesText, MayMake, Answers, Leaves, OldStrings}
 use Rattle.pkstack.specs.Shape.{Breach, Entry, Shape, Taken}
 use Rattle.pkstack.specs.Shape.{operands, put, moved, top, and_then, unless, reason_of_breach}
 use Rattle.pkmachine.specs.Runs.{ObjectClass, Text, Plain, int_or_bool, text, of_two}

@@ -11,14 +11,9 @@ use Rattle.pkops.specs.OldBytes.{old_bytes}
 use Rattle.pkops.specs.Operands.{memo_number, names_bool, pair_named}
 use Rattle.pkmachine.specs.declared.effect.Class.{Class}
 use Rattle.pkmachine.specs.declared.effect.Class.TheVariants as class
-use Rattle.pkmachine.specs.declared.effect.Names.{Names}
-use Rattle.pkmachine.specs.declared.effect.Names.TheVariants.{NoName, OfArgument, OfOperands}
-use Rattle.pkmachine.specs.declared.effect.Gives.{Gives}
-use Rattle.pkmachine.specs.declared.effect.Gives.TheVariants.{Makes, MakesIntOrBool, MakesText}
-use Rattle.pkmachine.specs.declared.effect.Gives.TheVariants.{MayMake, Answers, Leaves}
-use Rattle.pkmachine.specs.declared.old_strings.OldStrings.{OldStrings}
-use Rattle.pkmachine.specs.declared.old_strings.OldStrings.TheVariants.{Unknown}
-use Rattle.pkmachine.specs.Effects.{Effect, Operates, Moves, Stops, Raises, effect_as}
+use Rattle.pkmachine.specs.Effects.{Effect, Operates, Moves, Stops, Raises, effect_as, Names}
+use Rattle.pkmachine.specs.Effects.{NoName, OfArgument, OfOperands, Gives, Makes, MakesIntOrBool}
+use Rattle.pkmachine.specs.Effects.{MakesText, MayMake, Answers, Leaves, OldStrings, Unknown}
 use Rattle.pkstack.specs.Shape.{Breach, Entry, Shape, Taken, operands, put, moved, top}
 
 -- what an object is: a text with its characters in UTF-8, an object of one of the classes that

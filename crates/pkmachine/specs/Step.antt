@@ -5,8 +5,7 @@ use Rattle.pkops.specs.Spelling.{Instruction}
 use Rattle.pkops.specs.declared.Reason.{Reason}
 use Rattle.pkops.specs.declared.Reason.TheVariants.{OutOfMemory}
 use Rattle.pkmachine.specs.declared.stepping.Moved.{Moved}
-use Rattle.pkmachine.specs.declared.old_strings.OldStrings.{OldStrings}
-use Rattle.pkmachine.specs.Effects.{effect_as}
+use Rattle.pkmachine.specs.Effects.{effect_as, OldStrings}
 use Rattle.pkmachine.specs.Runs.{State, Outcome, AnswersCanBe, CanCome, step_as}
 use Rattle.pkmachine.specs.Knowledge.{Policy, Knowledge, Progress, Refusal, reason_of, advance}
 use Rattle.pkimport.specs.Import.{Asked, AskedPair, AskedUnknown, asks_more}

@@ -1,9 +1,7 @@
 -- The texts that the machine keeps, one for each instruction that made one.
 use Rattle.std.specs.Prelude.{ℕ, suc, Bool, true, false, ◌||◌, if◌then◌else◌}
 use Rattle.pkops.specs.declared.Op.{Op}
-use Rattle.pkmachine.specs.Effects.{is_old_string}
-use Rattle.pkmachine.specs.declared.old_strings.OldStrings.{OldStrings}
-use Rattle.pkmachine.specs.declared.old_strings.OldStrings.TheVariants.{Ascii}
+use Rattle.pkmachine.specs.Effects.{is_old_string, OldStrings, Ascii}
 use Rattle.pkops.specs.declared.Op.TheVariants as op
 
 -- the opcode makes a text (see `UNICODE` and its binary forms in CPython's `pickletools`)

@@ -3,10 +3,7 @@ use Rattle.std.specs.Prelude.{ℕ, suc, ◌++◌, Bool, true, false, List, [], O
 use Rattle.pkops.specs.Limits.{Bounds}
 use Rattle.pkops.specs.declared.Reason.{Reason}
 use Rattle.pkops.specs.declared.Reason.TheVariants.{ImportOffList}
-use Rattle.pkmachine.specs.Effects.{Effect, Operates, Stops}
-use Rattle.pkmachine.specs.declared.effect.Gives.{Gives}
-use Rattle.pkmachine.specs.declared.effect.Gives.TheVariants.{MakesText}
-use Rattle.pkmachine.specs.declared.old_strings.OldStrings.{OldStrings}
+use Rattle.pkmachine.specs.Effects.{Effect, Operates, Stops, Gives, MakesText, OldStrings}
 use Rattle.pkmachine.specs.declared.memo.Memo.{Memo}
 use Rattle.pkmachine.specs.declared.memo.Memo.TheVariants.{Fresh, Kept}
 use Rattle.pkmachine.specs.declared.stepping.Moved.{Moved}

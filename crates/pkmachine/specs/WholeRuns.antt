@@ -1,9 +1,7 @@
 -- Runs of a whole list of instructions, and when all of them are sound, whatever the outcomes.
 use Rattle.std.specs.Prelude.{◌≡◌, ⊤, ℕ, All, Bool, true, List, [], ◌∷◌}
 use Rattle.pkops.specs.Spelling.{Instruction}
-use Rattle.pkmachine.specs.declared.old_strings.OldStrings.{OldStrings}
-use Rattle.pkmachine.specs.declared.old_strings.OldStrings.TheVariants.{Unknown}
-use Rattle.pkmachine.specs.Effects.{effect_as}
+use Rattle.pkmachine.specs.Effects.{effect_as, OldStrings, Unknown}
 use Rattle.pkmachine.specs.Runs.{State, Outcome, CanCome, Raise, Stepped, WentOn, Raised, Stopped}
 use Rattle.pkmachine.specs.Runs.{step_as, effect_asks, start}
 use Rattle.pkmachine.specs.Covers.{imports_of}

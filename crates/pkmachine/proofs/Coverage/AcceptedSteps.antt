@@ -1,5 +1,4 @@
 -- A step that the checker accepts, in every state that it covers.
-use Rattle.pkmachine.specs.declared.old_strings.OldStrings.{OldStrings}
 use Rattle.pkops.specs.Operands.{memo_number, pair_named}
 use Rattle.std.proofs.Common.{◌≡◌, ℕ, ◌<◌, Bool, true, false, cond, ltb, List, [], ◌∷◌, ◌++◌}
 use Rattle.std.proofs.Common.{length, map, Option, Some, None, Result, Ok, Err, ◌⊎◌, inl, inr, refl}
@@ -8,12 +7,9 @@ use Rattle.std.specs.Prelude.{slice_get}
 use Rattle.std.proofs.lemmas.Option.{slice_get_within, slice_get-get_or, get_or_from_slice_get}
 use Rattle.std.proofs.Math.ListN.{get_or-append}
 use Rattle.std.proofs.Math.Seq.{get_or-append_seam}
-use Rattle.pkmachine.specs.declared.effect.Names.{Names}
-use Rattle.pkmachine.specs.declared.effect.Names.TheVariants.{NoName, OfArgument, OfOperands}
-use Rattle.pkmachine.specs.declared.effect.Gives.{Gives}
-use Rattle.pkmachine.specs.declared.effect.Gives.TheVariants.{Answers, Leaves}
 use Rattle.pkmachine.specs.Effects.{Effect, Operates, Moves, Stops, Raises, effect_as}
-use Rattle.pkmachine.specs.Effects.{number_stored}
+use Rattle.pkmachine.specs.Effects.{number_stored, OldStrings, Names, NoName, OfArgument}
+use Rattle.pkmachine.specs.Effects.{OfOperands, Gives, Answers, Leaves}
 use Rattle.pkstack.specs.Shape.{top, put, Breach, Entry, Item, Shape, Taken, and_then, unless}
 use Rattle.pkstack.specs.Shape.{front, moved}
 use Rattle.pkops.specs.Spelling.{Instruction}

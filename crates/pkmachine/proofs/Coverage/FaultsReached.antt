@@ -1,12 +1,11 @@
 -- If a knowledge stands for the states in which runs reach an instruction, a refused instruction
 -- has the named fault there, and a fault is refused, for its own reason or for an earlier one.
-use Rattle.pkmachine.specs.declared.old_strings.OldStrings.{OldStrings}
 use Rattle.std.proofs.Common.{◌≡◌, ◌≢◌, ℕ, ◌≤◌, List, [], length, Some, Result, Ok, Err, inl, inr}
 use Rattle.std.proofs.Common.{refl, sym, ap, subst, ◌∙◌, arith}
 use Rattle.pkops.specs.Spelling.{Instruction}
 use Rattle.pkops.specs.Limits.{Bounds}
 use Rattle.pkops.specs.declared.Reason.TheVariants as reason
-use Rattle.pkmachine.specs.Effects.{Effect, effect_as, number_stored}
+use Rattle.pkmachine.specs.Effects.{Effect, effect_as, number_stored, OldStrings}
 use Rattle.pkstack.specs.Shape.{Breach, NoMark, NoItem, NoMemo, Odd, Extension, and_then}
 use Rattle.pkmachine.specs.Runs.{Text, State, Outcome, Raise, Stepped, Stuck, step_as}
 use Rattle.pkimport.specs.Import.{AskedUnknown}

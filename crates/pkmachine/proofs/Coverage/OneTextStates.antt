@@ -4,11 +4,8 @@ use Rattle.pkops.specs.Operands.{memo_number, pair_named}
 use Rattle.std.proofs.Common.{◌≡◌, ℕ, Bool, true, false, cond, List, [], ◌∷◌, ◌++◌, length, map}
 use Rattle.std.proofs.Common.{Option, Some, None, Result, Ok, Err, ◌⊎◌, inl, inr, refl, sym, ap}
 use Rattle.std.proofs.Common.{subst, ◌∙◌, arith, le-ltb}
-use Rattle.pkstack.specs.declared.Takes.{Takes}
-use Rattle.pkmachine.specs.declared.effect.Names.{Names}
-use Rattle.pkmachine.specs.declared.effect.Names.TheVariants.{NoName, OfArgument, OfOperands}
-use Rattle.pkmachine.specs.declared.effect.Gives.{Gives}
-use Rattle.pkmachine.specs.Effects.{Effect, Operates, Moves, Stops, Raises}
+use Rattle.pkmachine.specs.Effects.{Effect, Operates, Moves, Stops, Raises, Takes, Names, NoName}
+use Rattle.pkmachine.specs.Effects.{OfArgument, OfOperands, Gives}
 use Rattle.pkstack.specs.Shape.{top, Breach, Entry, Mark, Item, Shape, Taken, and_then, unless}
 use Rattle.pkstack.specs.Shape.{operands, moved}
 use Rattle.std.specs.Str.{IsUtf8}

@@ -1,13 +1,10 @@
 -- A step that the checker accepts lists only an import that the policy permits, and one that it
 -- refuses lacks no extension registry, unless it needs one.
-use Rattle.pkmachine.specs.declared.old_strings.OldStrings.{OldStrings}
 use Rattle.pkops.specs.Operands.{memo_number, pair_named}
 use Rattle.std.proofs.Common.{◌≡◌, ◌≢◌, ℕ, Bool, true, false, cond, List, [], ◌∷◌, ◌++◌, Option}
 use Rattle.std.proofs.Common.{Some, None, Result, Ok, Err, refl, ap, subst}
-use Rattle.pkmachine.specs.declared.effect.Names.{Names}
-use Rattle.pkmachine.specs.declared.effect.Names.TheVariants.{OfArgument, OfOperands}
 use Rattle.pkmachine.specs.Effects.{Effect, Operates, Moves, Stops, Raises, effect_as}
-use Rattle.pkmachine.specs.Effects.{number_stored}
+use Rattle.pkmachine.specs.Effects.{number_stored, OldStrings, Names, OfArgument, OfOperands}
 use Rattle.pkstack.specs.declared.Move.TheVariants.{Extends}
 use Rattle.pkstack.specs.Shape.{top, Breach, Entry, Extension, and_then, unless, operands, moved}
 use Rattle.pkops.specs.Spelling.{Instruction}

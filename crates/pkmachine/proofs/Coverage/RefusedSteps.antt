@@ -1,18 +1,12 @@
 -- If the checker refuses an instruction, every state that it covers has the fault.
-use Rattle.pkmachine.specs.declared.old_strings.OldStrings.{OldStrings}
 use Rattle.pkops.specs.Operands.{memo_number, pair_named}
 use Rattle.std.proofs.Common.{◌≡◌, ℕ, Bool, true, false, cond, List, [], ◌∷◌, ◌++◌, map, Option}
 use Rattle.std.proofs.Common.{Some, None, Result, Ok, Err, inl, inr, refl, sym, ap, ◌∙◌}
 use Rattle.std.proofs.Common.{append_assoc}
 use Rattle.std.proofs.lemmas.Bool.{not-true}
-use Rattle.pkstack.specs.declared.Takes.{Takes}
-use Rattle.pkmachine.specs.declared.effect.Names.{Names}
-use Rattle.pkmachine.specs.declared.effect.Names.TheVariants.{OfArgument, OfOperands}
-use Rattle.pkmachine.specs.declared.effect.Wanted.{Wanted}
-use Rattle.pkmachine.specs.declared.effect.Gives.{Gives}
-use Rattle.pkmachine.specs.declared.effect.Gives.TheVariants.{Leaves}
 use Rattle.pkmachine.specs.Effects.{Effect, Operates, Moves, Stops, Raises, effect_as}
-use Rattle.pkmachine.specs.Effects.{number_stored}
+use Rattle.pkmachine.specs.Effects.{number_stored, OldStrings, Takes, Names, OfArgument, OfOperands}
+use Rattle.pkmachine.specs.Effects.{Wanted, Gives, Leaves}
 use Rattle.pkstack.specs.Shape.{top, Breach, Entry, Shape, Taken, and_then, unless, operands, moved}
 use Rattle.pkops.specs.Spelling.{Instruction}
 use Rattle.pkmachine.specs.Runs.{argument_named, Text, Plain, Foreign, Object, Import, Did, State}

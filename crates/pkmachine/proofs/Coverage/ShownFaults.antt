@@ -7,13 +7,8 @@ use Rattle.std.proofs.lemmas.List.{append_cancel_left}
 use Rattle.std.proofs.lemmas.Option.{slice_get_within}
 use Rattle.pkops.specs.Spelling.{Instruction}
 use Rattle.pkops.specs.Limits.{Bounds}
-use Rattle.pkstack.specs.declared.Takes.{Takes}
-use Rattle.pkmachine.specs.declared.effect.Names.{Names}
-use Rattle.pkmachine.specs.declared.effect.Names.TheVariants.{OfOperands}
-use Rattle.pkmachine.specs.declared.effect.Wanted.{Wanted}
-use Rattle.pkmachine.specs.declared.effect.Gives.{Gives}
-use Rattle.pkmachine.specs.declared.effect.Gives.TheVariants.{Leaves}
-use Rattle.pkmachine.specs.Effects.{Effect, Operates}
+use Rattle.pkmachine.specs.Effects.{Effect, Operates, Takes, Names, OfOperands, Wanted, Gives}
+use Rattle.pkmachine.specs.Effects.{Leaves}
 use Rattle.pkstack.specs.Shape.{Breach, NoMemo, Taken, operands}
 use Rattle.pkmachine.specs.Runs.{ObjectClass, Text, Plain, Foreign, Object, State, Outcome, Go}
 use Rattle.pkmachine.specs.Runs.{Stepped, WentOn, Raised, Stopped, Stuck, Named, NoImport, Pair}

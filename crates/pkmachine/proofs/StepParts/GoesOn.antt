@@ -1,11 +1,11 @@
 -- The parts of a step that goes on.
-use Rattle.pkmachine.specs.declared.old_strings.OldStrings.{OldStrings}
 use Rattle.pkops.specs.Operands.{memo_number}
 use Rattle.std.proofs.Common.{◌≡◌, ℕ, ◌<◌, ◌≤◌, ◌⊎◌, inl, inr, false, Option, is_some, List, []}
 use Rattle.std.proofs.Common.{◌∷◌, length, Some, None, Ok, refl, drop, arith, length-drop}
 use Rattle.pkstack.specs.declared.Move.{Move}
 use Rattle.pkmachine.specs.declared.operate.StepError.{StepError}
-use Rattle.pkmachine.specs.Effects.{Effect, Operates, Moves, effect_as, number_stored}
+use Rattle.pkmachine.specs.Effects.{Effect, Operates, Moves, effect_as, number_stored, OldStrings}
+use Rattle.pkmachine.specs.Effects.{Gives, NoName, Takes}
 use Rattle.pkstack.specs.Shape.{top, Entry, and_then, moved}
 use Rattle.pkops.specs.Spelling.{Instruction}
 use Rattle.pkmachine.specs.Knowledge.{Known, Knowledge, Policy, Lacks, LeftOver, TooLarge}
@@ -20,9 +20,6 @@ use Rattle.pkmachine.specs.Private.StepErrors.{MayWantMemory, Proceeds}
 use Rattle.pkstack.specs.Faults.{IsFaultOf}
 use Rattle.pkmachine.specs.View.{moved_as}
 use Rattle.pkmachine.proofs.StepParts.Past.{within_fits, within_past}
-use Rattle.pkmachine.specs.declared.effect.Gives.{Gives}
-use Rattle.pkmachine.specs.declared.effect.Names.TheVariants.{NoName}
-use Rattle.pkstack.specs.declared.Takes.{Takes}
 use Rattle.pkmachine.specs.declared.stepping.Moved.TheVariants.{On}
 
 some_left : (es : List (Entry Known)) → 0 < length es → left_over es ≡ Some LeftOver

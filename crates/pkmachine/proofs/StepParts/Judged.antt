@@ -4,13 +4,8 @@ use Rattle.std.proofs.Common.{◌≡◌, ℕ, ◌⊎◌, inl, inr, List, [], ◌
 use Rattle.std.proofs.Common.{Option, Some, None, Result, Ok, Err, option_map, refl, ◌∙◌, length}
 use Rattle.std.proofs.Common.{arith, map, ◌≤◌}
 use Rattle.std.specs.Prelude.{is_some, IsSome}
-use Rattle.pkmachine.specs.declared.effect.Names.{Names}
-use Rattle.pkmachine.specs.declared.effect.Names.TheVariants.{NoName, OfArgument, OfOperands}
-use Rattle.pkmachine.specs.declared.effect.Gives.{Gives}
-use Rattle.pkmachine.specs.declared.effect.Gives.TheVariants.{Leaves}
-use Rattle.pkstack.specs.declared.Takes.{Takes}
-use Rattle.pkstack.specs.declared.Takes.TheVariants.{Objects}
-use Rattle.pkmachine.specs.Effects.{Operates}
+use Rattle.pkmachine.specs.Effects.{Operates, Names, NoName, OfArgument, OfOperands, Gives, Leaves}
+use Rattle.pkmachine.specs.Effects.{Takes, Objects, Wanted}
 use Rattle.pkstack.specs.Shape.{put, Breach, Entry, Item, Taken, and_then, operands}
 use Rattle.pkops.specs.Spelling.{Instruction}
 use Rattle.pkmachine.specs.Knowledge.{argument_asked, Known, Knowledge, Policy, Refusal, Lacks}
@@ -27,7 +22,6 @@ use Rattle.pkimport.specs.declared.import.Named.{Named}
 use Rattle.pkimport.specs.Table.{named_asked}
 use Rattle.pkmachine.specs.declared.value.Value.{Value}
 use Rattle.pkmachine.specs.declared.value.Value.TheVariants.{Made}
-use Rattle.pkmachine.specs.declared.effect.Wanted.{Wanted}
 use Rattle.std.specs.List.{slice_get}
 use Rattle.pkmachine.specs.Private.StepErrors.{ruled, judged, IsRefusedWith, IsForMemory, MayGive}
 use Rattle.pkmachine.specs.Private.StepErrors.{MayName, MayOperate, Proceeds, WellGiven}

@@ -1,9 +1,7 @@
 -- The operations of the table, given the effects of their opcodes.
 use Rattle.std.proofs.Common.{◌≡◌, ap, subst, sym}
-use Rattle.pkmachine.specs.declared.effect.Names.{Names}
-use Rattle.pkmachine.specs.declared.effect.Names.TheVariants.{NoName}
 use Rattle.pkmachine.specs.declared.effects.Operation.{Operation}
-use Rattle.pkmachine.specs.Effects.{Effect, Operates}
+use Rattle.pkmachine.specs.Effects.{Effect, Operates, Names, NoName}
 use Rattle.pkmachine.specs.Private.Actions.{IsOperation, IsUnnamed, effect_in}
 
 abbrev names_in : Effect → Names

@@ -9,18 +9,13 @@ use Rattle.pkops.specs.declared.Op.{Op}
 use Rattle.pkops.specs.declared.Op.TheVariants as op
 use Rattle.pkmachine.specs.declared.effects.Action.{Action}
 use Rattle.pkmachine.specs.declared.effect.Class.TheVariants as class
-use Rattle.pkmachine.specs.declared.effect.Gives.TheVariants.{MakesText}
-use Rattle.pkmachine.specs.declared.old_strings.OldStrings.TheVariants.{Unknown, Ascii, Bytes}
 use Rattle.pkmachine.specs.Private.Actions.{effect_by, is_reading}
 use Rattle.pkops.specs.Limits.{Bounds}
 use Rattle.pkops.specs.Spelling.{Instruction}
 use Rattle.pkops.specs.declared.Reason.{Reason}
-use Rattle.pkmachine.specs.declared.effect.Gives.{Gives}
-use Rattle.pkmachine.specs.declared.effect.Names.TheVariants.{NoName}
-use Rattle.pkstack.specs.declared.Takes.TheVariants.{Objects}
-use Rattle.pkmachine.specs.declared.old_strings.OldStrings.{OldStrings}
 use Rattle.pkmachine.specs.Effects.{Operates, Raises, answers, effect_as, effect_of, is_old_string}
-use Rattle.pkmachine.specs.Effects.{pushes}
+use Rattle.pkmachine.specs.Effects.{pushes, MakesText, Unknown, Ascii, Bytes, Gives, NoName}
+use Rattle.pkmachine.specs.Effects.{Objects, OldStrings}
 use Rattle.pkmachine.specs.Knowledge.{Known, Knowledge, Policy, advance, known_given}
 use Rattle.pkmachine.specs.Private.StepErrors.{IsRefusedWith, IsForMemory, MayWantMemory}
 use Rattle.pkstack.specs.Faults.{WantsRoom}
@@ -59,7 +54,7 @@ module _ (setting : OldStrings) (i : Instruction) (old : is_old_string i.op ≡ 
   old_ascii e b is = rw (e, old, is) refl
 
 module _ (setting : OldStrings) (p : Policy) (l : Bounds) (i : Instruction) (k : Knowledge)
-    (g : Gives) (v : Known) (e : effect_as setting i ≡ Operates (Objects 0) NoName g)
+    (g : Gives) {v : Known} (e : effect_as setting i ≡ Operates (Objects 0) NoName g)
     (given : known_given g i ≡ Some v) where
   pub not_pushed : (r : Reason) → WantsRoom l.stack (length k.entries) r
       → IsRefusedWith (advance setting p l i k) (record { reason = r; pair = None })

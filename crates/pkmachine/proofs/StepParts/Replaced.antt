@@ -3,20 +3,15 @@ use Rattle.std.proofs.Common.{◌≡◌, ℕ, zero, suc, ◌+◌, ◌<◌, ◌�
 use Rattle.std.proofs.Common.{Option, Some, None, Ok, false, map, refl, ap, arith, length-append}
 use Rattle.pkops.specs.Limits.{Bounds}
 use Rattle.pkops.specs.Spelling.{Instruction}
-use Rattle.pkmachine.specs.declared.effect.Gives.{Gives}
-use Rattle.pkmachine.specs.declared.effect.Gives.TheVariants.{Leaves}
-use Rattle.pkmachine.specs.declared.effect.Names.TheVariants.{NoName}
-use Rattle.pkstack.specs.declared.Takes.TheVariants.{Objects}
-use Rattle.pkmachine.specs.declared.effect.Wanted.{Wanted}
 use Rattle.pkmachine.specs.declared.value.Value.{Value}
-use Rattle.pkmachine.specs.Effects.{Effect, Operates, fills}
+use Rattle.pkmachine.specs.Effects.{Effect, Operates, fills, Gives, Leaves, NoName, Objects, Wanted}
 use Rattle.pkmachine.specs.Knowledge.{Known, known_given, wrong_first, wrong_receiver}
 use Rattle.pkstack.specs.Places.{ItemsFrom, Replaced, above, below}
 use Rattle.pkmachine.specs.Private.NamelessOperations.{HasOperated, HasReplaced, Replaces}
 use Rattle.pkmachine.specs.Private.NamelessOperations.{StaysSeen}
 use Rattle.pkmachine.specs.Private.Slots.{StandsIf, known, seen}
 use Rattle.pkstack.specs.Shape.{Entry, Item, Taken, items, put}
-use Rattle.pkmachine.proofs.ResolvedEntries.{found_is, found_seen, put_seen, put_sees, same_table}
+use Rattle.pkmachine.proofs.ResolvedEntries.{found_is, found_seen, put_seen, put_sees}
 use Rattle.pkmachine.proofs.StepParts.Judged.{does_pass, judged_ok}
 
 items_long : (count : ℕ) (es : List (Entry Value)) (above : List Value) (t : Taken Value)
@@ -40,7 +35,7 @@ module _ (count : ℕ) (v : Option Value) (gives : Gives) (old new : List (Entry
   replaces ts sees p i m listed =
       let found = found_seen ts (Objects count) old sees t e in
       let taken = found_is ts (Objects count) old sees t e in
-      let put = put_seen ts ts (same_table ts) v _ (given ts i) t taken in
+      let put = put_seen ts v _ (given ts i) t taken in
       does_pass p (Objects count) NoName gives i (record { entries = seen ts old; memo = m }) _ ts
       None found (judged_ok p NoName gives i _ (right ts) None refl)
       (seen ts new) listed listed _ (ap (seen ts) is ∙ put) refl refl
@@ -48,7 +43,7 @@ module _ (count : ℕ) (v : Option Value) (gives : Gives) (old new : List (Entry
   stays : Instruction → StaysSeen old new
   stays i ts sees =
       let taken = found_is ts (Objects count) old sees t e in
-      rw is (put_sees ts ts (same_table ts) v _ (given ts i) t taken)
+      rw is (put_sees ts v _ (given ts i) t taken)
 
   operated : Instruction → HasReplaced (Operates (Objects count) NoName gives) old new
   operated i = record {

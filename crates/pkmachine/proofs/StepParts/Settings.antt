@@ -11,14 +11,10 @@ use Rattle.pkops.specs.Spelling.{Instruction}
 use Rattle.pkops.specs.declared.Op.{Op}
 use Rattle.pkops.specs.declared.Op.TheVariants as op
 use Rattle.pkmachine.specs.declared.effect.Class.TheVariants as class
-use Rattle.pkmachine.specs.declared.effect.Gives.TheVariants.{MakesText}
 use Rattle.pkstack.specs.declared.Move.TheVariants.{Extends}
-use Rattle.pkmachine.specs.declared.effect.Names.TheVariants.{NoName}
-use Rattle.pkstack.specs.declared.Takes.TheVariants.{Objects}
-use Rattle.pkmachine.specs.declared.old_strings.OldStrings.{OldStrings}
-use Rattle.pkmachine.specs.declared.old_strings.OldStrings.TheVariants.{Unknown, Ascii, Bytes}
 use Rattle.pkmachine.specs.Effects.{Effect, Operates, Moves, Raises, ascii_string, effect_as}
-use Rattle.pkmachine.specs.Effects.{effect_of, is_old_string, pushes}
+use Rattle.pkmachine.specs.Effects.{effect_of, is_old_string, pushes, MakesText, NoName, Objects}
+use Rattle.pkmachine.specs.Effects.{OldStrings, Unknown, Ascii, Bytes}
 use Rattle.pkops.specs.Limits.{Bounds}
 use Rattle.pkmachine.specs.Knowledge.{Knowledge, Policy, Progress, advance}
 use Rattle.pkmachine.specs.Memory.{WantsNoMemory}

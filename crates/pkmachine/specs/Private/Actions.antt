@@ -3,13 +3,9 @@ use Rattle.std.specs.Prelude.{◌≡◌, ◌<◌, Bool, true, false, ⊤}
 use Rattle.pkmachine.specs.declared.effects.Action.{Action}
 use Rattle.pkmachine.specs.declared.effects.Action.TheVariants as action
 use Rattle.pkmachine.specs.declared.effect.Gives.TheVariants as gives
-use Rattle.pkmachine.specs.declared.effect.Names.TheVariants.{NoName}
 use Rattle.pkmachine.specs.declared.effects.Operation.{Operation}
-use Rattle.pkstack.specs.declared.Takes.TheVariants.{Objects}
-use Rattle.pkstack.specs.declared.Takes.{Takes}
-use Rattle.pkmachine.specs.declared.effect.Gives.{Gives}
 use Rattle.pkmachine.specs.Effects.{Effect, Operates, Moves, Stops, answers, effect_of}
-use Rattle.pkmachine.specs.Effects.{is_old_string, pushes}
+use Rattle.pkmachine.specs.Effects.{is_old_string, pushes, NoName, Objects, Takes, Gives}
 use Rattle.pkmachine.specs.Private.StepErrors.{IgnoresArgument, WellGiven}
 use Rattle.pkmachine.specs.Private.Spelled.{IsTextLayout}
 use Rattle.pkops.specs.Spelling.{layout_at}

@@ -46,8 +46,7 @@ module _ (ts : List (List ℕ)) where
   abbrev pub StandsIf : Option Value → Option Known → Type 0
   StandsIf None None = ⊤
   StandsIf (Some v) (Some k) = StandsAs v k
-  StandsIf None (Some k) = ⊥
-  StandsIf (Some v) None = ⊥
+  StandsIf _ _ = ⊥
 
   -- like StandsAs, for every entry of the stack
   abbrev pub Sees : List (Entry Value) → List (Entry Known) → Type 0

@@ -1,12 +1,8 @@
 -- What the parts of a step return, in terms of the checker's knowledge.
 use Rattle.std.specs.Prelude.{◌≡◌, ◌≤◌, ◌⊎◌, Bool, List, ◌∷◌, length, Option, Some, None}
 use Rattle.std.specs.Prelude.{Result, Ok, Err, option_map, if◌then◌else◌, is_some, ⊤}
-use Rattle.pkstack.specs.declared.Takes.{Takes}
-use Rattle.pkmachine.specs.declared.effect.Gives.{Gives}
-use Rattle.pkmachine.specs.declared.effect.Gives.TheVariants.{MakesIntOrBool, MakesText, Leaves}
-use Rattle.pkmachine.specs.declared.effect.Names.{Names}
-use Rattle.pkmachine.specs.declared.effect.Names.TheVariants.{NoName}
-use Rattle.pkmachine.specs.Effects.{Effect, Operates, Moves, Stops, Raises}
+use Rattle.pkmachine.specs.Effects.{Effect, Operates, Moves, Stops, Raises, Takes, Gives}
+use Rattle.pkmachine.specs.Effects.{MakesIntOrBool, MakesText, Leaves, Names, NoName}
 use Rattle.pkstack.specs.Faults.{MoveMayWantMemory}
 use Rattle.pkstack.specs.Places.{HasFirst}
 use Rattle.pkmachine.specs.declared.operate.StepError.{StepError}

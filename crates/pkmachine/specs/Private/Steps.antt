@@ -16,21 +16,20 @@ use Rattle.pkops.specs.Limits.{Bounds}
 use Rattle.pkops.specs.Spelling.{Instruction}
 use Rattle.pkops.specs.declared.Reason.{Reason}
 
--- the step of an instruction with this effect, with the limits checked
-abbrev pub learned : Policy → Bounds → Effect → Instruction → Knowledge → Result Progress Refusal
-learned p limits e i known = and_then (learn p e i known) (within limits (number_stored e i))
+module _ (p : Policy) (limits : Bounds) (e : Effect) (i : Instruction) where
+  -- the step of an instruction with this effect, with the limits checked
+  abbrev pub learned : Knowledge → Result Progress Refusal
+  learned known = and_then (learn p e i known) (within limits (number_stored e i))
 
--- the step leads from `old` to `new`, and reports this
-abbrev pub LeadsTo : Policy → Bounds → Effect → Instruction → StateView → StateView → Moved → Type 0
-LeadsTo p limits e i old new moved =
-    GoesTo e (learned p limits e i old.knowledge) new.knowledge old.imports new.imports moved
+  -- the step leads from `old` to `new`, and reports this
+  abbrev pub LeadsTo : StateView → StateView → Moved → Type 0
+  LeadsTo old new moved =
+      GoesTo e (learned old.knowledge) new.knowledge old.imports new.imports moved
 
--- the step is refused for this reason and with this pair, or because an allocation was refused
-abbrev pub IsStepFault : Policy → Bounds → Effect → Instruction → Knowledge → Reason
-    → Option Asked → Type 0
-IsStepFault p limits e i known r pair =
-    IsRefusedFor (learned p limits e i known) r pair
-    ⊎ (MayWantMemory e × IsWantOfMemory r pair)
+  -- the step is refused for this reason and with this pair, or because an allocation was refused
+  abbrev pub IsStepFault : Knowledge → Reason → Option Asked → Type 0
+  IsStepFault known r pair =
+      IsRefusedFor (learned known) r pair ⊎ (MayWantMemory e × IsWantOfMemory r pair)
 
 -- under this configuration
 module _ (config : MachineConfig) (p : Policy) (i : Instruction) where

@@ -1,11 +1,9 @@
 -- Each action does what its opcode's effect says, and fails with a fault of that effect.
-use Rattle.std.proofs.Common.{◌≡◌, None, Some, arith, refl}
+use Rattle.std.proofs.Common.{◌≡◌, None, arith, refl}
 use Rattle.std.proofs.lemmas.Result.{err_from_is_err_and}
 use Rattle.pkops.specs.Inst.{instruction_of}
-use Rattle.pkmachine.specs.declared.effect.Gives.TheVariants.{Makes, MakesIntOrBool, MakesText}
-use Rattle.pkmachine.specs.Effects.{Moves, effect_as, effect_of}
+use Rattle.pkmachine.specs.Effects.{Moves, effect_as, effect_of, Makes, MakesIntOrBool, MakesText}
 use Rattle.pkmachine.specs.Policies.{permit_of}
-use Rattle.pkmachine.specs.Runs.{Plain, Text, int_or_bool, text}
 use Rattle.pkmachine.proofs.StepParts.GoesOn.{errs_by, move_errs, unnamed_goes}
 use Rattle.pkmachine.proofs.StepParts.PushedObjects.{not_pushed, of_action}
 use Rattle.pkmachine.proofs.stepping.advance.Goals as goal
@@ -16,11 +14,10 @@ returns-in_err-make-in-Makes-clause-err c =
     rw (q.1, q.2, c.requires.none)
     (not_pushed c.args.config.now.old_strings (permit_of c.args.policy.now)
     c.args.config.now.limits (instruction_of c.args.inst.now) c.args.state.now.knowledge
-    (Makes c.in-Makes.class) (Some (Plain c.in-Makes.class))
+    (Makes c.in-Makes.class)
     (of_action c.args.config.now.old_strings (instruction_of c.args.inst.now) _ _ _
-    c.op-op.ensures.op
-    c.action_of.ensures.effect c.action_of.ensures.old c.in-Makes.is refl) refl
-    c.in_err-make-in-Makes.field-0.0 c.in_err-make-in-Makes.ensures.err)
+    c.op-op.ensures.op c.action_of.ensures.effect c.action_of.ensures.old c.in-Makes.is refl)
+    refl c.in_err-make-in-Makes.field-0.0 c.in_err-make-in-Makes.ensures.err)
 
 pub returns-in_err-make-in-MakesIntOrBool-clause-err
     : goal.returns-in_err-make-in-MakesIntOrBool-clause-err
@@ -30,12 +27,10 @@ returns-in_err-make-in-MakesIntOrBool-clause-err c =
     rw (q.1, q.2, c.requires.none)
     (not_pushed c.args.config.now.old_strings (permit_of c.args.policy.now)
     c.args.config.now.limits (instruction_of c.args.inst.now) c.args.state.now.knowledge
-    MakesIntOrBool
-    (Some (Plain (int_or_bool (instruction_of c.args.inst.now))))
-    (of_action c.args.config.now.old_strings (instruction_of c.args.inst.now) _ _ _
-    c.op-op.ensures.op
-    c.action_of.ensures.effect c.action_of.ensures.old c.in-MakesIntOrBool.is refl) refl
-    c.in_err-make-in-MakesIntOrBool.field-0.0 c.in_err-make-in-MakesIntOrBool.ensures.err)
+    MakesIntOrBool (of_action c.args.config.now.old_strings (instruction_of c.args.inst.now) _ _ _
+    c.op-op.ensures.op c.action_of.ensures.effect c.action_of.ensures.old
+    c.in-MakesIntOrBool.is refl) refl c.in_err-make-in-MakesIntOrBool.field-0.0
+    c.in_err-make-in-MakesIntOrBool.ensures.err)
 
 pub returns-in_err-make_text-in-MakesText-clause-err
     : goal.returns-in_err-make_text-in-MakesText-clause-err
@@ -45,11 +40,9 @@ returns-in_err-make_text-in-MakesText-clause-err c =
     rw (q.1, q.2, c.requires.none)
     (not_pushed c.args.config.now.old_strings (permit_of c.args.policy.now)
     c.args.config.now.limits (instruction_of c.args.inst.now) c.args.state.now.knowledge MakesText
-    (Some (Text (text (instruction_of c.args.inst.now))))
     (of_action c.args.config.now.old_strings (instruction_of c.args.inst.now) _ _ _
-    c.op-op.ensures.op
-    c.action_of.ensures.effect c.action_of.ensures.old c.in-MakesText.is refl) refl
-    c.in_err-make_text-in-MakesText.field-0.0 c.in_err-make_text-in-MakesText.ensures.err)
+    c.op-op.ensures.op c.action_of.ensures.effect c.action_of.ensures.old c.in-MakesText.is refl)
+    refl c.in_err-make_text-in-MakesText.field-0.0 c.in_err-make_text-in-MakesText.ensures.err)
 
 pub returns-in_err-read_copy-in-ReadsOldString-clause-err
     : goal.returns-in_err-read_copy-in-ReadsOldString-clause-err
@@ -68,8 +61,7 @@ returns-in_err-apply-in-Moves-clause-err c =
     c.args.config.now.limits (instruction_of c.args.inst.now) c.args.state.now.knowledge
     (Moves c.in-Moves.what) (record { reason = c.in_err-apply-in-Moves.field-0.0; pair = None })
     (of_action c.args.config.now.old_strings (instruction_of c.args.inst.now) _ _ _
-    c.op-op.ensures.op
-    c.action_of.ensures.effect c.action_of.ensures.old c.in-Moves.is refl)
+    c.op-op.ensures.op c.action_of.ensures.effect c.action_of.ensures.old c.in-Moves.is refl)
     (move_errs (permit_of c.args.policy.now) c.args.config.now.limits
     (instruction_of c.args.inst.now) c.args.state.now.knowledge c.in-Moves.what
     c.in_err-apply-in-Moves.field-0.0 c.in_err-apply-in-Moves.ensures.err.1))

@@ -1,15 +1,12 @@
 -- A Python 2 string pushes any object, its bytes or its text, as the setting says.
-use Rattle.std.proofs.Common.{◌∙◌, None, Some, arith, inl, refl, sym, true, false}
+use Rattle.std.proofs.Common.{◌∙◌, None, arith, inl, refl, sym, true, false}
 use Rattle.std.proofs.lemmas.Grind.{common_steps}
-use Rattle.std.proofs.lemmas.Result.{err_from_is_err_and}
+use Rattle.std.proofs.lemmas.Result.{IfErr-weaker, err_from_is_err_and}
 use Rattle.pkops.specs.Inst.{instruction_of}
 use Rattle.pkops.specs.declared.Reason.TheVariants as reason
 use Rattle.pkmachine.specs.declared.effect.Class.TheVariants as class
-use Rattle.pkmachine.specs.Effects.{Raises}
-use Rattle.pkmachine.specs.declared.effect.Gives.TheVariants.{Answers, Makes, MakesText}
+use Rattle.pkmachine.specs.Effects.{Raises, Answers, Makes, MakesText}
 use Rattle.pkmachine.specs.Knowledge.{NotAscii}
-use Rattle.pkmachine.specs.Runs.{Plain, Text, text}
-use Rattle.pkmachine.proofs.StepParts.Errs.{err_on}
 use Rattle.pkmachine.proofs.StepParts.GoesOn.{errs_by}
 use Rattle.pkmachine.proofs.StepParts.PushedObjects.{not_pushed, old_ascii, old_bytes_pushed}
 use Rattle.pkmachine.proofs.StepParts.PushedObjects.{old_unknown}
@@ -21,9 +18,9 @@ returns-in-Unknown c = record {
   room = grind (arith, common_steps);
   texts = grind (arith, common_steps);
   kept = c.answer.ensures.kept;
-  err = λ p. err_on _ _ c.answer.result
+  err = λ p. IfErr-weaker c.answer.result _ _
       (λ r h. not_pushed c.args.config.now.old_strings p c.args.config.now.limits
-      (instruction_of c.args.inst.now) c.args.state.now.knowledge Answers None
+      (instruction_of c.args.inst.now) c.args.state.now.knowledge Answers
       (old_unknown c.args.config.now.old_strings (instruction_of c.args.inst.now)
       c.requires.old.0 c.in-Unknown.is) refl r h) c.answer.ensures.err;
 }
@@ -34,10 +31,10 @@ returns-in-Bytes c = record {
   room = grind (arith, common_steps);
   texts = grind (arith, common_steps);
   kept = c.make.ensures.kept;
-  err = λ p. err_on _ _ c.make.result
+  err = λ p. IfErr-weaker c.make.result _ _
       (λ r h. not_pushed c.args.config.now.old_strings p c.args.config.now.limits
       (instruction_of c.args.inst.now) c.args.state.now.knowledge (Makes class.Bytes)
-      (Some (Plain class.Bytes)) (old_bytes_pushed c.args.config.now.old_strings
+      (old_bytes_pushed c.args.config.now.old_strings
       (instruction_of c.args.inst.now) c.requires.old.0 c.in-Bytes.is) refl r h)
       c.make.ensures.err;
 }
@@ -48,10 +45,9 @@ returns-then-is_ascii c = record {
   room = grind (arith, common_steps);
   texts = grind (arith, common_steps);
   kept = c.make_text.ensures.kept;
-  err = λ p. err_on _ _ c.make_text.result
+  err = λ p. IfErr-weaker c.make_text.result _ _
       (λ r h. not_pushed c.args.config.now.old_strings p c.args.config.now.limits
       (instruction_of c.args.inst.now) c.args.state.now.knowledge MakesText
-      (Some (Text (text (instruction_of c.args.inst.now))))
       (old_ascii c.args.config.now.old_strings (instruction_of c.args.inst.now) c.requires.old.0
       c.in-Ascii.is true (sym c.if-is_ascii.true ∙ c.in_ok-is_ascii-in-Ascii.ensures)) refl r h)
       c.make_text.ensures.err;

@@ -9,7 +9,7 @@ use Rattle.pkimport.specs.Table.{named_asked}
 use Rattle.pkmachine.proofs.AskedOperands.{are_numbered, listed_before}
 use Rattle.pkmachine.proofs.Places.{length_below}
 use Rattle.pkmachine.proofs.ResolvedEntries.{found_seen, found_is, found_lacks, put_seen, put_sees}
-use Rattle.pkmachine.proofs.ResolvedEntries.{length_seen, same_table}
+use Rattle.pkmachine.proofs.ResolvedEntries.{length_seen}
 use Rattle.pkmachine.proofs.StepParts.Judged.{lack_errs, judged_errs, within_errs, does_pass}
 use Rattle.pkmachine.proofs.StepParts.Judged.{judged_name, unroomed, left_there, given_none}
 use Rattle.pkmachine.proofs.operate.named.replace_named.Goals as goal
@@ -120,15 +120,14 @@ returns-in-Ok c =
     record {
       ok = λ i named memo.
           let fits = rw c.operands-operands.ensures at (c.in_ok-named.ensures.ok i named) in
-          let put = put_seen texts texts (same_table texts) c.value_of-value.result _
-          (value i) _ is in
+          let put = put_seen texts c.value_of-value.result _ (value i) _ is in
           rw listed.0
           (does_pass (permit_of c.args.request.now.policy.now) o.takes o.names o.gives i
           (record { entries = seen texts entries; memo = memo }) _ texts c.in_ok-named.named found
           fits (seen texts c.give.new.stack) c.args.table.now.asked _ c.in_ok-is_import.is_import
           (ap (seen texts) c.in-Ok.ensures.ok ∙ put) refl listed.1);
-      sees = rw (listed.0, c.in-Ok.ensures.ok) (put_sees texts texts (same_table texts)
-          c.value_of-value.result _ (value (instruction op.None Nothing)) _ is);
+      sees = rw (listed.0, c.in-Ok.ensures.ok)
+          (put_sees texts c.value_of-value.result _ (value (instruction op.None Nothing)) _ is);
       texts = ap (λ l. l.texts) listed.0;
       room = c.in-Ok.ensures.room;
       kept = tt;

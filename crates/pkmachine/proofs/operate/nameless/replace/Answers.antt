@@ -9,7 +9,7 @@ use Rattle.pkmachine.specs.Knowledge.{WrongClass}
 use Rattle.pkmachine.specs.Private.Slots.{seen}
 use Rattle.pkmachine.proofs.Places.{length_below}
 use Rattle.pkmachine.proofs.ResolvedEntries.{found_seen, found_is, found_lacks, put_seen, put_sees}
-use Rattle.pkmachine.proofs.ResolvedEntries.{length_seen, same_table}
+use Rattle.pkmachine.proofs.ResolvedEntries.{length_seen}
 use Rattle.pkmachine.proofs.StepParts.Judged.{lack_errs, judged_errs, judged_ok, judged_wrong}
 use Rattle.pkmachine.proofs.StepParts.Judged.{within_errs, does_pass, unroomed, left_there}
 use Rattle.pkmachine.proofs.StepParts.Judged.{given_none}
@@ -58,7 +58,7 @@ returns-in-Ok-clause-ok c ts sees p i m listed =
     let found = found_seen ts c.args.takes c.args.stack.now sees _ c.in_ok-found.ensures.ok in
     let is = found_is ts c.args.takes c.args.stack.now sees _ c.in_ok-found.ensures.ok in
     let right = rw c.operands-operands.ensures at (sym (c.if-receiver_fault.ensures ts)) in
-    let put = put_seen ts ts (same_table ts) c.value_of.result _ (c.value_of.ensures ts i) _ is in
+    let put = put_seen ts c.value_of.result _ (c.value_of.ensures ts i) _ is in
     does_pass p c.args.takes NoName c.args.gives i
     (record { entries = seen ts c.args.stack.now; memo = m }) _ ts None found
     (judged_ok p NoName c.args.gives i _ right None refl)
@@ -69,7 +69,7 @@ returns-in-Ok-clause-sees c ts sees =
     let i = instruction op.None Nothing in
     let is = found_is ts c.args.takes c.args.stack.now sees _ c.in_ok-found.ensures.ok in
     rw c.in-Ok.ensures.ok
-    (put_sees ts ts (same_table ts) c.value_of.result _ (c.value_of.ensures ts i) _ is)
+    (put_sees ts c.value_of.result _ (c.value_of.ensures ts i) _ is)
 
 pub returns-in-Err-clause-err : goal.returns-in-Err-clause-err
 returns-in-Err-clause-err c ts sees p i m =

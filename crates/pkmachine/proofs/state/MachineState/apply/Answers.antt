@@ -1,11 +1,17 @@
 -- A move acts on entries as on what they stand for, and keeps their text numbers in the table.
-use Rattle.std.proofs.Common.{length}
+use Rattle.std.proofs.Common.{length, Result, Ok, Err, IfErr, OnOk}
 use Rattle.pkops.specs.Inst.{instruction_of}
 use Rattle.pkops.specs.Operands.{memo_number}
 use Rattle.pkmachine.specs.Private.Slots.{resolved}
-use Rattle.pkmachine.proofs.StepParts.Errs.{on_both, ok_on, err_on}
+use Rattle.std.proofs.lemmas.Result.{IfErr-weaker, on_ok_weaker}
 use Rattle.pkmachine.proofs.ResolvedEntries.{moved_fault, moved_resolves, moved_seen}
 use Rattle.pkmachine.proofs.state.MachineState.apply.Goals as goal
+
+-- what follows from either outcome
+on_both : {A E : Type 0} (R P : Type 0) (Q : E → Type 0) (x : Result A E) → (P → R)
+    → ((e : E) → Q e → R) → OnOk x P → IfErr x Q → R
+on_both R P Q (Ok a) f g h k = f h
+on_both R P Q (Err e) f g h k = g e k
 
 pub invariant_of-self : goal.invariant_of-self
 invariant_of-self c =
@@ -19,7 +25,7 @@ invariant_of-self c =
 pub returns-clause-ok : goal.returns-clause-ok
 returns-clause-ok c =
     rw (← c.self.view_is)
-    (ok_on _ _ c.apply.result (λ e. moved_seen c.self.inside.table.texts c.args.what
+    (on_ok_weaker c.apply.result (λ e. moved_seen c.self.inside.table.texts c.args.what
     (memo_number (instruction_of c.args.inst.now)) (record
     { entries = c.self.inside.stack; memo = c.self.inside.memo }) c.self.invariant
     (record { entries = c.apply.new.stack; memo = c.apply.new.memo }) e) c.apply.ensures.ok)
@@ -27,7 +33,7 @@ returns-clause-ok c =
 pub returns-clause-err : goal.returns-clause-err
 returns-clause-err c =
     rw (← c.self.view_is)
-    (err_on _ _ c.apply.result
+    (IfErr-weaker c.apply.result _ _
     (λ r h. (
       λ i.
           record {

@@ -1,10 +1,14 @@
 -- The table of texts only grows, so what stack and memo said of older texts stays true.
-use Rattle.std.proofs.Common.{Some}
+use Rattle.std.proofs.Common.{Some, Result, Ok, Err, IfErr, OnErr}
 use Rattle.pkops.specs.Inst.{instruction_of}
 use Rattle.pkmachine.specs.Runs.{Text, text}
 use Rattle.pkmachine.proofs.ResolvedEntries.{item_learned, operate_resolves}
-use Rattle.pkmachine.proofs.StepParts.Errs.{on_err}
 use Rattle.pkmachine.proofs.state.MachineState.make_text.Goals as goal
+
+on_err : {A E : Type 0} (P : E → Type 0) (Q : Type 0) (x : Result A E) → ((r : E) → P r → Q)
+    → IfErr x P → OnErr x Q
+on_err P Q (Ok a) f h = h
+on_err P Q (Err r) f h = f r h
 
 pub invariant_of-self : goal.invariant_of-self
 invariant_of-self c = operate_resolves c.make_text.result c.self.inside.table
