@@ -1,6 +1,6 @@
 -- Places on the stack and its marks, in terms of the entries of the store.
-use Rattle.std.proofs.Common.{◌≡◌, ℕ, zero, suc, ◌+◌, ◌-◌, ◌<◌, ◌≤◌, List, [], ◌∷◌, ◌++◌, length}
-use Rattle.std.proofs.Common.{take, drop, Ok, refl, sym, subst, ap, ◌∙◌, arith, add-one, append-nil}
+use Rattle.std.proofs.Common.{◌≡◌, ℕ, zero, suc, ◌+◌, ◌-◌, ◌<◌, List, [], ◌∷◌, ◌++◌, length, take}
+use Rattle.std.proofs.Common.{drop, Ok, refl, sym, subst, ap, ◌∙◌, arith, add-one, append-nil}
 use Rattle.std.proofs.Common.{length-drop, Option, Some, None, Err, MatchOption}
 use Rattle.std.proofs.lemmas.List.{append_assoc, take-append-drop}
 use Rattle.std.proofs.Math.Seq.{drop-append_seam, take-append_seam}
@@ -103,10 +103,6 @@ module _ {A : Type 0} where
       → length es ≡ length xs
   how_long xs es is = sym (ap length is) ∙ length_shown xs
 
-  pub place_within : (n : ℕ) (xs : List (Slot A)) (es : List (Entry A)) → shown xs [] ≡ es
-      → n ≤ length es → n ≤ length xs
-  place_within n xs es is h = let k = how_long xs es is in omega (arith, h, k)
-
   pub found_at : (takes : Takes) (n : ℕ) (xs : List (Slot A)) (es : List (Entry A))
       → shown xs [] ≡ es
       → operands takes (shown xs [])
@@ -117,9 +113,6 @@ module _ {A : Type 0} where
       (h
       ∙ (λ i. Ok
       (record { operands = sym (above_shown n xs) i; below = sym (below_shown n xs) i })))
-
-  pub below_all : (n : ℕ) (es : List (Entry A)) → length es ≤ n → below n es ≡ es
-  below_all n es h = let k : length es - n ≡ 0 = omega (arith, h) in rw k refl
 
   pub below_marks : (n : ℕ) (xs : List (Slot A)) → length (bars 0 (take n xs))
       ≡ marks_of (below n (shown xs []))

@@ -5,7 +5,7 @@ use Rattle.std.proofs.Math.Seq.{take-suc, drop-cons}
 use Rattle.pkstack.specs.declared.stack.slots.Slot.{Slot}
 use Rattle.pkstack.specs.declared.stack.slots.Slot.TheVariants as slot
 use Rattle.pkstack.specs.Shape.{NoItem, Entry, items}
-use Rattle.pkstack.specs.Private.Slots.{FirstObject, entry_of, shown, values_of}
+use Rattle.pkstack.specs.Private.Slots.{entry_of, shown, values_of}
 
 module _ {A : Type 0} where
   pub shown_append : (xs ys : List (Slot A)) (below : List (Entry A))
@@ -40,7 +40,3 @@ module _ {A : Type 0} where
 
   pub starts_well : (xs : List (Slot A)) (n k : ℕ) → n + k ≡ length xs → length (drop n xs) ≡ k
   starts_well xs n k e = omega (arith, length-drop n xs)
-
-  pub first_object : (xs : List (Slot A)) (n : ℕ) (d : Slot A) → n < length xs → (v : A)
-      → get_or xs n d ≡ slot.Object v → FirstObject (drop n xs)
-  first_object xs n d h v e = rw (drop-cons xs n d, e) tt

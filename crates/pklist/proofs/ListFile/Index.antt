@@ -1,6 +1,5 @@
 -- The index of the pairs of a list.
-use Rattle.std.proofs.Common.{◌≡◌, ℕ, zero, suc, ◌+◌, ◌<◌, ◌≤◌, ◌||◌, Bool, true, false, cond, List}
-use Rattle.std.proofs.Common.{[], ◌∷◌, subst, length, drop, get_or, Option, Some, None, is_some}
+use Rattle.std.proofs.Common.{◌≡◌, Bool, true, false, cond, subst, Option, Some, None, is_some}
 use Rattle.std.proofs.Common.{String, Less, Equal, Greater, nat_cmp, is_eq, refl, ap, sym, ◌∙◌}
 use Rattle.std.proofs.Common.{arith}
 use Rattle.std.specs.BTreeSet.{BTreeSet, contains_text}
@@ -13,11 +12,8 @@ use Rattle.std.proofs.lemmas.Slice.Eq.{bytes_eq-Decides}
 use Rattle.toml.specs.Data.{Data, Members, no_members, member, get_member}
 use Rattle.toml.specs.Errors.{IsBlank}
 use Rattle.toml.specs.Parse.{parse_document, lines}
-use Rattle.pklist.specs.ListFile.{Text, has_name, is_this_text, items_have, fault_of_document}
-use Rattle.toml.specs.View.{view, items_view}
-use Rattle.toml.specs.declared.Value.{Value}
-use Rattle.pklist.proofs.ListFile.Items.{items_have_step}
-use Rattle.pklist.specs.Private.ListIndex.{HasJust, has_text}
+use Rattle.pklist.specs.ListFile.{Text, has_name, fault_of_document}
+use Rattle.pklist.specs.Private.ListIndex.{HasJust}
 
 abbrev pub TextSet : Type 0
 TextSet = BTreeSet (String Global)
@@ -26,29 +22,10 @@ pub has_none : {A : Type 0} (o : Option A) → false ≡ is_some o → o ≡ Non
 has_none None e = refl
 has_none (Some a) e = cc
 
-or_false : (b : Bool) → (b || false) ≡ b
-or_false true = refl
-or_false false = refl
-
-drop_all : {A : Type 0} (i : ℕ) (xs : List A) → length xs ≤ i → drop i xs ≡ []
-drop_all zero (x ∷ xs) h = absurd (omega (arith, h))
-drop_all (suc i) (x ∷ xs) h = drop_all i xs (omega (arith, h))
-drop_all zero [] h = refl
-drop_all (suc i) [] h = refl
-
--- one more name
-pub one_more_name : (b has rest : Bool) → (cond b true has || rest) ≡ (has || (b || rest))
-one_more_name true true rest = refl
-one_more_name _ _ rest = refl
-
 -- the names of the module if the index has it, and otherwise what the rest of the table says
 abbrev pub has_or : Option TextSet → Text → Bool → Bool
 has_or (Some names) n rest = contains_text names n
 has_or None n rest = rest
-
-pub has_or_end : (o : Option TextSet) (n : Text) → has_or o n false ≡ has_text o n
-has_or_end (Some names) n = refl
-has_or_end None n = refl
 
 turned : (k m : Text) (b : Bool) → bytes_eq k m ≡ b → bytes_eq m k ≡ b
 turned k m true e = grind (arith, bytes_eq-Decides)
@@ -113,27 +90,6 @@ module _ (f : Text → Option TextSet) (k : Text) (v : Data) (rest : Members) (m
         → has_or (g m) n (has_name n (get_member m rest))
         ≡ has_or (f m) n (has_name n (get_member m (member k v rest)))
     module_added h = added_by (bytes_eq k m) refl h
-
--- one more value of an array
-pub item_step : (n : Text) (values : List Value) (i : ℕ) (d x : Value) (s t : TextSet) (all : Bool)
-    → i < length values → get_or values i d ≡ x
-    → contains_text t n ≡ cond (is_this_text n (view x)) true (contains_text s n)
-    → (contains_text s n || items_have n (items_view (drop i values))) ≡ all
-    → (contains_text t n || items_have n (items_view (drop (i + 1) values))) ≡ all
-item_step n values i d x s t all lt is h now =
-    let e = items_have_step n values i d lt in
-    rw h
-    (one_more_name (is_this_text n (view x)) (contains_text s n)
-    (items_have n (items_view (drop (i + 1) values)))
-    ∙ ap (λ b. contains_text s n || b)
-    (ap (λ y. is_this_text n (view y) || items_have n (items_view (drop (i + 1) values)))
-    (sym is) ∙ sym e) ∙ now)
-
-pub item_end : (n : Text) (values : List Value) (i : ℕ) (s : TextSet) (all : Bool)
-    → length values ≤ i → (contains_text s n || items_have n (items_view (drop i values))) ≡ all
-    → contains_text s n ≡ all
-item_end n values i s all le now = sym (or_false (contains_text s n))
-    ∙ (rw (drop_all i values le) at now)
 
 -- a blank text is a document without members
 blank_parses : (text : Text) → IsBlank text → parse_document text ≡ Some no_members
