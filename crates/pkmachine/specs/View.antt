@@ -3,7 +3,7 @@ use Rattle.std.specs.Prelude.{ℕ, suc, ◌++◌, Bool, true, false, List, [], O
 use Rattle.pkops.specs.Limits.{Bounds}
 use Rattle.pkops.specs.declared.Reason.{Reason}
 use Rattle.pkops.specs.declared.Reason.TheVariants.{ImportOffList}
-use Rattle.pkmachine.specs.Effects.{Effect, Operates, Stops, Gives, MakesText, OldStrings}
+use Rattle.pkmachine.specs.Effects.{Effect, Operates, Stops, MakesText, OldStrings}
 use Rattle.pkmachine.specs.declared.memo.Memo.{Memo}
 use Rattle.pkmachine.specs.declared.memo.Memo.TheVariants.{Fresh, Kept}
 use Rattle.pkmachine.specs.declared.stepping.Moved.{Moved}
@@ -62,14 +62,9 @@ abbrev pub stopped_by : Moved → Bool
 stopped_by Stopped = true
 stopped_by _ = false
 
--- the number of texts after an operation with this result
-abbrev pub texts_given : Gives → ℕ → ℕ
-texts_given MakesText count = suc count
-texts_given _ count = count
-
 -- the number of texts after a step that goes on: one more if it made one
 abbrev pub texts_after : Effect → ℕ → ℕ
-texts_after (Operates takes names gives) count = texts_given gives count
+texts_after (Operates takes names MakesText) count = suc count
 texts_after _ count = count
 
 -- the pair that is off the list

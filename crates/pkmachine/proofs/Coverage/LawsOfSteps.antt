@@ -7,8 +7,7 @@ use Rattle.pkmachine.specs.Effects.{Effect, effect_as, number_stored}
 use Rattle.pkmachine.specs.Knowledge.{Knowledge, Progress, Refusal, learn, within}
 use Rattle.pkmachine.specs.RowRuns.{RunsFrom}
 use Rattle.pkmachine.specs.Runs.{State, Stepped, Text, WentOn, Stopped, step_as}
-use Rattle.pkmachine.specs.StepLaws.{AcceptedGoesOn, AcceptedHasNoFault, AcceptedIsSound}
-use Rattle.pkmachine.specs.StepLaws.{MarksAreKnown, RefusedHasFault, StepLaws, UnknownIsOfTwo}
+use Rattle.pkmachine.specs.StepLaws.{StepLaws}
 use Rattle.pkmachine.specs.Witnesses.{Answered, StepsPast, new_text}
 use Rattle.pkmachine.proofs.OpenMarks.{marks_alike}
 use Rattle.pkmachine.proofs.Coverage.AcceptedSteps.{step_follows}
@@ -20,11 +19,6 @@ use Rattle.pkmachine.proofs.Coverage.OneTextStates.{new_text_holds}
 use Rattle.pkmachine.proofs.Coverage.PermittedImports.{no_extension, permitted_ok}
 use Rattle.pkmachine.proofs.StepParts.Longest.{longer_than}
 use Rattle.pkmachine.proofs.StepParts.Settings.{wants_no_registry}
-
-pub sound : AcceptedIsSound
-sound setting policy limits i k q e s o c =
-    subst (λ x. FollowsIfOk IsObject x s (step_as setting i s o)) e
-    (step_follows IsObject objects_grow setting policy limits i k s o c (any_answer s.objects o))
 
 -- an accepted step goes on, or is that of STOP
 going : (l : Bounds) (n : ℕ) (v : List ℕ) (e : Effect) (k : Knowledge) (s : State)
@@ -39,41 +33,28 @@ gets_past v e q s (WentOn t) g h = h.0
 gets_past v e q s (Stopped r t) g h = h.2
 gets_past v e q s _ g h = g
 
-goes_on : AcceptedGoesOn
-goes_on setting policy limits i k q e v s c =
-    let effect = effect_as setting i in
-    let st = step_as setting i s (new_text v s) in
-    gets_past v effect q s st
-    (going limits (number_stored effect i) v effect k s st q (learn policy effect i k)
-    (learn_exactly v policy effect i k s (length s.objects) (Text v) c) e)
-    (subst (λ x. FollowsIfOk (Answered v) x s st) e
-    (step_follows (Answered v) (grows v) setting policy limits i k s (new_text v s) c
-    (new_text_holds v s)))
-
-none : AcceptedHasNoFault
-none setting b before policy limits i k q h e =
-    no_fault policy limits i k (RunsFrom setting b before) h q e
-
-of_two : UnknownIsOfTwo
-of_two setting b before policy limits i k q h e u =
-    unknown_exactly policy limits i k (RunsFrom setting b before) h q e u
-
-named : RefusedHasFault
-named setting b before policy limits i k r h bounded admitted e =
-    let (v, long) = longer_than policy bounded in
-    first_fault policy limits i k (RunsFrom setting b before) h v long r e
-    (no_extension setting policy limits i k r (wants_no_registry setting i admitted) e)
-
-as_many : MarksAreKnown
-as_many k s h = marks_alike (TrueOf s.objects) k.entries s.shape.entries h.entries
-
 pub step_laws : StepLaws
 step_laws = record {
-  sound = sound;
+  sound = λ setting policy limits i k q e s o c. subst
+      (λ x. FollowsIfOk IsObject x s (step_as setting i s o)) e
+      (step_follows IsObject objects_grow setting policy limits i k s o c (any_answer s.objects o));
   permitted = permitted_ok;
-  goes_on = goes_on;
-  no_fault = none;
-  unknown = of_two;
-  refused = named;
-  marks = as_many;
+  goes_on = λ setting policy limits i k q e v s c.
+      let effect = effect_as setting i in
+      let st = step_as setting i s (new_text v s) in
+      gets_past v effect q s st
+      (going limits (number_stored effect i) v effect k s st q (learn policy effect i k)
+      (learn_exactly v policy effect i k s (length s.objects) (Text v) c) e)
+      (subst (λ x. FollowsIfOk (Answered v) x s st) e
+      (step_follows (Answered v) (grows v) setting policy limits i k s (new_text v s) c
+      (new_text_holds v s)));
+  no_fault = λ setting b before policy limits i k q h e.
+      no_fault policy limits i k (RunsFrom setting b before) h q e;
+  unknown = λ setting b before policy limits i k q h e u.
+      unknown_exactly policy limits i k (RunsFrom setting b before) h q e u;
+  refused = λ setting b before policy limits i k r h bounded admitted e.
+      let (v, long) = longer_than policy bounded in
+      first_fault policy limits i k (RunsFrom setting b before) h v long r e
+      (no_extension setting policy limits i k r (wants_no_registry setting i admitted) e);
+  marks = λ k s h. marks_alike (TrueOf s.objects) k.entries s.shape.entries h.entries;
 }

@@ -16,7 +16,7 @@ use Rattle.pkmachine.specs.Private.StepErrors.{IsRefusedFor, IsWantOfMemory, May
 use Rattle.pkmachine.specs.View.{View, off_pair}
 use Rattle.pkmachine.specs.Step.{CoveredBy, FailsStep, GoesOn, IsNoFalseAlarm, IsStep}
 use Rattle.pkmachine.specs.Step.{MayLackMemory, MeansInEachRun, RefusesForGood, UnknownIsNeeded}
-use Rattle.pkmachine.proofs.Coverage.LawsOfSteps.{sound}
+use Rattle.pkmachine.proofs.Coverage.LawsOfSteps.{step_laws}
 use Rattle.pkmachine.proofs.Coverage.PermittedImports.{no_extension, permitted_ok}
 use Rattle.pkmachine.specs.Witnesses.{Stands, Word}
 use Rattle.pkmachine.proofs.Coverage.ShownFaults.{IsLonger}
@@ -52,7 +52,7 @@ module _ (p : Policy) (i : Instruction) (before after : View) where
           sym (ap (λ (m : View). m.knowledge) becomes),
           ap (λ (m : View). m.imports) becomes,
           permitted_ok before.old_strings p before.limits i before.knowledge q is,
-          sound before.old_strings p before.limits i before.knowledge q is s o c,
+          step_laws.sound before.old_strings p before.limits i before.knowledge q is s o c,
         )
 
     unknown_by : UnknownIsNeeded p i before after
