@@ -83,20 +83,18 @@ module _ (policy : Policy) (instruction : Instruction) (before after : View) whe
   abbrev pub FailsStep : Reason → Type 0
   FailsStep reason = RefusesStep reason ⊎ StepWantsMemory reason
 
-  -- what an accepted step means in a covered state: the step of the run finds what it needs, its
-  -- import is the one appended, STOP takes the only object, and the new state is covered
-  abbrev pub MeansIn : State → Outcome → Type 0
-  MeansIn state outcome =
-      (progress : Progress)
+  -- what an accepted step means in each covered state, whatever the outcome: the step of the run
+  -- finds what it needs, its import is the one appended, STOP takes the only object, and the new
+  -- state is covered
+  abbrev pub MeansInEachRun : Type 0
+  MeansInEachRun =
+      (state : State) (outcome : Outcome)
+      → Covers before.knowledge state
+      → (progress : Progress)
       × (progress.after ≡ after.knowledge)
       × (after.imports ≡ asks_more progress.import before.imports)
       × IsPermitted policy progress.import
       × Follows progress state (step_as before.old_strings instruction state outcome)
-
-  -- this is true in every covered state and for every outcome
-  abbrev pub MeansInEachRun : Type 0
-  MeansInEachRun =
-      (state : State) (outcome : Outcome) → Covers before.knowledge state → MeansIn state outcome
 
   -- the step goes on only if the instruction has no fault
   abbrev pub PassesNoFault : Type 0
@@ -121,16 +119,15 @@ module _ (policy : Policy) (instruction : Instruction) (before after : View) whe
   abbrev pub MayLackMemory : Reason → Type 0
   MayLackMemory reason = WantsNoMemory instruction.op → reason ≢ OutOfMemory
 
--- the whole contract of a step
-pub record IsStep (policy : Policy) (instruction : Instruction) (before after : View)
-    (answer : Result Moved Reason) : Type 0 where
-  pub again : AnswersAsBefore before after answer
-  pub goes_on : IfOk answer (GoesOn policy instruction before after)
-  pub covered : OnOk answer (MeansInEachRun policy instruction before after)
-  pub permitted : OnOk answer (AppendsPermitted policy before.imports after.imports)
-  pub no_fault : OnOk answer (PassesNoFault policy instruction before after)
-  pub unknown : OnOk answer (UnknownIsNeeded policy instruction before after)
-  pub fails : IfFirst before answer (FailsStep policy instruction before after)
-  pub alarm : IfFirst before answer (IsNoFalseAlarm policy instruction before after)
-  pub memory : IfFirst before answer (MayLackMemory policy instruction before after)
-  pub kept : IfErr answer (RefusesForGood before after)
+  -- the whole contract of a step
+  pub record IsStep (answer : Result Moved Reason) : Type 0 where
+    pub again : AnswersAsBefore before after answer
+    pub goes_on : IfOk answer GoesOn
+    pub covered : OnOk answer MeansInEachRun
+    pub permitted : OnOk answer (AppendsPermitted policy before.imports after.imports)
+    pub no_fault : OnOk answer PassesNoFault
+    pub unknown : OnOk answer UnknownIsNeeded
+    pub fails : IfFirst before answer FailsStep
+    pub alarm : IfFirst before answer IsNoFalseAlarm
+    pub memory : IfFirst before answer MayLackMemory
+    pub kept : IfErr answer (RefusesForGood before after)
