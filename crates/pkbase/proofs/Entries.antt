@@ -226,7 +226,8 @@ module _ {A : Type 0} where
       pub put_low : (v : A) → n < first → entries (insert_entry nat_cmp low n v) first xs rest
           ≡ insert_entry nat_cmp (entries low first xs rest) n v
       put_low v h =
-          sym (insert_entry-append_above low (enumerate_from first xs ++ rest) n v (above parts n h))
+          sym (insert_entry-append_above low (enumerate_from first xs ++ rest) n v
+          (above parts n h))
 
       pub put_ordered : (j : ℕ) (v : A) → n ≡ first + j → j < length xs
           → entries low first (set xs j v) rest

@@ -138,8 +138,8 @@ module _ (order : Pair → Ordering) (pairs : List Pair) where
               (omega (arith, bounds.0, bounds.1, few))
           | Equal ↦ λ o. refl
           | Greater ↦ λ o. comes_to_equal steps low m i p e equal from
-              (before i m p q e there (rw (o, equal) (omega arith))) (omega (arith, bounds.1, inside))
-              (omega (arith, bounds.0, bounds.1, few))
+              (before i m p q e there (rw (o, equal) (omega arith)))
+              (omega (arith, bounds.1, inside)) (omega (arith, bounds.0, bounds.1, few))
         ] refl)
 
 -- one of the pairs compares as Equal if the array has this module and this name

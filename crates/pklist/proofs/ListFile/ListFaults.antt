@@ -30,7 +30,8 @@ version_is _ = λ h. cc
 
 keys_is : (limited : Bool) (document : Members) → IsOfRule (keys_fault limited document)
 keys_is limited no_members = λ h. cc
-keys_is limited (member key value rest) = or_else_is (kept_or_is _ _ (λ h. cc)) (keys_is limited rest)
+keys_is limited (member key value rest) =
+    or_else_is (kept_or_is _ _ (λ h. cc)) (keys_is limited rest)
 
 module_is : (key : Text) (value : Data) → IsOfRule (module_fault key value)
 module_is key (array values) = or_else_is (kept_or_is _ _ (λ h. cc)) (kept_or_is _ _ (λ h. cc))

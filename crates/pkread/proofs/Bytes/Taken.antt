@@ -1,9 +1,9 @@
 -- Reads, and what several of them take.
-use Rattle.std.proofs.Common.{◌≡◌, ◌≢◌, ℕ, zero, suc, ◌+◌, ◌%◌, ◌^◌, ◌<◌, ◌≤◌, List, [], ◌∷◌}
+use Rattle.std.proofs.Common.{◌≡◌, ◌≢◌, ℕ, zero, suc, ◌+◌, ◌-◌, ◌%◌, ◌^◌, ◌<◌, ◌≤◌, List, [], ◌∷◌}
 use Rattle.std.proofs.Common.{◌++◌, length, take, drop, get_or, Option, None, Some, refl, sym, ap}
 use Rattle.std.proofs.Common.{subst, ◌∙◌, arith, length-append, append_assoc, append-nil}
 use Rattle.std.proofs.Common.{drop_at, get_or-drop, length-drop, length-take, take-take}
-use Rattle.std.proofs.Common.{take_at, take-add}
+use Rattle.std.proofs.Common.{take_at, take-add, Result, Ok, Err}
 use Rattle.std.specs.Io.KnownBytes.{Consumes}
 use Rattle.std.specs.List.{AllByRecursion}
 use Rattle.std.proofs.lemmas.List.{drop-take}
@@ -12,7 +12,7 @@ use Rattle.pkread.proofs.Bytes.Takes.{Consumes-more, Takes-more, Takes-none}
 use Rattle.pkread.specs.Rows.{Reason, Sight, Takes, all_bytes}
 use Rattle.pkread.specs.Private.Progress.{Intake}
 use Rattle.pkread.specs.Private.Reads.{LackRow, LacksSome, PulledInto, ReadsSome, ReadsByte}
-use Rattle.pkread.specs.Private.Reads.{ReadsNone, Took, TookAll}
+use Rattle.pkread.specs.Private.Reads.{ReadsNone, TakesAll, Took, TookAll}
 use Rattle.pkread.specs.Pull.{AreAllBytes}
 
 pub AreBytes-take : (n : ℕ) (c : List ℕ) → AreAllBytes c → AreAllBytes (take n c)
@@ -135,6 +135,21 @@ lacks_after count left c old mid new reason k all s =
       lacks = omega (arith, all, lacks, length-append c s.bytes);
       row = lack_more old.source mid.source new.source c s.bytes new.taken reason k.source s.row;
     }
+
+-- some bytes, and then the rest
+module _ (count n v : ℕ) (c : List ℕ) (old mid new : Intake)
+    (k : Took c old mid) (is : length c ≡ n) (le : n ≤ count) (rest : v ≡ count - n) where
+  pub takes_rest : {A : Type 0} (r : Result A Reason) → TakesAll v r mid new →
+      TakesAll count r old new
+  takes_rest (Ok x) s =
+      let all = s.all in
+      record {
+        bytes = c ++ s.bytes;
+        took = took_both c s.bytes old mid new k s.took;
+        all = omega (arith, is, all, le, rest, length-append c s.bytes);
+      }
+  takes_rest (Err reason) s =
+      lacks_after count v c old mid new reason k (omega (arith, is, le, rest)) s
 
 all_of_one : (n : ℕ) (to : List ℕ) → length to ≡ 1 → n ≤ length to → 0 < n →
     take n to ≡ get_or to 0 0 ∷ []
