@@ -17,6 +17,7 @@ pub mod Limits
 pub mod Scans
 pub mod Answer
 pub mod KnownLayout
+pub mod ArgumentIn
 pub mod Lengths
 pub mod Growth
 pub mod RuleTests

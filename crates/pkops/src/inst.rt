@@ -3,9 +3,10 @@
 ghost use Rattle.std.specs.Prelude.{◌≡◌, ◌≢◌, ℕ, MatchBool, Some, SomeIff, ◌+◌, ◌^◌, ◌<◌, ◌≤◌};
 ghost use Rattle.std.specs.Prelude.{length, true};
 ghost use Rattle.pkops.specs.Spelling.{IsLine, Suits, instruction, laid, layout_at, shown_arg};
-ghost use Rattle.pkops.specs.Spelling.{Argument, spelling};
+ghost use Rattle.pkops.specs.Spelling.{spelling};
 ghost use Rattle.pkops.specs.Behind.{argument_in, spelled_by, split_by};
-ghost use Rattle.pkops.specs.KnownLayout.{Lies, split_of};
+ghost use Rattle.pkops.specs.ArgumentIn.{HasGoodArgument, OfArgument};
+ghost use Rattle.pkops.specs.KnownLayout.{split_of};
 ghost use Rattle.pkops.specs.Scans.{count_len};
 ghost use Rattle.pkops.specs.Contents.{IsGood};
 ghost use Rattle.pkops.specs.Operands.{names_bool_by, names_memo_entry, number_said};
@@ -88,10 +89,9 @@ impl<'a> Inst<'a> {
     /// the first of two lines, otherwise 0.
     #[inline]
     pub fn spelled(op: Op, split: usize, bytes: &'a [u8]) -> Inst<'a>
-        requires { (limit : ℕ) × (arg : Argument)
-            × Lies limit op arg split bytes.now × IsGood (instruction op arg) }
-        ensures { (limit : ℕ) (arg : Argument) →
-            Lies limit op arg split bytes.entry.now → instruction_of result ≡ instruction op arg }
+        requires { HasGoodArgument op split bytes.now }
+        ensures { OfArgument op split bytes.entry.now
+            (λ arg. instruction_of result ≡ instruction op arg) }
     {
         Inst {
             op,

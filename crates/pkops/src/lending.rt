@@ -8,6 +8,7 @@ ghost use Rattle.pkops.specs.Numerals.{IsMemoNumber};
 ghost use Rattle.pkops.specs.Operands.{names_bool_by, names_memo_entry, number_said};
 ghost use Rattle.pkops.specs.declared.op.Op.TheVariants as opcode;
 ghost use Rattle.pkops.specs.Spelling.{Argument, instruction, shown_arg, size_of};
+ghost use Rattle.pkops.specs.ArgumentIn.{HasArgument, OfArgument};
 ghost use Rattle.pkops.specs.KnownLayout.{Lies, count_in};
 
 use crate::arg::Arg;
@@ -21,9 +22,8 @@ use byteorder::{ByteOrder, LittleEndian};
 /// first of two lines. Inlined everywhere, so that callers need no stack slot for the argument.
 #[inline(always)]
 pub fn argument_of<'a>(op: Op, split: usize, bytes: &'a [u8]) -> Arg<'a>
-    requires { (limit : ℕ) × (arg : Argument) × Lies limit op arg split bytes.now }
-    ensures { (limit : ℕ) (arg : Argument) →
-        Lies limit op arg split bytes.now → shown_arg result ≡ arg }
+    requires { HasArgument op split bytes.now }
+    ensures { OfArgument op split bytes.now (λ arg. shown_arg result ≡ arg) }
 {
     match layout_of_op(op) {
         Layout::Nothing => Arg::None,
@@ -46,9 +46,8 @@ pub fn argument_of<'a>(op: Op, split: usize, bytes: &'a [u8]) -> Arg<'a>
 /// `argument_of` for large callers: out of line, but for short texts, the most frequent of them.
 #[inline(always)]
 pub fn argument_lent<'a>(op: Op, split: usize, bytes: &'a [u8]) -> Arg<'a>
-    requires { (limit : ℕ) × (arg : Argument) × Lies limit op arg split bytes.now }
-    ensures { (limit : ℕ) (arg : Argument) →
-        Lies limit op arg split bytes.now → shown_arg result ≡ arg }
+    requires { HasArgument op split bytes.now }
+    ensures { OfArgument op split bytes.now (λ arg. shown_arg result ≡ arg) }
 {
     match op {
         Op::ShortBinUnicode => Arg::Counted(behind(2, bytes)),
@@ -59,9 +58,8 @@ pub fn argument_lent<'a>(op: Op, split: usize, bytes: &'a [u8]) -> Arg<'a>
 /// `argument_of` out of line.
 #[inline(never)]
 fn argument_of_slowly<'a>(op: Op, split: usize, bytes: &'a [u8]) -> Arg<'a>
-    requires { (limit : ℕ) × (arg : Argument) × Lies limit op arg split bytes.now }
-    ensures { (limit : ℕ) (arg : Argument) →
-        Lies limit op arg split bytes.now → shown_arg result ≡ arg }
+    requires { HasArgument op split bytes.now }
+    ensures { OfArgument op split bytes.now (λ arg. shown_arg result ≡ arg) }
 {
     argument_of(op, split, bytes)
 }
