@@ -51,7 +51,7 @@ pub enum Move {
     Stores,
     StoresNext,
     Fetches,
-    Passes,
+    NoOp,
 }
 
 /// The effect of an instruction.
@@ -99,7 +99,7 @@ pub fn plain_action(op: Op) -> Option<Action>
         Op::Put | Op::BinPut | Op::LongBinPut => Some(Action::Moves(Move::Stores)),
         Op::Memoize => Some(Action::Moves(Move::StoresNext)),
         Op::Get | Op::BinGet | Op::LongBinGet => Some(Action::Moves(Move::Fetches)),
-        Op::Proto | Op::Frame => Some(Action::Moves(Move::Passes)),
+        Op::Proto | Op::Frame => Some(Action::Moves(Move::NoOp)),
         Op::Stop => Some(Action::Stops),
         _ => None,
     }

@@ -127,6 +127,6 @@ pub fn apply(
             store(stack, memo, next)
         }
         Move::Fetches => fetch(stack, memo, number),
-        Move::Passes => Ok(()),
+        Move::NoOp => Ok(()),
     }
 }

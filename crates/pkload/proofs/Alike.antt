@@ -10,7 +10,7 @@ use Rattle.pkstack.specs.declared.Takes.{Takes}
 use Rattle.pkstack.specs.declared.Takes.TheVariants.{Objects, Slice, SliceAndReceiver}
 use Rattle.pkstack.specs.declared.Move.{Move}
 use Rattle.pkstack.specs.declared.Move.TheVariants.{PushesMark, Pops, PopsMark, Duplicates, Stores}
-use Rattle.pkstack.specs.declared.Move.TheVariants.{StoresNext, Fetches, Passes, Extends}
+use Rattle.pkstack.specs.declared.Move.TheVariants.{StoresNext, Fetches, NoOp, Extends}
 use Rattle.pkstack.specs.Shape.{Breach, Odd, Entry, Mark, Item, Shape, Taken, and_then, unless}
 use Rattle.pkstack.specs.Shape.{is_even, items, slice, breaks, operands, front, top, stored}
 use Rattle.pkstack.specs.Shape.{recalled, fetched, popped, moved}
@@ -235,5 +235,5 @@ module _ {A B : Type 0} (R : A → B → Type 0) where
       record { entries = h.entries; memo = stored_next t.0 u.0 a.memo b.memo g.item h.memo })
   moved_alike Fetches n a b h = fetched_alike (recalled n a.memo) (recalled n b.memo) n a b
       (recalled_alike n a.memo b.memo h.memo) h
-  moved_alike Passes n a b h = h
+  moved_alike NoOp n a b h = h
   moved_alike Extends n a b h = refl

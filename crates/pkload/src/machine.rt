@@ -180,7 +180,7 @@ impl Machine {
             Op::Pop => self.go(Move::Pops, 0),
             Op::PopMark => self.go(Move::PopsMark, 0),
             Op::Dup => self.go(Move::Duplicates, 0),
-            Op::Proto | Op::Frame => self.go(Move::Passes, 0),
+            Op::Proto | Op::Frame => self.go(Move::NoOp, 0),
             _ => Err(Halt::Lost),
         }
     }

@@ -96,7 +96,7 @@ pub fn apply(stack: &mut Stack, memo: &mut MemoTable, what: Move, number: u32) -
         Move::Stores => store(stack, memo, number),
         Move::StoresNext => store_next(stack, memo),
         Move::Fetches => fetch(stack, memo, number),
-        Move::Passes => Ok(()),
+        Move::NoOp => Ok(()),
         Move::Extends => Err(Halt::Lost),
     }
 }

@@ -27,7 +27,7 @@ pub use Rattle.pkmachine.specs.declared.old_strings.OldStrings.TheVariants.{Unkn
 pub use Rattle.pkmachine.specs.declared.effect.Gives.{Gives}
 use Rattle.pkstack.specs.declared.Move.{Move}
 use Rattle.pkstack.specs.declared.Move.TheVariants.{PushesMark, Pops, PopsMark, Duplicates, Stores}
-use Rattle.pkstack.specs.declared.Move.TheVariants.{StoresNext, Fetches, Passes, Extends}
+use Rattle.pkstack.specs.declared.Move.TheVariants.{StoresNext, Fetches, NoOp, Extends}
 use Rattle.pkstack.specs.Shape.{number_moved}
 
 -- what an instruction does: an operation takes objects, may name a pair to import, and leaves an
@@ -144,8 +144,8 @@ effect_of op.NewObjEx = answers (Objects 3)
 effect_of op.PersId = answers (Objects 0)
 effect_of op.BinPersid = answers (Objects 1)
 -- the pickle itself (PROTO: PEP 307, Protocol identification; FRAME: PEP 3154, Framing)
-effect_of op.Proto = Moves Passes
-effect_of op.Frame = Moves Passes
+effect_of op.Proto = Moves NoOp
+effect_of op.Frame = Moves NoOp
 effect_of op.Stop = Stops
 
 -- whether the opcode pushes a Python 2 string

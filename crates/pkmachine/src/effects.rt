@@ -194,8 +194,8 @@ pub fn action_of(op: Op) -> Action
         Op::Global => Action::Imports,
         Op::StackGlobal => Action::Imports,
         Op::Inst => Action::Imports,
-        Op::Proto => Action::Moves(Move::Passes),
-        Op::Frame => Action::Moves(Move::Passes),
+        Op::Proto => Action::Moves(Move::NoOp),
+        Op::Frame => Action::Moves(Move::NoOp),
         Op::Stop => Action::Stops,
         _ => Action::Operates,
     }

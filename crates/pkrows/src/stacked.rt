@@ -148,7 +148,7 @@ fn moves_look_at_no_item(rt: HostRuntime) -> Result<(), Fail> {
         (Move::Fetches, (Ok(()), 3, 1)),
         (Move::StoresNext, (Ok(()), 3, 2)),
         (Move::Duplicates, (Ok(()), 4, 2)),
-        (Move::Passes, (Ok(()), 4, 2)),
+        (Move::NoOp, (Ok(()), 4, 2)),
         (Move::Extends, (Err(Reason::ExtensionCode), 4, 2)),
         (Move::Pops, (Ok(()), 3, 2)),
         (Move::PopsMark, (Ok(()), 1, 2)),

@@ -25,7 +25,7 @@ WantsMemo limit cells r =
 abbrev pub MoveMayWantMemory : Move → Type 0
 MoveMayWantMemory move.Pops = ⊥
 MoveMayWantMemory move.PopsMark = ⊥
-MoveMayWantMemory move.Passes = ⊥
+MoveMayWantMemory move.NoOp = ⊥
 MoveMayWantMemory move.Extends = ⊥
 MoveMayWantMemory m = ⊤
 

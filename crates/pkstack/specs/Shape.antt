@@ -13,7 +13,7 @@ use Rattle.pkstack.specs.declared.takes.Takes.{Takes}
 use Rattle.pkstack.specs.declared.takes.Takes.TheVariants.{Objects, Slice, SliceAndReceiver}
 use Rattle.pkstack.specs.declared.moves.Move.{Move}
 use Rattle.pkstack.specs.declared.moves.Move.TheVariants.{PushesMark, Pops, PopsMark, Duplicates}
-use Rattle.pkstack.specs.declared.moves.Move.TheVariants.{Stores, StoresNext, Fetches, Passes}
+use Rattle.pkstack.specs.declared.moves.Move.TheVariants.{Stores, StoresNext, Fetches, NoOp}
 use Rattle.pkstack.specs.declared.moves.Move.TheVariants.{Extends}
 
 -- what an instruction is missing: a mark, an item, a memo entry with this number, or an even number
@@ -148,7 +148,7 @@ module _ {A : Type 0} where
   moved Stores number shape = storing number shape
   moved StoresNext number shape = storing (length shape.memo) shape
   moved Fetches number shape = fetched (recalled number shape.memo) number shape
-  moved Passes number shape = Ok shape
+  moved NoOp number shape = Ok shape
   moved Extends number shape = Err Extension
 
   -- the number of marks on the stack

@@ -27,7 +27,7 @@ pub enum Move {
     /// Pushes what is stored under the number that the instruction names.
     Fetches,
     /// Does nothing.
-    Passes,
+    NoOp,
     /// Looks for an extension code, which is always missing.
     Extends,
 }
@@ -187,7 +187,7 @@ pub fn apply<V: Copy + Drop>(
             remember(stack, memo, limits, next)
         }
         Move::Fetches => recall(stack, memo, limits, number_of(inst)),
-        Move::Passes => Ok(()),
+        Move::NoOp => Ok(()),
         Move::Extends => Err(Reason::ExtensionCode),
     }
 }

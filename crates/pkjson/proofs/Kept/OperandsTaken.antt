@@ -161,7 +161,7 @@ moved_below n move.StoresNext k h g b e =
     })
 moved_below n move.Fetches k h g b e = fetch_below n k (recalled k h.memo) h g b
     (λ x q. recalled_below n k x h.memo b.memo q) e
-moved_below n move.Passes k h g b e = subst (IsHeld n) (ok_same _ g e) b
+moved_below n move.NoOp k h g b e = subst (IsHeld n) (ok_same _ g e) b
 
 items_one : (es : List (Entry ℕ)) (above : List ℕ) (v : Taken ℕ) → items 1 es above ≡ Ok v
     → (r : ℕ) × (fs : List (Entry ℕ)) × (v ≡ record { operands = r ∷ above; below = fs })

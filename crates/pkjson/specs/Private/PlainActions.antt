@@ -75,7 +75,7 @@ move_of move.Duplicates = moves.Duplicates
 move_of move.Stores = moves.Stores
 move_of move.StoresNext = moves.StoresNext
 move_of move.Fetches = moves.Fetches
-move_of move.Passes = moves.Passes
+move_of move.NoOp = moves.NoOp
 
 -- the effect of a plain instruction
 abbrev pub acted : Action → Instruction → Arena → Result Arena Breach

@@ -6,7 +6,7 @@ use Rattle.pkstack.specs.declared.SliceRule.TheVariants.{EvenSlice, FullSlice}
 use Rattle.pkstack.specs.declared.Takes.{Takes}
 use Rattle.pkstack.specs.declared.Takes.TheVariants.{Objects, Slice, SliceAndReceiver}
 use Rattle.pkstack.specs.declared.Move.{Move}
-use Rattle.pkstack.specs.declared.Move.TheVariants.{PushesMark, Pops, PopsMark, Fetches, Passes}
+use Rattle.pkstack.specs.declared.Move.TheVariants.{PushesMark, Pops, PopsMark, Fetches, NoOp}
 use Rattle.pkstack.specs.declared.Move.TheVariants.{Extends}
 use Rattle.pkstack.specs.Shape.{Breach, Odd, Extension, Entry, Mark, Item, and_then, unless}
 use Rattle.pkstack.specs.Shape.{is_even, items, slice, breaks, operands, recalled, fetched, popped}
@@ -69,6 +69,6 @@ moved_none PushesMark n h x = tt
 moved_none Pops n h x = popped_none h.entries h
 moved_none PopsMark n h x = and_then_none (slice h.entries []) _ (slice_none h.entries []) (λ t. tt)
 moved_none Fetches n h x = with_item_none (recalled n h.memo) n h
-moved_none Passes n h x = tt
+moved_none NoOp n h x = tt
 moved_none Extends n h x = absurd (x refl)
 moved_none _ n h x = and_then_none (top h.entries) _ (top_none h.entries) (λ t. tt)

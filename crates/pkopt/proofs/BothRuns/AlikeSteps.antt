@@ -6,7 +6,7 @@ use Rattle.pkmachine.specs.declared.effect.Names.{Names}
 use Rattle.pkmachine.specs.declared.effect.Gives.{Gives}
 use Rattle.pkmachine.specs.Effects.{Effect, Operates, Moves, Stops, Raises}
 use Rattle.pkstack.specs.declared.Move.TheVariants.{PushesMark, Pops, PopsMark, Duplicates, Stores}
-use Rattle.pkstack.specs.declared.Move.TheVariants.{StoresNext, Fetches, Passes, Extends}
+use Rattle.pkstack.specs.declared.Move.TheVariants.{StoresNext, Fetches, NoOp, Extends}
 use Rattle.pkstack.specs.Shape.{Breach, Entry, Item, Taken, and_then, slice, operands, top, popped}
 use Rattle.pkmachine.specs.Runs.{Import, State, Outcome, Raise, Stepped, WentOn, Raised, Stopped}
 use Rattle.pkmachine.specs.Runs.{Stuck, Named, NoImport, Pair, NotTexts, class_at, named}
@@ -84,7 +84,7 @@ perform_same (Moves Pops) i o m s h = popped_same s.shape.entries m s
 perform_same (Moves PopsMark) i o m s h = cut_same (slice s.shape.entries []) (λ t. t.below) m s
 perform_same (Moves Duplicates) i o m s h = cut_same (top s.shape.entries)
     (λ t. Item t.0 ∷ s.shape.entries) m s
-perform_same (Moves Passes) i o m s h = (refl, refl)
+perform_same (Moves NoOp) i o m s h = (refl, refl)
 perform_same (Moves Extends) i o m s h = tt
 perform_same Stops i o m s h = stop_same (top s.shape.entries) m s
 perform_same Raises i o m s h = record { objects = refl; events = refl }

@@ -4,7 +4,7 @@ use Rattle.std.proofs.Common.{◌≡◌, ℕ, Bool, true, false, cond, List, [],
 use Rattle.std.proofs.Common.{◌⊎◌, inl, inr, refl, sym, ap, subst, ◌∙◌, arith}
 use Rattle.pkops.specs.Spelling.{Instruction}
 use Rattle.pkstack.specs.declared.Move.{Move}
-use Rattle.pkstack.specs.declared.Move.TheVariants.{Stores, StoresNext, Fetches, Passes}
+use Rattle.pkstack.specs.declared.Move.TheVariants.{Stores, StoresNext, Fetches, NoOp}
 use Rattle.pkmachine.specs.Effects.{Effect, Moves, effect_of}
 use Rattle.pkcheck.specs.Ends.{IsFree, SameEnd}
 use Rattle.pkmachine.specs.Runs.{State, Outcome, Stepped, WentOn, start, step, effect_asks}
@@ -127,7 +127,7 @@ record Unframed (q front : List Instruction) (j : Instruction) : Type 0 where
   same : (os : List Outcome) → run front os start ≡ run bare os start
 
 frame_moves : (is : List Instruction) (j : Instruction) → frame_around is ≡ j → IsMove j
-frame_moves is j same = (Passes, ap (λ k. effect_of k.op) (sym same))
+frame_moves is j same = (NoOp, ap (λ k. effect_of k.op) (sym same))
 
 unframed_by : (b : Bool) (i : Instruction) (is front : List Instruction) (j : Instruction)
     (back : List Instruction) → cond b (i ∷ frame_around is ∷ is) (frame_around (i ∷ is) ∷ i ∷ is)

@@ -11,7 +11,7 @@ use Rattle.pkops.specs.declared.Op.{Op}
 use Rattle.pkops.specs.declared.Op.TheVariants as op
 use Rattle.pkops.specs.Spelling.{Instruction}
 use Rattle.pkops.specs.Operands.{memo_number}
-use Rattle.pkstack.specs.declared.Move.TheVariants.{Stores, StoresNext, Fetches, Passes}
+use Rattle.pkstack.specs.declared.Move.TheVariants.{Stores, StoresNext, Fetches, NoOp}
 use Rattle.pkmachine.specs.Effects.{Effect, Moves, effect_of}
 use Rattle.pkcheck.specs.Ends.{IsFree, SameEnd}
 use Rattle.pkstack.specs.Shape.{Entry, Item, recalled, fetched}
@@ -47,7 +47,7 @@ same_more P (Some x) (Some y) m n h e = e
 same_more P a b m n h e = absurd h
 
 -- a frame passes
-pub frame_effect : (o : Op) → is_frame o ≡ true → effect_of o ≡ Moves Passes
+pub frame_effect : (o : Op) → is_frame o ≡ true → effect_of o ≡ Moves NoOp
 frame_effect op.Frame e = refl
 frame_effect o e = cc
 
