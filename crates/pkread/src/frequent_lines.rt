@@ -9,7 +9,7 @@ ghost use Rattle.pkops.specs.Table.{code_of};
 ghost use Rattle.pkops.specs.declared.Op.{Op};
 ghost use Rattle.pkops.specs.declared.Op.TheVariants as op;
 ghost use Rattle.pkops.specs.declared.Rule.TheVariants as rule;
-ghost use Rattle.pkread.specs.Private.Arms.{BeginsWithNumber, HasLine, IsFront};
+ghost use Rattle.pkread.specs.Private.Arms.{BeginsWithNumber, HasLine, IsInFront};
 
 use pkops::laws::{one_code, rules_are_computed};
 use pkops::lengths::SEARCHED;
@@ -37,7 +37,7 @@ pub(crate) fn frequent_line_length(code: u8, bytes: &[u8]) -> usize
     requires some { 0 < length bytes.now }
     requires code { code ≡ slice_index bytes.now 0 }
     ensures { (named : Op) (limits : Bounds) → code_of named ≡ code → result ≢ 0
-        → IsFront limits named 0 result bytes.now }
+        → IsInFront limits named result bytes.now }
 {
     one_code();
     if is_memo_code(code) {

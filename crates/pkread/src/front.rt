@@ -1,18 +1,19 @@
 //! The instruction at the front of the bytes that a source has at hand.
 
-ghost use Rattle.std.specs.Prelude.{◌≡◌, ◌≢◌, ◌<◌, ◌/◌, ◌%◌, IfSome, false, length, slice_index};
-ghost use Rattle.std.specs.Prelude.{true};
+ghost use Rattle.std.specs.Prelude.{◌≡◌, ◌≢◌, ◌<◌, ◌∷◌, ◌++◌, ℕ, IfSome, List, false, length};
+ghost use Rattle.std.specs.Prelude.{slice_index, true};
 ghost use Rattle.std.specs.Str.{IsUtf8};
 ghost use Rattle.pkops.specs.Inst.{instruction_of};
 ghost use Rattle.pkops.specs.Limits.{Bounds};
+ghost use Rattle.pkops.specs.KnownLayout.{Lies};
 ghost use Rattle.pkops.specs.Payloads.{payload_limit};
-ghost use Rattle.pkops.specs.Spelling.{layout_at};
+ghost use Rattle.pkops.specs.Spelling.{Argument, IsLine, layout_at, line_feed};
 ghost use Rattle.pkops.specs.declared.Layout.TheVariants as layout;
 ghost use Rattle.pkops.specs.Table.{code_of};
 ghost use Rattle.pkops.specs.declared.Op.{Op as SpecOp};
 ghost use Rattle.pkops.specs.declared.Op.TheVariants as op;
 ghost use Rattle.pkread.specs.AtHand.{IsLent};
-ghost use Rattle.pkread.specs.Private.Arms.{HasFixedLength, IsFront};
+ghost use Rattle.pkread.specs.Private.Arms.{HasFixedLength, IsFront, IsInFront};
 ghost use Rattle.pkread.specs.Private.Judgement.{is_plain};
 
 use crate::admission::{is_good, is_plain};
@@ -29,15 +30,6 @@ const SHORT_BYTES: u8 = 0x43;
 
 /// The code of BINUNICODE.
 const TEXT: u8 = 0x58;
-
-/// The code of GLOBAL.
-const GLOBAL: u8 = 0x63;
-
-/// The code of INST.
-const INST: u8 = 0x69;
-
-/// Above the length of any instruction of which only 257 bytes are searched.
-const ABOVE: usize = 512;
 
 /// An instruction at the front of some bytes. `split` is the length of the first of two lines,
 /// otherwise 0.
@@ -175,12 +167,6 @@ fn varying_front(code: u8, bytes: &[u8], limits: &Limits) -> Option<Front>
     ensures { IfSome result (λ front. IsFront limits.now front.op front.split front.length
         bytes.now) }
 {
-    if code == GLOBAL {
-        return pair_front(Op::Global, bytes);
-    }
-    if code == INST {
-        return pair_front(Op::Inst, bytes);
-    }
     let length = varying_length(code, bytes, limits);
     if length == 0 {
         return None;
@@ -188,31 +174,8 @@ fn varying_front(code: u8, bytes: &[u8], limits: &Limits) -> Option<Front>
     let Some(op) = op_of_byte(code) else {
         return None;
     };
-    Some(Front {
-        op,
-        split: 0,
-        length,
-    })
-}
-
-/// Like `varying_front`, for the opcodes with two lines.
-#[inline(always)]
-fn pair_front(op: Op, bytes: &[u8]) -> Option<Front>
-    requires some { 0 < length bytes.now }
-    requires code { code_of op ≡ slice_index bytes.now 0 }
-    requires lay { layout_at op ≡ layout.Pair 65536 }
-    ensures { (limits : Bounds) → IfSome result (λ front. IsFront limits front.op front.split
-        front.length bytes.now) }
-{
-    let both = pair_lengths(op, bytes);
-    if both == 0 {
-        return None;
-    }
-    Some(Front {
-        op,
-        split: both / ABOVE,
-        length: both % ABOVE,
-    })
+    let split = first_line(op, &bytes[..length]);
+    Some(Front { op, split, length })
 }
 
 /// The number of bytes of the instruction that the bytes begin with, if its argument varies in
@@ -223,7 +186,7 @@ fn varying_length(code: u8, bytes: &[u8], limits: &Limits) -> usize
     requires some { 0 < length bytes.now }
     requires code { code ≡ slice_index bytes.now 0 }
     ensures { (op : SpecOp) → code_of op ≡ code → result ≢ 0
-        → IsFront limits.now op 0 result bytes.now }
+        → IsInFront limits.now op result bytes.now }
 {
     one_code();
     if code == SHORT_TEXT {
@@ -245,7 +208,7 @@ fn other_length(code: u8, bytes: &[u8], limits: &Limits) -> usize
     requires some { 0 < length bytes.now }
     requires code { code ≡ slice_index bytes.now 0 }
     ensures { (op : SpecOp) → code_of op ≡ code → result ≢ 0
-        → IsFront limits.now op 0 result bytes.now }
+        → IsInFront limits.now op result bytes.now }
 {
     let line = frequent_line_length(code, bytes);
     if line != 0 {
@@ -260,7 +223,7 @@ fn rare_length(code: u8, bytes: &[u8], limits: &Limits) -> usize
     requires some { 0 < length bytes.now }
     requires code { code ≡ slice_index bytes.now 0 }
     ensures { (op : SpecOp) → code_of op ≡ code → result ≢ 0
-        → IsFront limits.now op 0 result bytes.now }
+        → IsInFront limits.now op result bytes.now }
 {
     one_code();
     let Some(op) = op_of_byte(code) else {
@@ -272,6 +235,7 @@ fn rare_length(code: u8, bytes: &[u8], limits: &Limits) -> usize
     match layout_of_op(op) {
         Layout::Counted(width, false) => counted_length(op, width, bytes, limits),
         Layout::Line(most) => line_length(op, most, bytes),
+        Layout::Pair(most) => pair_length(op, most, bytes),
         _ => 0,
     }
 }
@@ -280,7 +244,7 @@ fn rare_length(code: u8, bytes: &[u8], limits: &Limits) -> usize
 /// its protocol is unknown.
 fn proto_length(bytes: &[u8]) -> usize
     requires code { code_of op.Proto ≡ slice_index bytes.now 0 }
-    ensures { (limits : Bounds) → result ≢ 0 → IsFront limits op.Proto 0 result bytes.now }
+    ensures { (limits : Bounds) → result ≢ 0 → IsInFront limits op.Proto result bytes.now }
 {
     if bytes.len() < 2 || bytes[1] > HIGHEST_PROTOCOL {
         return 0;
@@ -307,7 +271,7 @@ fn counted_length(op: Op, width: Width, bytes: &[u8], limits: &Limits) -> usize
     requires some { 0 < length bytes.now }
     requires code { code_of op ≡ slice_index bytes.now 0 }
     requires lay { layout_at op ≡ layout.Counted width false }
-    ensures { result ≢ 0 → IsFront limits.now op 0 result bytes.now }
+    ensures { result ≢ 0 → IsInFront limits.now op result bytes.now }
 {
     growth();
     let Some((head, count)) = counted_head(width, bytes) else {
@@ -337,7 +301,7 @@ fn line_length(op: Op, most: usize, bytes: &[u8]) -> usize
     requires some { 0 < length bytes.now }
     requires code { code_of op ≡ slice_index bytes.now 0 }
     requires lay { layout_at op ≡ layout.Line most }
-    ensures { (limits : Bounds) → result ≢ 0 → IsFront limits op 0 result bytes.now }
+    ensures { (limits : Bounds) → result ≢ 0 → IsInFront limits op result bytes.now }
 {
     let line = &bytes[1..bytes.len().min(SEARCHED)];
     let Some(end) = end_of_line(line) else {
@@ -349,15 +313,12 @@ fn line_length(op: Op, most: usize, bytes: &[u8]) -> usize
     end + 2
 }
 
-/// Like `line_length`, for an instruction with two lines. The length of the first line stands above
-/// that of the instruction, in one number, because a pair would need a stack slot.
-#[inline(never)]
-fn pair_lengths(op: Op, bytes: &[u8]) -> usize
+/// Like `line_length`, for an instruction with two lines.
+fn pair_length(op: Op, most: usize, bytes: &[u8]) -> usize
     requires some { 0 < length bytes.now }
     requires code { code_of op ≡ slice_index bytes.now 0 }
-    requires lay { layout_at op ≡ layout.Pair 65536 }
-    ensures { (limits : Bounds) → result ≢ 0
-        → IsFront limits op (result / 512) (result % 512) bytes.now }
+    requires lay { layout_at op ≡ layout.Pair most }
+    ensures { (limits : Bounds) → result ≢ 0 → IsInFront limits op result bytes.now }
 {
     let lines = &bytes[1..bytes.len().min(SEARCHED)];
     let Some(first) = end_of_line(lines) else {
@@ -367,8 +328,38 @@ fn pair_lengths(op: Op, bytes: &[u8]) -> usize
     let Some(second) = end_of_line(line) else {
         return 0;
     };
+    if first > most || second > most {
+        return 0;
+    }
     if !is_good(op, Arg::Pair(&lines[..first], &line[..second])) {
         return 0;
     }
-    ABOVE * first + (first + second + 3)
+    first + second + 3
+}
+
+/// The length of the first of two lines of an instruction; 0 if it hasn't two.
+#[inline(always)]
+fn first_line(op: Op, bytes: &[u8]) -> usize
+    ensures { (limit : ℕ) (arg : Argument) (split : ℕ)
+        → Lies limit op arg split bytes.now → result ≡ split }
+{
+    match op {
+        Op::Global => first_line_slowly(bytes),
+        Op::Inst => first_line_slowly(bytes),
+        _ => 0,
+    }
+}
+
+#[inline(never)]
+fn first_line_slowly(bytes: &[u8]) -> usize
+    ensures { (code most : ℕ) (line behind : List ℕ) → IsLine most line
+        → bytes.now ≡ code ∷ (line ++ line_feed ∷ behind) → result ≡ length line }
+{
+    if bytes.len() == 0 {
+        return 0;
+    }
+    match end_of_line(&bytes[1..]) {
+        Some(end) => end,
+        None => 0,
+    }
 }

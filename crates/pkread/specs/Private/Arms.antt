@@ -1,6 +1,6 @@
 -- How the arms take the bytes of one instruction.
-use Rattle.std.specs.Prelude.{◌≡◌, ◌≢◌, ◌⊎◌, ℕ, ◌+◌, ◌<◌, ◌≤◌, List, [], ◌∷◌, ◌++◌, length, None}
-use Rattle.std.specs.Prelude.{Result, MatchResult, slice_index, take, true}
+use Rattle.std.specs.Prelude.{◌≡◌, ◌≢◌, ◌⊎◌, ℕ, ◌+◌, ◌<◌, ◌≤◌, List, [], ◌∷◌, ◌++◌, length}
+use Rattle.std.specs.Prelude.{None, Result, MatchResult, slice_index, take, true}
 use Rattle.std.specs.Char.{is_ascii_digit}
 use Rattle.std.specs.List.{AllByRecursion, list_all}
 use Rattle.std.specs.Io.KnownBytes.{IsAtEnd}
@@ -15,7 +15,9 @@ use Rattle.pkops.specs.Spelling.{line_feed, size_of}
 use Rattle.pkops.specs.Table.{code_of}
 use Rattle.pkops.specs.declared.Op.{Op}
 use Rattle.pkops.specs.declared.Rule.{Rule}
-use Rattle.pkops.specs.declared.Reason.TheVariants.{Source, Truncated, TooLarge, OutOfMemory}
+use Rattle.pkops.specs.declared.Reason.{Reason}
+use Rattle.pkops.specs.declared.Reason.TheVariants.{Source, Truncated, TooLarge}
+use Rattle.pkops.specs.declared.Reason.TheVariants.{OutOfMemory}
 use Rattle.pkread.specs.Admission.{objection}
 use Rattle.pkread.specs.Framing.{other}
 use Rattle.pkread.specs.Pieces.{role_of}
@@ -23,7 +25,7 @@ use Rattle.pkread.specs.Private.Judgement.{is_plain}
 use Rattle.pkread.specs.Private.Progress.{Intake}
 use Rattle.pkread.specs.Private.Reads.{LackRow, Took}
 use Rattle.pkread.specs.Pull.{AreAllBytes}
-use Rattle.pkread.specs.Rows.{Reason, Sight, Fails, FrontsBegin, IsAmiss, Refuses, Takes, all_bytes}
+use Rattle.pkread.specs.Rows.{Sight, Fails, FrontsBegin, IsAmiss, Refuses, Takes, all_bytes}
 use Rattle.pkread.specs.declared.arms.Count.{Count}
 use Rattle.pkread.specs.declared.gather.Found.{Found}
 
@@ -122,6 +124,10 @@ pub record IsFront (limits : Bounds) (op : Op) (split n : ℕ) (bytes : List ℕ
   pub found : IsFound (payload_limit limits op) (take n bytes) op split
   pub role : role_of op 0 ≡ other
   pub within : n ≤ length bytes
+
+-- like IsFront, wherever its first line ends
+abbrev pub IsInFront : Bounds → Op → ℕ → List ℕ → Type 0
+IsInFront limits op n bytes = (split : ℕ) × IsFront limits op split n bytes
 
 -- behind the code stand a line that obeys the rule, and its line feed: n bytes with the code
 pub record HasLine (rule : Rule) (n : ℕ) (bytes : List ℕ) : Type 0 where

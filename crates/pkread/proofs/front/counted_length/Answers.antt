@@ -1,5 +1,6 @@
 -- Count and payload lie within the bytes and the limit, so the instruction is there as a whole.
-use Rattle.std.proofs.Common.{ℕ, ◌+◌, ◌-◌, ap, refl, subst, arith, drop, take, IsUtf8}
+use Rattle.std.proofs.Common.{ℕ, ◌+◌, ◌-◌, ap, refl, subst, arith, drop, take}
+use Rattle.std.specs.Str.{IsUtf8}
 use Rattle.pkread.proofs.Bytes.Front.{counted_front}
 use Rattle.pkread.proofs.front.counted_length.Goals as goal
 
