@@ -58,6 +58,7 @@ impl<'a> Inst<'a> {
 
     /// The instruction with this opcode and an argument of its kind. `None` unless the contents of
     /// the argument obey the opcode's rule.
+    #[inline(always)]
     pub fn judged(op: Op, arg: Arg<'a>) -> Option<Inst<'a>>
         requires { Suits (layout_at op) (shown_arg arg) }
         ensures { SomeIff (option_map instruction_of result)
