@@ -3,13 +3,12 @@
 ghost use Rattle.std.specs.Prelude.{◌≡◌, ◌+◌, ◌-◌, ◌≤◌, ℕ, Some, length, take, drop, true};
 ghost use Rattle.std.specs.Str.Parse.{digits_value};
 ghost use Rattle.byteorder.specs.Endian.{little_number};
-ghost use Rattle.pkops.specs.Contents.{IsGood};
 ghost use Rattle.pkops.specs.Numerals.{IsMemoNumber};
 ghost use Rattle.pkops.specs.Operands.{names_bool_by, names_memo_entry, number_said};
 ghost use Rattle.pkops.specs.declared.op.Op.TheVariants as opcode;
-ghost use Rattle.pkops.specs.Spelling.{Argument, instruction, shown_arg, size_of};
-ghost use Rattle.pkops.specs.ArgumentIn.{HasArgument, OfArgument};
-ghost use Rattle.pkops.specs.KnownLayout.{Lies, count_in};
+ghost use Rattle.pkops.specs.Spelling.{shown_arg, size_of};
+ghost use Rattle.pkops.specs.ArgumentIn.{HasArgument, HasGoodArgument, OfArgument};
+ghost use Rattle.pkops.specs.KnownLayout.{count_in};
 
 use crate::arg::Arg;
 use crate::contents::numeral::{is_bool_line, number_of, value_of};
@@ -69,10 +68,9 @@ fn argument_of_slowly<'a>(op: Op, split: usize, bytes: &'a [u8]) -> Arg<'a>
 #[inline(always)]
 pub fn memo_number_behind(op: Op, bytes: &[u8]) -> u32
     requires names { names_memo_entry op ≡ true }
-    requires lies { (limit split : ℕ) × (arg : Argument)
-        × Lies limit op arg split bytes.now × IsGood (instruction op arg) }
-    ensures { (limit split : ℕ) (arg : Argument) →
-        Lies limit op arg split bytes.now → number_said arg ≡ Some result }
+    requires good { (split : ℕ) × HasGoodArgument op split bytes.now }
+    ensures { (split : ℕ) →
+        OfArgument op split bytes.now (λ arg. number_said arg ≡ Some result) }
 {
     match op {
         Op::BinGet | Op::BinPut => u32::from(bytes[1]),
@@ -84,9 +82,9 @@ pub fn memo_number_behind(op: Op, bytes: &[u8]) -> u32
 /// Whether the line of an INT spells a bool.
 #[inline(always)]
 pub fn is_bool_behind(bytes: &[u8]) -> bool
-    requires { (limit split : ℕ) × (arg : Argument) × Lies limit opcode.Int arg split bytes.now }
-    ensures { (limit split : ℕ) (arg : Argument) →
-        Lies limit opcode.Int arg split bytes.now → result ≡ names_bool_by opcode.Int arg }
+    requires { (split : ℕ) × HasArgument opcode.Int split bytes.now }
+    ensures { (split : ℕ) → OfArgument opcode.Int split bytes.now
+        (λ arg. result ≡ names_bool_by opcode.Int arg) }
 {
     is_bool_line(between(1, bytes.len() - 1, bytes))
 }

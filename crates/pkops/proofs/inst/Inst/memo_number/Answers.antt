@@ -13,12 +13,12 @@ memo_number_in-requires-clause-good c =
     subst (λ x. IsGood (instruction c.args.self.now.op (argument_in c.args.self.now.op x)))
     c.in-Made.is (had_good _ c.args.self.now.good)
 
-pub memo_number_behind-requires-clause-lies : goal.memo_number_behind-requires-clause-lies
-memo_number_behind-requires-clause-lies c =
+pub memo_number_behind-requires-clause-good : goal.memo_number_behind-requires-clause-good
+memo_number_behind-requires-clause-good c =
     let h = form_held c.args.self.now.op c.args.self.now.form c.in-Spelled.field-0
     c.in-Spelled.bytes c.in-Spelled.is (had_good _ c.args.self.now.good) c.args.self.now.spelled
     c.args.self.now.split in
-    (h.limit, c.in-Spelled.field-0, h.arg, h.lies, h.good)
+    (c.in-Spelled.field-0, (h.limit, h.arg, h.lies, h.good))
 
 pub returns-in-Spelled : goal.returns-in-Spelled
 returns-in-Spelled c =
@@ -29,5 +29,5 @@ returns-in-Spelled c =
     (instruction c.args.self.now.op (argument_in c.args.self.now.op c.args.self.now.form))
     ≡ number_said (argument_in c.args.self.now.op c.args.self.now.form) =
     rw (sym c.if-not-names_memo_entry.ensures) refl in
-    sym (said ∙ ap number_said h.is ∙ c.memo_number_behind.ensures h.limit c.in-Spelled.field-0
+    sym (said ∙ ap number_said h.is ∙ c.memo_number_behind.ensures c.in-Spelled.field-0 h.limit
     h.arg h.lies)

@@ -12,21 +12,18 @@ pub is_bool_behind-requires : goal.is_bool_behind-requires
 is_bool_behind-requires c =
     let h = form_held c.args.self.now.op c.args.self.now.form c.in-Spelled.field-0
     c.in-Spelled.bytes c.in-Spelled.is (had_good _ c.args.self.now.good) c.args.self.now.spelled
-    c.args.self.now.split in (
-      h.limit,
-      c.in-Spelled.field-0,
-      h.arg,
-      subst
-          (λ o. Lies h.limit o h.arg c.in-Spelled.field-0 c.in-Spelled.bytes.now)
-          c.if-not-is_int.ensures h.lies,
-    )
+    c.args.self.now.split in
+    let lies =
+    subst (λ o. Lies h.limit o h.arg c.in-Spelled.field-0 c.in-Spelled.bytes.now)
+    c.if-not-is_int.ensures h.lies in
+    (c.in-Spelled.field-0, (h.limit, h.arg, lies))
 
 pub returns-in-Spelled : goal.returns-in-Spelled
 returns-in-Spelled c =
     let h = form_held c.args.self.now.op c.args.self.now.form c.in-Spelled.field-0
     c.in-Spelled.bytes c.in-Spelled.is (had_good _ c.args.self.now.good) c.args.self.now.spelled
     c.args.self.now.split in
-    c.is_bool_behind.ensures h.limit c.in-Spelled.field-0 h.arg
+    c.is_bool_behind.ensures c.in-Spelled.field-0 h.limit h.arg
     (subst (λ o. Lies h.limit o h.arg c.in-Spelled.field-0 c.in-Spelled.bytes.now)
     c.if-not-is_int.ensures h.lies)
     ∙ ap (names_bool_by op.Int) (sym h.is)
