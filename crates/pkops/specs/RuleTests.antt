@@ -47,13 +47,13 @@ is_int_line line = is_bool_line line || is_numeral line
 abbrev pub ends_in_l : List ℕ → Bool
 ends_in_l line = nat_lt 0 (length line) && (slice_index line (length line - 1) == 76)
 
--- a numeral followed by an L
-abbrev pub is_marked_numeral : List ℕ → Bool
-is_marked_numeral line = ends_in_l line && is_numeral (take (length line - 1) line)
+-- the line without an L at its end
+abbrev pub unmarked : List ℕ → List ℕ
+unmarked line = if ends_in_l line then take (length line - 1) line else line
 
 -- a numeral, with or without an L
 abbrev pub is_long_line : List ℕ → Bool
-is_long_line line = is_numeral line || is_marked_numeral line
+is_long_line line = is_numeral (unmarked line)
 
 -- a natural number that 32 bits hold
 abbrev pub is_memo_number : List ℕ → Bool

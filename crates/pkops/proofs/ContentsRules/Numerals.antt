@@ -1,7 +1,9 @@
 -- The tests of numerals hold exactly of the numerals.
 use Rattle.std.proofs.Common.{◌≡◌, ℕ, suc, ◌+◌, ◌*◌, ◌-◌, ◌^◌, ◌<◌, Bool, true, false, ◌||◌, eqb}
 use Rattle.std.proofs.Common.{leb, List, [], ◌∷◌, ◌++◌, length, take, drop, get_or, refl, sym, ap}
-use Rattle.std.proofs.Common.{subst, ◌∙◌, arith, inl, inr, codes, take_at, length-append}
+use Rattle.std.proofs.Common.{subst, ◌∙◌, arith, inl, inr, codes, take_at, length-append, ◌≢◌, ◌==◌}
+use Rattle.std.proofs.Common.{if◌then◌else◌}
+use Rattle.std.proofs.lemmas.Bool.Decides.{nat_tests}
 use Rattle.std.specs.Char.{digit_value, is_ascii_digit}
 use Rattle.std.specs.List.{list_all}
 use Rattle.std.specs.Str.Parse.{AllDigits, digits_value}
@@ -16,8 +18,7 @@ use Rattle.std.proofs.Math.Seq.{get_or-append_seam}
 use Rattle.pkops.specs.Numerals.{is_bool_line, IsPositive, IsNatural, IsNumeral, IsIntLine}
 use Rattle.pkops.specs.Numerals.{IsLongLine, IsMemoNumber}
 use Rattle.pkops.specs.RuleTests.{is_zero, is_positive, is_natural, is_negative, is_numeral}
-use Rattle.pkops.specs.RuleTests.{is_int_line, ends_in_l, is_marked_numeral, is_long_line}
-use Rattle.pkops.specs.RuleTests.{is_memo_number}
+use Rattle.pkops.specs.RuleTests.{is_int_line, ends_in_l, unmarked, is_long_line, is_memo_number}
 
 pub or_left : (a b : Bool) → a ≡ true → (a || b) ≡ true
 or_left a b e = rw e refl
@@ -89,39 +90,63 @@ marked (a ∷ b ∷ rest) some e =
     let last = sym (ap (λ (n : ℕ). get_or (a ∷ b ∷ rest) n 0) i) ∙ e in
     rw i (ap (λ (t : List ℕ). a ∷ t) (marked (b ∷ rest) (omega arith) last))
 
-pub long_is : (line : List ℕ) → is_long_line line ≡ true → IsLongLine line
-long_is line e = elim (or_cases (is_numeral line) (is_marked_numeral line) e) [
-  | inl n ↦ inl (numeral_is line n)
-  | inr m ↦
-      let p = and_parts (ends_in_l line) _ m in
-      let q = and_parts _ (eqb (get_or line (length line - 1) 0) 76) p.0 in
-      inr (
-        take (length line - 1) line,
-        numeral_is _ p.1,
-        marked line (ltb-true 0 (length line) q.0) (eqb-true _ 76 q.1),
-      )
-]
+long_by : (line : List ℕ) (marks : Bool) → ends_in_l line ≡ marks
+    → is_numeral (if marks then take (length line - 1) line else line) ≡ true → IsLongLine line
+long_by line true m e =
+    let q = and_parts _ (eqb (get_or line (length line - 1) 0) 76) m in
+    inr (
+      take (length line - 1) line,
+      numeral_is _ e,
+      marked line (ltb-true 0 (length line) q.0) (eqb-true _ 76 q.1),
+    )
+long_by line false m e = inl (numeral_is line e)
 
-is_marked_of : (numeral : List ℕ) → IsNumeral numeral
-    → is_marked_numeral (numeral ++ 76 ∷ []) ≡ true
-is_marked_of numeral n =
+pub long_is : (line : List ℕ) → is_long_line line ≡ true → IsLongLine line
+long_is line e = long_by line (ends_in_l line) refl e
+
+-- the last of some digits, or what stands alone before them, is no L
+last_digit : (x : ℕ) (rest : List ℕ) → x ≢ 76 → list_all is_ascii_digit rest ≡ true
+    → get_or (x ∷ rest) (length rest) 0 ≢ 76
+last_digit x [] other digits is = other is
+last_digit x (y ∷ rest) other digits is =
+    let p = and_parts (is_ascii_digit y) _ digits in
+    last_digit y rest (λ e. let digit = rw e at p.0 in cc) p.1 is
+
+unmarked_last : (x : ℕ) (rest : List ℕ) → get_or (x ∷ rest) (length rest) 0 ≢ 76
+    → unmarked (x ∷ rest) ≡ x ∷ rest
+unmarked_last x rest other =
+    let i : length (x ∷ rest) - 1 ≡ length rest = omega arith in
+    let no : (get_or (x ∷ rest) (length rest) 0 == 76) ≡ false = grind (arith, nat_tests, other) in
+    rw (i, no, lt-ltb 0 (length (x ∷ rest)) (omega arith)) refl
+
+positive_last : (digits : List ℕ) (p : IsPositive digits)
+    → get_or (p.0 ∷ p.1) (length p.1) 0 ≢ 76
+positive_last digits (first, rest, nonzero, behind, e) =
+    last_digit first rest (λ is. let digit = rw is at nonzero in cc)
+    (list_all-from_AllPass is_ascii_digit rest behind)
+
+-- so no numeral ends in one
+numeral_unmarked : (line : List ℕ) → IsNumeral line → unmarked line ≡ line
+numeral_unmarked line (inl (inl e)) = ap unmarked e ∙ sym e
+numeral_unmarked line (inl (inr p)) =
+    let e = p.4 in ap unmarked e ∙ unmarked_last p.0 p.1 (positive_last line p) ∙ sym e
+numeral_unmarked line (inr (digits, p, e)) =
+    let is : line ≡ 45 ∷ p.0 ∷ p.1 = e ∙ ap (λ (d : List ℕ). 45 ∷ d) p.4 in
+    ap unmarked is ∙ unmarked_last 45 (p.0 ∷ p.1) (positive_last digits p) ∙ sym is
+
+unmarked_of : (numeral : List ℕ) → unmarked (numeral ++ 76 ∷ []) ≡ numeral
+unmarked_of numeral =
     let len : length (numeral ++ 76 ∷ []) ≡ length numeral + 1 = length-append numeral (76 ∷ []) in
     let before : length (numeral ++ 76 ∷ []) - 1 ≡ length numeral = omega (arith, len) in
     let some : 0 < length (numeral ++ 76 ∷ []) = omega (arith, len) in
     let last : get_or (numeral ++ 76 ∷ []) (length numeral) 0 ≡ 76 =
     get_or-append_seam numeral 76 [] 0 in
-    rw (
-      lt-ltb 0 _ some,
-      before,
-      last,
-      take_at numeral (76 ∷ []) (length numeral) refl,
-      is_numeral_of numeral n,
-    ) refl
+    rw (lt-ltb 0 _ some, before, last) (take_at numeral (76 ∷ []) (length numeral) refl)
 
 pub is_long_of : (line : List ℕ) → IsLongLine line → is_long_line line ≡ true
-is_long_of line (inl n) = or_left (is_numeral line) _ (is_numeral_of line n)
-is_long_of line (inr (numeral, n, e)) = or_right (is_numeral line) _
-    (ap is_marked_numeral e ∙ is_marked_of numeral n)
+is_long_of line (inl n) = ap is_numeral (numeral_unmarked line n) ∙ is_numeral_of line n
+is_long_of line (inr (numeral, n, e)) =
+    ap is_long_line e ∙ ap is_numeral (unmarked_of numeral) ∙ is_numeral_of numeral n
 
 pub memo_number_is : (line : List ℕ) → is_memo_number line ≡ true → IsMemoNumber line
 memo_number_is line e =
