@@ -5,8 +5,10 @@
 //! in trees.
 #![tactic(auto)]
 
+mod byte_vec;
 mod numbered_map;
 mod stack_vec;
 
+pub use byte_vec::{ByteVec, SHORT};
 pub use numbered_map::{NotStored, NumberedMap};
 pub use stack_vec::StackVec;

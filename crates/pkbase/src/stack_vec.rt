@@ -147,6 +147,7 @@ const STEP: usize = 32;
 
 /// Lengthens a store. The new entry is not a parameter: the compiler would then keep it in memory
 /// even on the path without the call.
+#[cold]
 #[inline(never)]
 fn lengthen<T: Copy + Drop>(store: &mut Vec<T>, filler: T) -> Result<(), AllocError>
     ensures ok { OnOk result (length store.old.items < length store.new.items) }

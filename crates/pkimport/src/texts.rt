@@ -3,19 +3,16 @@ ghost use Rattle.std.specs.Prelude.{◌≡◌, [], ◌∷◌, ◌++◌, ◌<◌,
 ghost use Rattle.std.specs.Prelude.{OnErr, OnOk};
 ghost use Rattle.std.specs.Str.{IsUtf8};
 
-use pkbase::StackVec;
+use pkbase::{ByteVec, StackVec};
 use std::alloc::{AllocError, Global};
 use std::marker::Model;
-
-/// The size of the first allocation in bytes. A short pickle needs no second one.
-const FIRST: usize = 512;
 
 /// The texts that a pickle makes, in order, one after the other in one buffer. Equal texts are not
 /// shared.
 #[derive(Debug, Drop)]
 pub struct Texts {
     /// The texts in UTF-8.
-    bytes: Vec<u8>,
+    bytes: ByteVec,
     /// The offset at which each text ends.
     ends: StackVec<usize>,
 }
@@ -26,10 +23,9 @@ impl Model for Texts {
 
     ghost Value = { List (List ℕ) };
 
-    ghost view = { λ t. cut 0 t.ends t.bytes.items };
+    ghost view = { λ t. cut 0 t.ends t.bytes };
 
-    ghost invariant = { λ t. AreJoined
-        (cut 0 t.ends t.bytes.items) t.ends t.bytes.items };
+    ghost invariant = { λ t. AreJoined (cut 0 t.ends t.bytes) t.ends t.bytes };
 }
 
 impl Texts {
@@ -38,7 +34,7 @@ impl Texts {
         ensures { result ≡ [] }
     {
         Texts {
-            bytes: Vec::new(alloc),
+            bytes: ByteVec::new(alloc),
             ends: StackVec::new(alloc, 0),
         }
     }
@@ -70,7 +66,7 @@ impl Texts {
         let start = start_of(ends, number);
         let end = end_of(ends, number);
         // Only UTF-8 was appended, which the proof shows, so this doesn't validate it again.
-        unsafe { str::from_utf8_unchecked(piece(&self.bytes, start, end)) }
+        unsafe { str::from_utf8_unchecked(piece(self.bytes.bytes(), start, end)) }
     }
 
     /// Appends a text, given as UTF-8.
@@ -81,8 +77,7 @@ impl Texts {
         ensures err { OnErr result (self.new ≡ self.old) }
     {
         let before = self.bytes.len();
-        begin(&mut self.bytes)?;
-        self.bytes.extend_from_slice(text)?;
+        self.bytes.push(text)?;
         let Ok(()) = self.ends.push(self.bytes.len()) else {
             self.bytes.truncate(before);
             return Err(AllocError);
@@ -97,17 +92,6 @@ impl Texts {
     {
         self.push(text.as_bytes())
     }
-}
-
-/// Makes the first allocation of an empty vector.
-#[inline]
-fn begin(bytes: &mut Vec<u8>) -> Result<(), AllocError>
-    ensures { bytes.new.items ≡ bytes.old.items }
-{
-    if bytes.is_empty() {
-        return bytes.reserve(FIRST);
-    }
-    Ok(())
 }
 
 /// The offset at which a text begins.

@@ -14,6 +14,7 @@ use crate::config::MachineConfig;
 use crate::packed::PackedValue;
 use crate::spelled_text::text_spelled;
 use crate::stack::Stack;
+use pkbase::SHORT;
 use pkimport::ImportTable;
 use pkops::laws::{plain_line_is_text, text_is_named};
 use pkops::{Arg, Inst, Limits, Op, Reason, is_ascii, spells_itself};
@@ -43,9 +44,47 @@ impl From<NotPushed> for Reason {
     }
 }
 
-/// Adds a text to the table, and pushes its number.
+/// Adds a text to the table, and pushes its number. A short one, the most frequent, is copied
+/// without a call, so nothing is kept for one here.
 #[inline(never)]
 fn name_text(
+    stack: &mut Stack,
+    table: &mut ImportTable,
+    limits: &Limits,
+    text: &[u8],
+) -> Result<(), NotPushed>
+    requires utf8 { IsUtf8 text.now }
+    requires sees { AreSeen (record { entries = stack.old; table = table.old }) }
+    ensures { HasPushedText limits.now.stack text.now
+        (record { entries = stack.old; table = table.old })
+        (record { entries = stack.new; table = table.new }) (with_reason result) }
+{
+    if text.len() > SHORT {
+        return name_long_text(stack, table, limits, text);
+    }
+    push_text(stack, table, limits, text)
+}
+
+/// `name_text` of a text that may be long.
+#[inline(never)]
+fn name_long_text(
+    stack: &mut Stack,
+    table: &mut ImportTable,
+    limits: &Limits,
+    text: &[u8],
+) -> Result<(), NotPushed>
+    requires utf8 { IsUtf8 text.now }
+    requires sees { AreSeen (record { entries = stack.old; table = table.old }) }
+    ensures { HasPushedText limits.now.stack text.now
+        (record { entries = stack.old; table = table.old })
+        (record { entries = stack.new; table = table.new }) (with_reason result) }
+{
+    push_text(stack, table, limits, text)
+}
+
+/// `name_text`, inlined.
+#[inline(always)]
+fn push_text(
     stack: &mut Stack,
     table: &mut ImportTable,
     limits: &Limits,

@@ -15,28 +15,46 @@ pub fn is_name(line: &[u8]) -> bool
 /// How many bytes of a long text are tested at a time.
 const BLOCK: usize = 32;
 
+/// The length up to which a text is tested without a loop.
+pub const SHORT: usize = 64;
+
 /// Whether each byte is ASCII.
+#[inline(always)]
 pub fn is_ascii(bytes: &[u8]) -> bool
     ensures { result ≡ list_all is_ascii bytes.now }
 {
+    if bytes.len() <= SHORT {
+        return is_short_ascii(bytes);
+    }
+    is_long_ascii(bytes)
+}
+
+/// `is_ascii` of a text that may be long.
+#[inline(never)]
+fn is_long_ascii(bytes: &[u8]) -> bool
+    ensures { result ≡ list_all is_ascii bytes.now }
+{
     let mut rest = bytes;
-    'blocks: while rest.len() > BLOCK {
+    'blocks: while rest.len() > SHORT {
         if !are_ascii(&rest[..BLOCK]) {
             return false;
         }
         rest = &rest[BLOCK..];
     }
-    is_ascii_block(rest)
+    is_short_ascii(rest)
 }
 
-/// Whether each of these bytes is ASCII, which at most `BLOCK` are. The compiler tests as many at a
+/// Whether each of these bytes is ASCII, which at most `SHORT` are. The compiler tests as many at a
 /// time as it knows that there are, so a text is tested as two pieces of a known length, which may
 /// overlap.
 #[inline(always)]
-fn is_ascii_block(bytes: &[u8]) -> bool
-    requires { length bytes.now ≤ 32 }
+pub fn is_short_ascii(bytes: &[u8]) -> bool
+    requires { length bytes.now ≤ 64 }
     ensures { result ≡ list_all is_ascii bytes.now }
 {
+    if bytes.len() >= 32 {
+        return are_ends_ascii(bytes, 32);
+    }
     if bytes.len() >= 16 {
         return are_ends_ascii(bytes, 16);
     }

@@ -5,6 +5,6 @@ use Rattle.pkimport.proofs.texts.Texts.len.Goals as goal
 
 pub returns : goal.returns
 returns c =
-    let many = how_many _ c.self.inside.ends c.self.inside.bytes.items c.self.invariant in
+    let many = how_many _ c.self.inside.ends c.self.inside.bytes c.self.invariant in
     let same = ap length c.self.view_is in
     omega (arith, c.len.ensures.value, many, same)

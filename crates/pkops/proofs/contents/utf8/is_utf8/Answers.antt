@@ -4,6 +4,6 @@ use Rattle.std.proofs.lemmas.Str.{IsUtf8-from_ascii}
 use Rattle.pkops.proofs.ContentsRules.Names.{ascii_is}
 use Rattle.pkops.proofs.contents.utf8.is_utf8.Goals as goal
 
-pub returns-then-is_ascii : goal.returns-then-is_ascii
-returns-then-is_ascii c =
-    IsUtf8-from_ascii c.args.bytes.now (ascii_is c.args.bytes.now (sym c.if-is_ascii.ensures))
+pub returns-then-is_short_ascii : goal.returns-then-is_short_ascii
+returns-then-is_short_ascii c =
+    IsUtf8-from_ascii c.args.bytes.now (ascii_is c.args.bytes.now (sym c.if-is_short_ascii.ensures))

@@ -4,7 +4,7 @@ use Rattle.std.specs.List.{list_all}
 use Rattle.std.specs.Char.{is_ascii}
 use Rattle.std.proofs.lemmas.List.{length-take-le, take_rest}
 use Rattle.pkops.proofs.ContentsRules.EachByte.{all_of_parts}
-use Rattle.pkops.proofs.contents.name.is_ascii.Goals as goal
+use Rattle.pkops.proofs.contents.name.is_long_ascii.Goals as goal
 
 pub slice_bounds-are_ascii-end : goal.slice_bounds-are_ascii-end
 slice_bounds-are_ascii-end c =
@@ -26,4 +26,4 @@ blocks-2-preserved c =
     ∙ ap (list_all is_ascii) (sym (take_rest rest 32))
 
 pub returns : goal.returns
-returns c = c.is_ascii_block.ensures ∙ sym c.blocks-2.invariant
+returns c = c.is_short_ascii.ensures ∙ sym c.blocks-2.invariant

@@ -1,7 +1,7 @@
 -- The number pushed is that of the text appended to the table; all else is as it was.
 use Rattle.std.proofs.Common.{[], ◌∷◌, arith, length-append, refl}
 use Rattle.pkmachine.proofs.ResolvedEntries.{text_seen, text_sees}
-use Rattle.pkmachine.proofs.new_text.name_text.Goals as goal
+use Rattle.pkmachine.proofs.new_text.push_text.Goals as goal
 
 pub returns : goal.returns
 returns c =
