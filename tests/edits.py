@@ -35,6 +35,8 @@ CHECK = 5 << 30
 UNREAD = re.compile(r"(\./)?(src|specs)/\S+:\d+:\d+: error")
 REFUSAL = re.compile(r"(note: )?\S+:\d+:\d+: (error|.*not proved)")
 UNPROVED = re.compile(r"fn \S+: (?!proved|no holes)")
+# How `rt ci` says that a crate is done.
+PROVED = re.compile(r"rt: \w+ proved")
 
 
 class Edit(NamedTuple):
@@ -206,17 +208,40 @@ def try_in_turn(edits: Sequence[Edit]) -> List[Tuple[bool, str]]:
         return tried
 
 
-def try_all(edits: Sequence[Edit]) -> int:
-    """Tries edits, several crates side by side, and returns how many of them aren't refused."""
-    crates = sorted({edit.crate for edit in edits})
-    of_crate = [[edit for edit in edits if edit.crate == it] for it in crates]
-    of_crate.sort(key=len, reverse=True)
-    with concurrent.futures.ThreadPoolExecutor(lanes()) as pool:
-        tried = [it for several in pool.map(try_in_turn, of_crate) for it in several]
-    faults = [name for refused, name in tried if not refused]
-    for name in faults:
-        print(f"failed: {name}")
-    return len(faults)
+class Trials:
+    """Tries edits, several crates side by side."""
+
+    def __init__(self, edits: Sequence[Edit]) -> None:
+        crates = sorted({edit.crate for edit in edits})
+        of_crate = [[edit for edit in edits if edit.crate == it] for it in crates]
+        self.groups = sorted(of_crate, key=len)
+        self.pool = concurrent.futures.ThreadPoolExecutor(lanes())
+        self.running: List["concurrent.futures.Future[List[Tuple[bool, str]]]"] = []
+
+    def open(self, count: int) -> None:
+        """Opens more lanes, up to this many."""
+        for _ in range(count - len(self.running)):
+            self.running.append(self.pool.submit(self.try_groups))
+
+    def try_groups(self) -> List[Tuple[bool, str]]:
+        """Tries the edits of one crate after the other, until no crate is left."""
+        tried: List[Tuple[bool, str]] = []
+        while True:
+            try:
+                edits = self.groups.pop()
+            except IndexError:
+                return tried
+            tried += try_in_turn(edits)
+
+    def end(self) -> int:
+        """Waits for all, and returns how many edits aren't refused."""
+        self.open(lanes())
+        tried = [it for lane in self.running for it in lane.result()]
+        self.pool.shutdown()
+        faults = [name for refused, name in tried if not refused]
+        for name in faults:
+            print(f"failed: {name}")
+        return len(faults)
 
 
 @contextlib.contextmanager
@@ -234,9 +259,12 @@ def without_edits() -> Iterator[None]:
                     shutil.move(pathlib.Path(aside) / folder.parent.name, folder)
 
 
-def prove_all() -> Tuple[int, int]:
-    """Runs `rt ci`, and returns how much passed and how much failed."""
+def prove_all(trials: Trials) -> Tuple[int, int]:
+    """Runs `rt ci`, and returns how much passed and how much failed. While it is at its last crate,
+    which takes one processor and long, the others try edits.
+    """
     last = ""
+    proved = 0
     how = {"RT_JOBS": str(lanes()), **os.environ}
     with without_edits(), subprocess.Popen(
         ["rt", "ci"], cwd=ROOT, env=how, stdout=subprocess.PIPE, encoding="utf-8", errors="replace"
@@ -245,18 +273,24 @@ def prove_all() -> Tuple[int, int]:
         for line in running.stdout:
             print(line, end="", flush=True)
             last = line
+            proved += bool(PROVED.fullmatch(line.rstrip()))
+            if proved == len(own_libraries()) - 1:
+                trials.open(lanes() - 1)
     counts = re.match(r"(\d+) passed, (\d+) failed", last)
     passed, failed = map(int, counts.groups()) if counts else (0, 1)
     return passed, failed or int(running.returncode != 0)
 
 
 def gate() -> int:
-    passed, failed = prove_all()
     edits = edits_in("must-fail") + chosen()
+    trials = Trials(edits)
+    passed, failed = prove_all(trials)
     if failed:
-        print("the edits are not tried: what they edit is not proved")
+        print("no more edits are tried: what they edit is not proved")
+        trials.groups.clear()
+        trials.end()
     else:
-        failed = try_all(edits)
+        failed = trials.end()
         passed += len(edits) - failed
     print(f"{passed} passed, {failed} failed")
     return 1 if failed else 0
@@ -264,7 +298,7 @@ def gate() -> int:
 
 def try_those_of(crates: Sequence[str]) -> int:
     edits = [it for it in edits_in("must-fail") + edits_in("edits") if it.crate in crates]
-    failed = try_all(edits)
+    failed = Trials(edits).end()
     print(f"{len(edits) - failed} passed, {failed} failed")
     return 1 if failed else 0
 
