@@ -1,7 +1,7 @@
 //! The frames and the machine of one check, which judge one instruction at a time.
 
-ghost use Rattle.std.specs.Prelude.{◌≡◌, ◌+◌, ◌<◌, ◌≤◌, IfErr, IfOk, IsTrue, MatchResult, None};
-ghost use Rattle.std.specs.Prelude.{OnErr, OnOk, drop, false, length, true};
+ghost use Rattle.std.specs.Prelude.{◌≡◌, ◌+◌, ◌<◌, ◌≤◌, ◌∷◌, IfErr, IfOk, IsTrue, MatchResult};
+ghost use Rattle.std.specs.Prelude.{[], None, OnErr, OnOk, drop, false, length, true};
 ghost use Rattle.pkops.specs.Admitted.{is_admitted};
 ghost use Rattle.pkops.specs.Inst.{instruction_of};
 ghost use Rattle.pkops.specs.Payloads.{is_passed};
@@ -10,15 +10,12 @@ ghost use Rattle.pkread.specs.Core.{Open};
 ghost use Rattle.pkread.specs.Pieces.{number_of, role_of};
 ghost use Rattle.pkread.specs.ReaderCalls.{KeepsSource, TakesNoneAhead, has_ended, state};
 ghost use Rattle.pkread.specs.Rows.{all_bytes};
-ghost use Rattle.pkmachine.specs.Covers.{Covers};
 ghost use Rattle.pkmachine.specs.Policies.{permit_of};
 ghost use Rattle.pkcheck.specs.Private.Judgement.{BothGoOn, HasLength, IsNoAt, IsRefused};
 ghost use Rattle.pkcheck.specs.Private.Lent.{FailsAtHand, FailsInTurn, HearsAlong, HearsInTurn};
-ghost use Rattle.pkcheck.specs.Private.Lent.{HearsRefused, HearsTurned};
+ghost use Rattle.pkcheck.specs.Private.Lent.{HearsRefused, HearsTurned, heard_before};
 ghost use Rattle.pkmachine.specs.View.{moved_apart, restarted};
 ghost use Rattle.pkcheck.specs.Private.Turns.{FailsNext, HearsNext, RefusesNext};
-ghost use Rattle.pkmachine.specs.Runs.{State};
-ghost use Rattle.pkstack.specs.Shape.{marks_of};
 ghost use Rattle.pkmachine.specs.View.{fresh};
 
 use crate::audience::{Audience, tell_lent};
@@ -196,77 +193,19 @@ impl Session {
             (state R.left R.failures reader.old) (state R.left R.failures reader.new) self.old) }
     {
         if A::holds() {
-            return self.hear_held(reader, policy, audience);
-        }
-        self.hear_head(reader, policy, audience)
-    }
-
-    /// As `hear_next`, for an instruction with its payload.
-    #[inline(always)]
-    fn hear_held<R: Source, A: Audience>(
-        &mut self,
-        reader: &mut Reader<'_, R>,
-        policy: &Permit<'_>,
-        audience: &mut A,
-    ) -> Result<Result<(), Refusal>, A::Error>
-        requires ready { (state R.left R.failures reader.old).phase ≡ Open }
-        requires running { self.old.machine.stopped ≡ false }
-        requires well { self.old.machine.refused ≡ None }
-        ensures source { KeepsSource reader.old reader.new }
-        ensures none { TakesNoneAhead reader.new }
-        ensures ok { IfOk result (λ judged. OnOk judged (HearsNext true A.hears audience.old
-            audience.new (permit_of policy.now) (state R.left R.failures reader.old)
-            (state R.left R.failures reader.new) self.old self.new)) }
-        ensures no { IfOk result (λ judged. IfErr judged (RefusesNext true A.hears audience.old
-            audience.new (permit_of policy.now) (state R.left R.failures reader.old)
-            (state R.left R.failures reader.new) self.old self.new.machine)) }
-        ensures err { IfErr result (FailsNext true A.fails audience.old audience.new
-            (state R.left R.failures reader.old) (state R.left R.failures reader.new) self.old) }
-    {
-        match reader.next() {
-            Err(refusal) => return Ok(Err(refusal)),
-            Ok(Next::Ended) => unreachable!(),
-            Ok(Next::Inst { at, inst }) => {
-                if let Err(error) = audience.tell(at, &inst, self.marks()) {
-                    return Err(error);
-                }
-                if let Err(reason) = self.judge(&inst, policy) {
-                    return Ok(Err(Refusal { at, reason }));
-                }
-                return Ok(Ok(()));
+            match reader.next() {
+                Err(refusal) => return Ok(Err(refusal)),
+                Ok(Next::Ended) => unreachable!(),
+                Ok(Next::Inst { at, inst }) => return self.hear_one(at, &inst, policy, audience),
             }
         }
-    }
-
-    /// As `hear_next`, for an instruction whose payload is skipped if it has one of plain bytes.
-    #[inline(always)]
-    fn hear_head<R: Source, A: Audience>(
-        &mut self,
-        reader: &mut Reader<'_, R>,
-        policy: &Permit<'_>,
-        audience: &mut A,
-    ) -> Result<Result<(), Refusal>, A::Error>
-        requires skips { A.holding ≡ false }
-        requires ready { (state R.left R.failures reader.old).phase ≡ Open }
-        requires running { self.old.machine.stopped ≡ false }
-        requires well { self.old.machine.refused ≡ None }
-        ensures source { KeepsSource reader.old reader.new }
-        ensures none { TakesNoneAhead reader.new }
-        ensures ok { IfOk result (λ judged. OnOk judged (HearsNext false A.hears audience.old
-            audience.new (permit_of policy.now) (state R.left R.failures reader.old)
-            (state R.left R.failures reader.new) self.old self.new)) }
-        ensures no { IfOk result (λ judged. IfErr judged (RefusesNext false A.hears audience.old
-            audience.new (permit_of policy.now) (state R.left R.failures reader.old)
-            (state R.left R.failures reader.new) self.old self.new.machine)) }
-        ensures err { IfErr result (FailsNext false A.fails audience.old audience.new
-            (state R.left R.failures reader.old) (state R.left R.failures reader.new) self.old) }
-    {
         match reader.next_head() {
             Err(refusal) => return Ok(Err(refusal)),
             Ok(Head::Ended) => unreachable!(),
+            Ok(Head::Inst { at, inst }) => return self.hear_one(at, &inst, policy, audience),
             Ok(Head::Passed { at, op, .. }) => {
                 let length = reader.taken() - at;
-                if let Err(error) = audience.tell_skipped(at, op, length, self.marks()) {
+                if let Err(error) = audience.tell_skipped(at, op, length, self.machine.marks()) {
                     return Err(error);
                 }
                 if let Err(reason) = self.judge_passed(op, length, policy) {
@@ -274,16 +213,40 @@ impl Session {
                 }
                 return Ok(Ok(()));
             }
-            Ok(Head::Inst { at, inst }) => {
-                if let Err(error) = audience.tell(at, &inst, self.marks()) {
-                    return Err(error);
-                }
-                if let Err(reason) = self.judge(&inst, policy) {
-                    return Ok(Err(Refusal { at, reason }));
-                }
-                return Ok(Ok(()));
-            }
         }
+    }
+
+    /// Tells of an instruction that was read whole, and judges it.
+    #[inline(always)]
+    fn hear_one<A: Audience>(
+        &mut self,
+        at: u64,
+        inst: &Inst<'_>,
+        policy: &Permit<'_>,
+        audience: &mut A,
+    ) -> Result<Result<(), Refusal>, A::Error>
+        requires admitted { IsTrue (is_admitted (instruction_of inst.now)) }
+        requires running { self.old.machine.stopped ≡ false }
+        requires well { self.old.machine.refused ≡ None }
+        ensures heard { IfOk result (λ _. A.hears audience.old audience.new
+            (heard_before true at (instruction_of inst.now) self.old.machine ∷ [])) }
+        ensures ok { IfOk result (λ judged. OnOk judged (BothGoOn (permit_of policy.now)
+            (instruction_of inst.now) self.old.frame self.old.machine self.new.frame
+            self.new.machine)) }
+        ensures place { IfOk result (λ judged. IfErr judged (λ refusal. refusal.at ≡ at)) }
+        ensures no { IfOk result (λ judged. IfErr judged (λ refusal. IsRefused
+            (permit_of policy.now) (instruction_of inst.now) self.old.frame self.old.machine
+            self.new.machine refusal.reason)) }
+        ensures err { IfErr result (A.fails audience.old audience.new
+            (heard_before true at (instruction_of inst.now) self.old.machine)) }
+    {
+        if let Err(error) = audience.tell(at, inst, self.machine.marks()) {
+            return Err(error);
+        }
+        if let Err(reason) = self.judge(inst, policy) {
+            return Ok(Err(Refusal { at, reason }));
+        }
+        Ok(Ok(()))
     }
 
     /// Judges an instruction that a loop seldom meets: any one that is not lent.
@@ -318,14 +281,6 @@ impl Session {
         self.frames.take(op, length, 0)?;
         self.machine.step_passed_by(op, policy)?;
         Ok(())
-    }
-
-    /// The number of marks on the stack, which is the same in every run.
-    pub fn marks(&self) -> usize
-        ensures { (state : State) → Covers self.now.machine.knowledge state
-            → result ≡ marks_of state.shape.entries }
-    {
-        self.machine.marks()
     }
 
     /// Continues at the first instruction of another pickle of a row, with no frame open.

@@ -12,16 +12,14 @@ use Rattle.pkread.specs.ReaderCalls.{ReaderState}
 use Rattle.pkread.specs.Rows.{Sight}
 use Rattle.pkread.specs.Run.{LentIsRead, TakingTwice}
 use Rattle.pkimport.specs.Import.{Asked}
-use Rattle.pkstack.specs.Shape.{marks_of}
-use Rattle.pkmachine.specs.Covers.{Covers}
 use Rattle.pkmachine.specs.Knowledge.{Policy}
 use Rattle.pkmachine.specs.RowRuns.{Beginning}
-use Rattle.pkmachine.specs.Runs.{State as RunState}
 use Rattle.pkmachine.specs.View.{View}
 use Rattle.pkmachine.specs.declared.old_strings.OldStrings.{OldStrings}
 use Rattle.pkcheck.specs.Private.Judgement.{BothGoOn, IsRefused, SessionView}
 use Rattle.pkcheck.specs.Private.Lent.{GoesAlong, PassInTurn, RefusesLent, StopsAt, heard_along}
-use Rattle.pkcheck.specs.Reports.{AreReportsBehind, IsReportOf, Report, report, told_of}
+use Rattle.pkcheck.specs.Private.Lent.{heard_before}
+use Rattle.pkcheck.specs.Reports.{AreReportsBehind, IsReportOf, Report}
 use Rattle.pkcheck.proofs.Wholes.Checked.{Checked, checked_took, known_behind}
 use Rattle.pkcheck.proofs.Wholes.Given.{Took, took_lent}
 use Rattle.pkcheck.proofs.Wholes.InTurn.{lent_within}
@@ -82,46 +80,36 @@ module _ {holding : Bool} {setting : OldStrings} {policy : Policy} {limits : Bou
     (r : Told holding setting policy limits old o s v hs) where
   module _ {t : ReaderState} {at : ℕ} {i : Instruction}
       (took : Took old o.at limits r.read s at i t) where
-    -- what is told of the instruction that was read, with this number of marks
-    pub report_here : (n : ℕ)
-        → ((st : RunState) → Covers v.machine.knowledge st → n ≡ marks_of st.shape.entries)
-        → IsReportOf holding setting o.beginning o.at r.read i (report at (told_of holding i) n)
-    report_here n marks =
+    -- what is told of the instruction that was read
+    pub report_here : IsReportOf holding setting o.beginning o.at r.read i
+        (heard_before holding at i v.machine)
+    report_here =
         let known = known_behind r.checked took.more.no_stop in
         let some = known.some empty in
         record {
           same = refl;
           place = omega (arith, took.place, r.checked.reads.count);
           marks = record {
-            each = λ st here. marks st (known.each st here);
+            each = λ st here. r.checked.laws.steps.marks _ st (known.each st here);
             some = (some.0, some.1);
           };
         }
 
-    pub told_here : (n : ℕ)
-        → ((st : RunState) → Covers v.machine.knowledge st → n ≡ marks_of st.shape.entries)
-        → AreReportsBehind holding setting o.beginning o.at [] (r.read ++ i ∷ [])
-        (hs ++ report at (told_of holding i) n ∷ [])
-    told_here n marks = heard_more [] r.read hs i (report at (told_of holding i) n) r.told
-        (report_here n marks)
+    pub told_here : AreReportsBehind holding setting o.beginning o.at [] (r.read ++ i ∷ [])
+        (hs ++ heard_before holding at i v.machine ∷ [])
+    told_here = heard_more [] r.read hs i (heard_before holding at i v.machine) r.told report_here
 
     -- the instruction is accepted
     pub told_more : {after : SessionView}
-        → BothGoOn policy i v.frame v.machine after.frame after.machine → (n : ℕ)
-        → ((st : RunState) → Covers v.machine.knowledge st → n ≡ marks_of st.shape.entries)
+        → BothGoOn policy i v.frame v.machine after.frame after.machine
         → Told holding setting policy limits old o t after
-        (hs ++ report at (told_of holding i) n ∷ [])
-    told_more both n marks = record {
+        (hs ++ heard_before holding at i v.machine ∷ [])
+    told_more both = record {
       read = r.read ++ i ∷ [];
       asked = r.asked ++ both.1.1.0.import ∷ [];
       checked = checked_took r.checked took both;
-      told = told_here n marks;
+      told = told_here;
     }
-
-  -- so many marks are open in every run
-  pub marks_known : (st : RunState) → Covers v.machine.knowledge st
-      → marks_of v.machine.knowledge.entries ≡ marks_of st.shape.entries
-  marks_known st here = r.checked.laws.steps.marks _ st here
 
 module _ {holding : Bool} {setting : OldStrings} {policy : Policy} {limits : Bounds} {old : Sight}
     {o : Origin} (lends : LentIsRead) (twice : TakingTwice) where
@@ -158,7 +146,7 @@ module _ {holding : Bool} {setting : OldStrings} {policy : Policy} {limits : Bou
         let long = lent_within limits (drop so_far bytes) i lent' in
         let before = w.within in
         rw (is, all, ← append_assoc hs earlier) (record {
-          so_far = told_more w.so_far took both _ (marks_known w.so_far);
+          so_far = told_more w.so_far took both;
           next = subst (λ (b : List ℕ). AreNext (beyond (so_far + size) s) b)
               (drop-drop size so_far bytes) later;
           within = omega (arith, long, before, length-drop so_far bytes);

@@ -9,22 +9,20 @@ use Rattle.pkread.specs.ReaderCalls.{ReaderState}
 use Rattle.pkread.specs.Rows.{Sight}
 use Rattle.pkread.specs.Sequence.{CountsAt}
 use Rattle.pkimport.specs.Import.{Asked}
-use Rattle.pkmachine.specs.Covers.{Covers}
 use Rattle.pkmachine.specs.Knowledge.{Policy}
-use Rattle.pkmachine.specs.Runs.{State as RunState}
 use Rattle.pkmachine.specs.View.{View}
-use Rattle.pkstack.specs.Shape.{marks_of}
 use Rattle.pkcheck.specs.Private.Judgement.{IsRefused, SessionView}
 use Rattle.pkcheck.specs.Private.Lent.{FailsAtHand, GoesAlong, HearsAlong, HearsRefused}
+use Rattle.pkcheck.specs.Private.Lent.{heard_before}
 use Rattle.pkcheck.specs.Private.Turns.{FailsNext, HearsNext, RefusesNext}
-use Rattle.pkcheck.specs.Reports.{Report, report, told_of}
+use Rattle.pkcheck.specs.Reports.{Report}
 use Rattle.pkcheck.specs.declared.check_loop.Extent.{Extent}
 use Rattle.pkcheck.specs.declared.loading.Loading.{Loading}
 use Rattle.pkcheck.proofs.Wholes.Checked.{count_took, refused_took, refused_turned}
 use Rattle.pkcheck.proofs.Wholes.Given.{Took, took_gave, turned_down}
 use Rattle.pkcheck.proofs.Wholes.Going.{Going, RefusedNow, StoppedNow}
-use Rattle.pkcheck.proofs.Wholes.HeardInstructions.{Told, marks_known, reached, reached_refused}
-use Rattle.pkcheck.proofs.Wholes.HeardInstructions.{report_here, told_along, told_here, told_more}
+use Rattle.pkcheck.proofs.Wholes.HeardInstructions.{Told, reached, reached_refused, report_here}
+use Rattle.pkcheck.proofs.Wholes.HeardInstructions.{told_along, told_here, told_more}
 use Rattle.pkcheck.proofs.Wholes.ImportsBefore.{refused_imports}
 use Rattle.pkcheck.proofs.Wholes.ThreeEnds.{refused_now, stopped_now}
 
@@ -75,16 +73,13 @@ module _ {holding : Bool} {loading : Loading} {policy : Policy} {limits : Bounds
       (w : Told holding loading.old_strings policy limits g.here g.origin between u hs)
       (r : ReadRefusal) {i : Instruction} (n : View)
       → Took g.here g.origin.at limits w.read between r.at i t
-      → IsRefused policy i u.frame u.machine n r.reason → (marks : ℕ)
-      → ((st : RunState) → Covers u.machine.knowledge st → marks ≡ marks_of st.shape.entries)
-      → {behind : A}
-      → hears first behind (g.earlier ++ (hs ++ report r.at (told_of holding i) marks ∷ []))
+      → IsRefused policy i u.frame u.machine n r.reason → {behind : A}
+      → hears first behind (g.earlier ++ (hs ++ heard_before holding r.at i u.machine ∷ []))
       → Refused r n t behind
-  refuses_read {u = u} w r {i} n took why marks known heard =
+  refuses_read {u = u} w r {i} n took why heard =
       refused_now g w (refused_took w.checked took g.bounded n r.reason why)
       (count_took w.checked took n r.reason why) n
-      (refused_imports policy i u.frame u.machine n r.reason why) _ (told_here w took marks known)
-      heard
+      (refused_imports policy i u.frame u.machine n r.reason why) _ (told_here w took) heard
 
   -- ---- instructions at hand
 
@@ -107,8 +102,7 @@ module _ {holding : Bool} {loading : Loading} {policy : Policy} {limits : Bounds
       let (x, why) = reached_refused g.laws.lent g.laws.twice g.so_far k in
       let here = k.down.here in
       let heard = rw (← k.place, ← append_assoc g.last here.earlier) at (heard_also _ more) in
-      refuses_read x.so_far r n x.took why (marks_of here.between.machine.knowledge.entries)
-      (marks_known x.so_far) heard
+      refuses_read x.so_far r n x.took why heard
 
   pub failed_at_hand : {X : Type 0} (fails : A → A → Report → X → Type 0) {t : ReaderState}
       {behind : A} {error : X} → FailsAtHand hears fails now behind holding policy s t v error
@@ -116,9 +110,7 @@ module _ {holding : Bool} {loading : Loading} {policy : Policy} {limits : Bounds
   failed_at_hand fails (k, (between, more, left)) =
       let x = reached g.laws.lent g.laws.twice g.so_far k.bytes k.before_it k.next k.here k.taken
       refl in
-      stopped_now g x.so_far x.took
-      (report_here x.so_far x.took (marks_of k.here.between.machine.knowledge.entries)
-      (marks_known x.so_far)) (heard_also _ more) fails left
+      stopped_now g x.so_far x.took (report_here x.so_far x.took) (heard_also _ more) fails left
 
   -- ---- the next instruction
 
@@ -135,7 +127,7 @@ module _ {holding : Bool} {loading : Loading} {policy : Policy} {limits : Bounds
       let w = g.so_far in
       let (i, took, (both, told)) = took_gave w.checked.reads w.checked.read_limits holding g.one t
       g.laws.nexts g.laws.heads g.laws.passed h.at _ h.gave in
-      goes_on (told_more w took both h.marks h.open_ones) (heard_next _ told)
+      goes_on (told_more w took both) (heard_next _ told)
 
   pub refused_next : {t : ReaderState} {behind : A} {n : View} {r : ReadRefusal}
       → RefusesNext holding hears now behind policy s t v n r → Refused r n t behind
@@ -152,7 +144,7 @@ module _ {holding : Bool} {loading : Loading} {policy : Policy} {limits : Bounds
       let w = g.so_far in
       let (i, took, (why, told)) = took_gave w.checked.reads w.checked.read_limits holding g.one t
       g.laws.nexts g.laws.heads g.laws.passed r.at _ h.gave in
-      refuses_read w r n took why h.marks h.open_ones (heard_next _ told)
+      refuses_read w r n took why (heard_next _ told)
 
   pub failed_next : {X : Type 0} (fails : A → A → Report → X → Type 0) {t : ReaderState}
       {behind : A} {error : X} → FailsNext holding fails now behind s t v error
@@ -161,4 +153,4 @@ module _ {holding : Bool} {loading : Loading} {policy : Policy} {limits : Bounds
       let w = g.so_far in
       let (i, took, left) = took_gave w.checked.reads w.checked.read_limits holding g.one t
       g.laws.nexts g.laws.heads g.laws.passed h.at _ h.gave in
-      stopped_now g w took (report_here w took h.marks h.open_ones) g.heard fails left
+      stopped_now g w took (report_here w took) g.heard fails left

@@ -10,12 +10,10 @@ use Rattle.pkread.specs.ReaderCalls.{ReaderState, Steps}
 use Rattle.pkread.specs.Rows.{all_bytes}
 use Rattle.pkread.specs.declared.Head.TheVariants as head
 use Rattle.pkread.specs.declared.Next.TheVariants as next
-use Rattle.pkmachine.specs.Covers.{Covers}
 use Rattle.pkmachine.specs.Knowledge.{Policy}
 use Rattle.pkcheck.specs.Private.Judgement.{BothGoOn, HasLength, IsRefused, SessionView}
-use Rattle.pkcheck.specs.Reports.{Report, report, told_of}
-use Rattle.pkmachine.specs.Runs.{State}
-use Rattle.pkstack.specs.Shape.{marks_of}
+use Rattle.pkcheck.specs.Private.Lent.{heard_before}
+use Rattle.pkcheck.specs.Reports.{Report}
 use Rattle.pkmachine.specs.View.{View}
 
 module _ (s t : ReaderState) where
@@ -35,36 +33,30 @@ module _ (s t : ReaderState) where
 
 module _ (holding : Bool) {A : Type 0} (hears : A → A → List Report → Type 0) (first now : A)
     (policy : Policy) (s t : ReaderState) (before : SessionView) where
-  -- the audience is told of the next instruction, which is accepted
+  -- the audience is told of this instruction at this offset
+  abbrev pub Hears : ℕ → Instruction → Type 0
+  Hears at i = hears first now (heard_before holding at i before.machine ∷ [])
+
+  -- it is told of the next instruction, which is accepted
   pub record HearsNext (after : SessionView) : Type 0 where
     pub at : ℕ
-    pub marks : ℕ
-    pub open_ones : (state : State) → Covers before.machine.knowledge state
-        → marks ≡ marks_of state.shape.entries
-    pub gave : Gave s t holding at (λ i. BothGoOn policy i before.frame before.machine after.frame
-        after.machine × hears first now (report at (told_of holding i) marks ∷ []))
+    pub gave : Gave s t holding at (λ i.
+        BothGoOn policy i before.frame before.machine after.frame after.machine × Hears at i)
     pub within : t.taken ≤ all_bytes
 
-  -- the audience is told of the next instruction, which is refused
+  -- it is told of the next instruction, which is refused
   pub record RefusesTold (after : View) (r : Refusal) : Type 0 where
-    pub marks : ℕ
-    pub open_ones : (state : State) → Covers before.machine.knowledge state
-        → marks ≡ marks_of state.shape.entries
-    pub gave : Gave s t holding r.at (λ i. IsRefused policy i before.frame before.machine after
-        r.reason × hears first now (report r.at (told_of holding i) marks ∷ []))
+    pub gave : Gave s t holding r.at
+        (λ i. IsRefused policy i before.frame before.machine after r.reason × Hears r.at i)
 
   -- or the reader refuses
   abbrev pub RefusesNext : View → Refusal → Type 0
   RefusesNext after r =
       (TurnedDown s t holding r × (after ≡ before.machine) × (now ≡ first)) ⊎ RefusesTold after r
 
-module _ (holding : Bool) {A X : Type 0} (fails : A → A → Report → X → Type 0) (first now : A)
-    (s t : ReaderState) (before : SessionView) where
-  -- the audience fails at the next instruction
-  pub record FailsNext (error : X) : Type 0 where
-    pub at : ℕ
-    pub marks : ℕ
-    pub open_ones : (state : State) → Covers before.machine.knowledge state
-        → marks ≡ marks_of state.shape.entries
-    pub gave : Gave s t holding at
-        (λ i. fails first now (report at (told_of holding i) marks) error)
+-- the audience fails at the next instruction
+pub record FailsNext (holding : Bool) {A X : Type 0} (fails : A → A → Report → X → Type 0)
+    (first now : A) (s t : ReaderState) (before : SessionView) (error : X) : Type 0 where
+  pub at : ℕ
+  pub gave : Gave s t holding at
+      (λ i. fails first now (heard_before holding at i before.machine) error)
