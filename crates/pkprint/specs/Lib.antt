@@ -2,5 +2,4 @@ pub mod Verdict
 pub mod Costs
 pub mod Listing
 pub mod Imports
-pub mod Appended
 pub mod Private

@@ -7,7 +7,7 @@ use Rattle.pkread.specs.Rows.{Sight, Takes}
 use Rattle.pkjson.specs.Export.{AppendsText, IsNotExported}
 use Rattle.pkjson.specs.declared.ExportError.{ExportError}
 use Rattle.pkjson.specs.declared.ExportError.TheVariants.{OutOfMemory}
-use Rattle.pkprint.specs.Appended.{appends_then}
+use Rattle.pkcheck.specs.Appended.{appends_then}
 use Rattle.pkprint.specs.declared.Outcome.TheVariants.{Done}
 use Rattle.pktool.specs.Json.{EndsWith, IsErrorFor, ReadsWhole}
 

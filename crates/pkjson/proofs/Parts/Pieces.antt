@@ -1,6 +1,6 @@
 -- What is written of the parts makes what is written of the whole.
 use Rattle.std.proofs.Common.{◌≡◌, ℕ, zero, suc, ◌+◌, ◌-◌, ◌<◌, ◌≤◌, Bool, true, false, List, []}
-use Rattle.std.proofs.Common.{◌∷◌, ◌++◌, length, take, drop, get_or, Option, None, Some, refl, sym}
+use Rattle.std.proofs.Common.{◌∷◌, ◌++◌, length, take, drop, get_or, Option, refl, sym}
 use Rattle.std.proofs.Common.{ap, ◌∙◌, subst, arith, append_assoc, append-nil, length-append}
 use Rattle.std.specs.Prelude.{nat_lt, slice_range}
 use Rattle.std.specs.Io.KnownBytes.{Appends}
@@ -12,6 +12,7 @@ use Rattle.std.proofs.lemmas.List.Edits.{length-between}
 use Rattle.serde_json.specs.Data.{array, object, string, Items, no_items, item, Members, no_members}
 use Rattle.serde_json.specs.Data.{member}
 use Rattle.serde_json.specs.Written.{comma_if, compact_text, items_text, members_text}
+use Rattle.pkcheck.specs.Appended.{appends_none, appends_then}
 use Rattle.pkjson.specs.Unfolds.{Sequence, Pairs, Heap, UnfoldItems, UnfoldMembers}
 use Rattle.pkjson.specs.Private.Nodes.{named_members}
 use Rattle.pkjson.specs.Private.Parts.{IsArrayText, IsObjectText}
@@ -20,19 +21,6 @@ use Rattle.pkjson.specs.Private.Pieces.{members_inside}
 use Rattle.pkjson.specs.Private.Sends.{IsCompact}
 use Rattle.pkjson.proofs.Parts.NodesHeld.{Holds, Member, no_member}
 use Rattle.pkjson.proofs.Parts.Sent.{named_length}
-
-pub appends_none : (a : Option (List ℕ)) → Appends a a []
-appends_none None = tt
-appends_none (Some a) = sym (append-nil a)
-
--- consecutive writes are one
-pub appends_then : (a b c : Option (List ℕ)) (xs ys : List ℕ) → Appends a b xs → Appends b c ys
-    → Appends a c (xs ++ ys)
-appends_then None b c xs ys p q = tt
-appends_then (Some a) None c xs ys p q = absurd p
-appends_then (Some a) (Some b) None xs ys p q = absurd q
-appends_then (Some a) (Some b) (Some c) xs ys p q =
-    q ∙ ap (λ (l : List ℕ). l ++ ys) p ∙ append_assoc a xs ys
 
 -- the last of four lists stands apart
 last_apart : (a b c d : List ℕ) → a ++ (b ++ (c ++ d)) ≡ (a ++ (b ++ c)) ++ d

@@ -4,6 +4,7 @@ use Rattle.std.proofs.Common.{Option, None, Some, refl, sym, ap, subst, ◌∙�
 use Rattle.std.proofs.Common.{append-nil, length-append}
 use Rattle.std.specs.Prelude.{nat_le, slice_index_or}
 use Rattle.std.specs.Io.KnownBytes.{Appends}
+use Rattle.pkcheck.specs.Appended.{appends_none, appends_then}
 use Rattle.pkopt.specs.declared.measure.Measure.{Measure}
 
 -- the byte at a place behind `before` bytes and this piece, if it is in the piece
@@ -60,19 +61,6 @@ drop_both zero (x ∷ a) b =
 drop_both (suc skip) (x ∷ a) b =
     let e : suc skip - suc (length a) ≡ skip - length a = omega arith in
     drop_both skip a b ∙ ap (λ n. drop skip a ++ drop n b) (sym e)
-
-appends_none : (a : Option (List ℕ)) → Appends a a []
-appends_none None = tt
-appends_none (Some a) = sym (append-nil a)
-
-appends_then :
-    (a b c : Option (List ℕ)) (xs ys : List ℕ)
-    → Appends a b xs → Appends b c ys → Appends a c (xs ++ ys)
-appends_then None b c xs ys p q = tt
-appends_then (Some a) None c xs ys p q = absurd p
-appends_then (Some a) (Some b) None xs ys p q = absurd q
-appends_then (Some a) (Some b) (Some c) xs ys p q =
-    q ∙ ap (λ (zs : List ℕ). zs ++ ys) p ∙ append_assoc a xs ys
 
 pub drops_none : (a : Option (List ℕ)) (skip : ℕ) → Drops a a skip skip []
 drops_none a skip = (omega arith, subst (Appends a a) (sym (drop_none skip)) (appends_none a))

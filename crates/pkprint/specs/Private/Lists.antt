@@ -7,7 +7,7 @@ use Rattle.std.proofs.lemmas.Grind.{flat_map-append}
 use Rattle.pkcheck.specs.Heard.{Heard}
 use Rattle.pkcheck.specs.declared.Yes.{Yes}
 use Rattle.pkcheck.specs.declared.No.{No}
-use Rattle.pkprint.specs.Appended.{appends_none, appends_then}
+use Rattle.pkcheck.specs.Appended.{appends_none, appends_then}
 use Rattle.pkprint.specs.Listing.{listing_line, highest, last_line, listing}
 
 -- the lines of these instructions were written, and the highest protocol was raised by theirs

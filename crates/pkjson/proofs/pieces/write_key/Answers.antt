@@ -4,7 +4,7 @@ use Rattle.std.proofs.lemmas.Result.{on_ok_weaker}
 use Rattle.serde_json.specs.Data.{string}
 use Rattle.serde_json.specs.Written.{compact_text}
 use Rattle.serde_json.proofs.FreeTexts.{text_of_str}
-use Rattle.pkjson.proofs.Parts.Pieces.{appends_then}
+use Rattle.pkcheck.specs.Appended.{appends_then}
 use Rattle.pkjson.proofs.pieces.write_key.Goals as goal
 
 pub returns : goal.returns

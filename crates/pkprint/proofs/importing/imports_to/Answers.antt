@@ -1,6 +1,6 @@
 -- The lines of the imports and then the line of the answer are what is appended.
 use Rattle.std.proofs.Common.{rules}
-use Rattle.pkprint.specs.Appended.{appends_then}
+use Rattle.pkcheck.specs.Appended.{appends_then}
 use Rattle.pkprint.proofs.importing.imports_to.Goals as goal
 
 pub returns-in-Ok : goal.returns-in-Ok

@@ -2,7 +2,7 @@
 use Rattle.std.proofs.Common.{refl, List, [], ◌++◌, ℕ, ap, sym, ◌∙◌, append_assoc}
 use Rattle.hex.specs.Hex.{encode_with}
 use Rattle.pkprint.proofs.Lines.{encode_with-append}
-use Rattle.pkprint.specs.Appended.{appends_none, appends_then}
+use Rattle.pkcheck.specs.Appended.{appends_none, appends_then}
 use Rattle.pkprint.proofs.printing.hexadecimal.write_hexadecimal.Goals as goal
 
 pub loop-rest-init : goal.loop-rest-init

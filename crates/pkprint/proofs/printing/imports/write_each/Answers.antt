@@ -1,7 +1,7 @@
 -- Each turn appends the line of one more import.
 use Rattle.pkimport.specs.Import.{import_shown}
 use Rattle.pkprint.specs.Imports.{import_line}
-use Rattle.pkprint.specs.Appended.{appends_none, appends_then}
+use Rattle.pkcheck.specs.Appended.{appends_none, appends_then}
 use Rattle.pkprint.proofs.Lines.{flat_map_next}
 use Rattle.pkprint.proofs.printing.imports.write_each.Goals as goal
 

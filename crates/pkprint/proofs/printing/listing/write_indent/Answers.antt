@@ -1,7 +1,7 @@
 -- Each mark makes the indent two spaces longer.
 use Rattle.pkprint.proofs.Lines.{indent_more}
 use Rattle.pkprint.specs.Listing.{indent}
-use Rattle.pkprint.specs.Appended.{appends_none, appends_then}
+use Rattle.pkcheck.specs.Appended.{appends_none, appends_then}
 use Rattle.pkprint.proofs.printing.listing.write_indent.Goals as goal
 
 pub loop-mark-init : goal.loop-mark-init
