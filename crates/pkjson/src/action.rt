@@ -8,6 +8,7 @@ ghost use Rattle.pkjson.specs.Plain.{is_plain_data};
 ghost use Rattle.pkjson.specs.Private.PlainActions.{ActsAs, KindsAgree};
 
 use pkops::Op;
+use pkstack::Move;
 
 /// What an action takes from the stack: this many objects, or the topmost mark and everything above
 /// it.
@@ -41,24 +42,12 @@ pub enum Filled {
     Pairs,
 }
 
-/// An action that looks at no object.
-#[derive(Clone, Copy)]
-pub enum Move {
-    PushesMark,
-    Pops,
-    PopsMark,
-    Duplicates,
-    Stores,
-    StoresNext,
-    Fetches,
-    NoOp,
-}
-
 /// The effect of an instruction.
 #[derive(Clone, Copy)]
 pub enum Action {
     Makes(Takes, Made),
     Fills(Takes, Filled),
+    /// Looks at no object.
     Moves(Move),
     Stops,
 }

@@ -2,14 +2,13 @@
 
 ghost use Rattle.std.specs.Prelude.{◌≡◌, [], ◌∷◌, IfErr, OnOk, Ok};
 ghost use Rattle.pkstack.specs.Shape.{moved};
-ghost use Rattle.pkjson.specs.Private.PlainActions.{move_of};
 ghost use Rattle.pkjson.specs.Private.Halts.{IsWant};
 ghost use Rattle.pkjson.specs.Private.Seen.{seen_entry, seen_entries, shape_seen};
 
-use crate::action::Move;
 use crate::halt::Halt;
 use crate::slots::{Slot, mark_place, top};
 use pkbase::NumberedMap;
+use pkstack::Move;
 
 /// Object numbers by memo number.
 pub type MemoTable = NumberedMap<u32>;
@@ -30,10 +29,10 @@ fn push(stack: &mut Vec<Slot>, slot: Slot) -> Result<(), Halt>
 /// Removes the topmost entry.
 fn pop(stack: &mut Vec<Slot>, memo: &MemoTable) -> Result<(), Halt>
     ensures ok { OnOk result
-        (moved (move_of Move.Pops) 0 (shape_seen stack.old.items memo.now)
+        (moved Move.Pops 0 (shape_seen stack.old.items memo.now)
         ≡ Ok (shape_seen stack.new.items memo.now)) }
     ensures err { IfErr result (IsWant
-        (moved (move_of Move.Pops) 0 (shape_seen stack.old.items memo.now))) }
+        (moved Move.Pops 0 (shape_seen stack.old.items memo.now))) }
 {
     let count = stack.len();
     if count == 0 {
@@ -46,10 +45,10 @@ fn pop(stack: &mut Vec<Slot>, memo: &MemoTable) -> Result<(), Halt>
 /// Removes the topmost mark and everything above it.
 fn pop_mark(stack: &mut Vec<Slot>, memo: &MemoTable) -> Result<(), Halt>
     ensures ok { OnOk result
-        (moved (move_of Move.PopsMark) 0 (shape_seen stack.old.items memo.now)
+        (moved Move.PopsMark 0 (shape_seen stack.old.items memo.now)
         ≡ Ok (shape_seen stack.new.items memo.now)) }
     ensures err { IfErr result (IsWant
-        (moved (move_of Move.PopsMark) 0 (shape_seen stack.old.items memo.now))) }
+        (moved Move.PopsMark 0 (shape_seen stack.old.items memo.now))) }
 {
     let Some(place) = mark_place(stack) else {
         return Err(Halt::Lacks);
@@ -61,10 +60,10 @@ fn pop_mark(stack: &mut Vec<Slot>, memo: &MemoTable) -> Result<(), Halt>
 /// Pushes the top again.
 fn duplicate(stack: &mut Vec<Slot>, memo: &MemoTable) -> Result<(), Halt>
     ensures ok { OnOk result
-        (moved (move_of Move.Duplicates) 0 (shape_seen stack.old.items memo.now)
+        (moved Move.Duplicates 0 (shape_seen stack.old.items memo.now)
         ≡ Ok (shape_seen stack.new.items memo.now)) }
     ensures err { IfErr result (IsWant
-        (moved (move_of Move.Duplicates) 0 (shape_seen stack.old.items memo.now))) }
+        (moved Move.Duplicates 0 (shape_seen stack.old.items memo.now))) }
 {
     let Some(number) = top(stack) else {
         return Err(Halt::Lacks);
@@ -75,10 +74,10 @@ fn duplicate(stack: &mut Vec<Slot>, memo: &MemoTable) -> Result<(), Halt>
 /// Stores the top under a number.
 fn store(stack: &[Slot], memo: &mut MemoTable, number: u64) -> Result<(), Halt>
     ensures ok { OnOk result
-        (moved (move_of Move.Stores) number (shape_seen stack.now memo.old)
+        (moved Move.Stores number (shape_seen stack.now memo.old)
         ≡ Ok (shape_seen stack.now memo.new)) }
     ensures err { IfErr result (IsWant
-        (moved (move_of Move.Stores) number (shape_seen stack.now memo.old))) }
+        (moved Move.Stores number (shape_seen stack.now memo.old))) }
 {
     let Some(object) = top(stack) else {
         return Err(Halt::Lacks);
@@ -92,10 +91,10 @@ fn store(stack: &[Slot], memo: &mut MemoTable, number: u64) -> Result<(), Halt>
 /// Pushes the memo entry of a number.
 fn fetch(stack: &mut Vec<Slot>, memo: &MemoTable, number: u32) -> Result<(), Halt>
     ensures ok { OnOk result
-        (moved (move_of Move.Fetches) number (shape_seen stack.old.items memo.now)
+        (moved Move.Fetches number (shape_seen stack.old.items memo.now)
         ≡ Ok (shape_seen stack.new.items memo.now)) }
     ensures err { IfErr result (IsWant
-        (moved (move_of Move.Fetches) number (shape_seen stack.old.items memo.now))) }
+        (moved Move.Fetches number (shape_seen stack.old.items memo.now))) }
 {
     match memo.get(number) {
         Some(object) => push(stack, Slot::Object(object)),
@@ -111,10 +110,10 @@ pub fn apply(
     number: u32,
 ) -> Result<(), Halt>
     ensures ok { OnOk result
-        (moved (move_of what) number (shape_seen stack.old.items memo.old)
+        (moved what number (shape_seen stack.old.items memo.old)
         ≡ Ok (shape_seen stack.new.items memo.new)) }
     ensures err { IfErr result (IsWant
-        (moved (move_of what) number (shape_seen stack.old.items memo.old))) }
+        (moved what number (shape_seen stack.old.items memo.old))) }
 {
     match what {
         Move::PushesMark => push(stack, Slot::Mark),
@@ -128,5 +127,6 @@ pub fn apply(
         }
         Move::Fetches => fetch(stack, memo, number),
         Move::NoOp => Ok(()),
+        Move::Extends => Err(Halt::Lacks),
     }
 }

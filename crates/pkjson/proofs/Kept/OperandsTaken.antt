@@ -11,11 +11,11 @@ use Rattle.pkstack.specs.declared.Takes.TheVariants as takes
 use Rattle.pkstack.specs.Shape.{Breach, Entry, Mark, Item, Shape, Taken, and_then, unless, breaks}
 use Rattle.pkstack.specs.Shape.{items, slice, operands, top, stored, recalled, fetched, popped}
 use Rattle.pkstack.specs.Shape.{moved}
-use Rattle.pkjson.specs.declared.action.Move.{Move}
-use Rattle.pkjson.specs.declared.action.Move.TheVariants as move
+use Rattle.pkstack.specs.declared.Move.{Move}
+use Rattle.pkstack.specs.declared.Move.TheVariants as move
 use Rattle.pkjson.specs.declared.action.Takes.{Takes}
 use Rattle.pkjson.specs.declared.action.Takes.TheVariants.{Objects, Slice}
-use Rattle.pkjson.specs.Private.PlainActions.{picked, found_above, move_of, TakesSame, TakesAbove}
+use Rattle.pkjson.specs.Private.PlainActions.{picked, found_above, TakesSame, TakesAbove}
 use Rattle.pkjson.specs.Plain.{rest_of}
 use Rattle.pkjson.specs.Private.Mirrors.{AreBelow, EntriesBelow, CellsBelow, IsHeld}
 
@@ -131,7 +131,7 @@ fetch_below n k (Some x) h g b f e = subst (IsHeld n) (ok_same _ g e)
     (record { entries = (f x refl, b.entries); memo = b.memo })
 
 pub moved_below : (n : ℕ) (m : Move) (k : ℕ) (h g : Shape ℕ) → IsHeld n h
-    → moved (move_of m) k h ≡ Ok g → IsHeld n g
+    → moved m k h ≡ Ok g → IsHeld n g
 moved_below n move.PushesMark k h g b e = subst (IsHeld n) (ok_same _ g e)
     (record { entries = b.entries; memo = b.memo })
 moved_below n move.Pops k h g b e = pop_below n h.entries h g b.entries b.memo e
@@ -162,6 +162,7 @@ moved_below n move.StoresNext k h g b e =
 moved_below n move.Fetches k h g b e = fetch_below n k (recalled k h.memo) h g b
     (λ x q. recalled_below n k x h.memo b.memo q) e
 moved_below n move.NoOp k h g b e = subst (IsHeld n) (ok_same _ g e) b
+moved_below n move.Extends k h g b e = cc
 
 items_one : (es : List (Entry ℕ)) (above : List ℕ) (v : Taken ℕ) → items 1 es above ≡ Ok v
     → (r : ℕ) × (fs : List (Entry ℕ)) × (v ≡ record { operands = r ∷ above; below = fs })

@@ -28,7 +28,7 @@ use Rattle.pkjson.specs.Plain.{goes_on, is_known_text}
 use Rattle.pkjson.specs.Private.Arena.{Kept, Arena, kept_by, kind_at, update, more_given}
 use Rattle.pkjson.specs.Private.Arena.{is_text_kind}
 use Rattle.pkjson.specs.Private.PlainActions.{picked, found_above, made_of, filled_of, kind_made}
-use Rattle.pkjson.specs.Private.PlainActions.{move_of, acted, MakesSame, FillsSame, ActsAs}
+use Rattle.pkjson.specs.Private.PlainActions.{acted, MakesSame, FillsSame, ActsAs}
 use Rattle.pkjson.specs.Private.PlainActions.{KindsAgree}
 use Rattle.pkjson.specs.Private.Mirrors.{AreBelow, EntriesBelow, CellsBelow, IsHeld, GivenBelow}
 use Rattle.pkjson.specs.Private.Mirrors.{MirrorsState}
@@ -277,8 +277,8 @@ module _ (i : Instruction) (a : Arena) (s : State) (h : MirrorsState a s) where
       (filled_of r.0 a, ap (λ y. and_then y (λ u. Ok (filled_of u a))) (found_here r.0 r.1), r.2)
   by_effect (Moves m) (effect.Moves p) w q z n =
       let same_move : moved p (memo_number i) s.shape
-      ≡ moved (move_of m) (memo_number i) a.shape = ap (λ y. moved y (memo_number i) s.shape)
-      (sym w) ∙ ap (λ y. moved (move_of m) (memo_number i) y) (sym h.shape) in
+      ≡ moved m (memo_number i) a.shape = ap (λ y. moved y (memo_number i) s.shape)
+      (sym w) ∙ ap (λ y. moved m (memo_number i) y) (sym h.shape) in
       let r = moved_alike (moved p (memo_number i) s.shape)
       (λ g e. moved_below (length a.kept) m (memo_number i) a.shape g h.held
       (sym same_move ∙ e)) n in (

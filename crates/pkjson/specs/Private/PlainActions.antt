@@ -10,8 +10,6 @@ use Rattle.pkmachine.specs.Effects.{Effect}
 use Rattle.pkmachine.specs.Effects as effect
 use Rattle.pkmachine.specs.declared.effect.Gives.{Gives}
 use Rattle.pkmachine.specs.declared.effect.Gives.TheVariants as gives
-use Rattle.pkstack.specs.declared.Move.{Move as MoveOf}
-use Rattle.pkstack.specs.declared.Move.TheVariants as moves
 use Rattle.pkmachine.specs.declared.effect.Names.TheVariants.{NoName}
 use Rattle.pkstack.specs.declared.Takes.{Takes as TakesOf}
 use Rattle.pkstack.specs.declared.Takes.TheVariants as takes
@@ -23,8 +21,6 @@ use Rattle.pkjson.specs.declared.action.Filled.{Filled}
 use Rattle.pkjson.specs.declared.action.Filled.TheVariants as filled
 use Rattle.pkjson.specs.declared.action.Made.{Made}
 use Rattle.pkjson.specs.declared.action.Made.TheVariants as made
-use Rattle.pkjson.specs.declared.action.Move.{Move}
-use Rattle.pkjson.specs.declared.action.Move.TheVariants as move
 use Rattle.pkjson.specs.declared.action.Takes.{Takes}
 use Rattle.pkjson.specs.declared.action.Takes.TheVariants.{Objects, Slice}
 use Rattle.pkjson.specs.Integers.{integer_named, fits_word}
@@ -66,24 +62,12 @@ kind_made made.Text i = OfValue (string (text_named i))
 kind_made made.IntOrTruth i = OfValue (int_value i)
 kind_made made.Int i = OfValue (number (of_integer (integer_named i.arg)))
 
--- the machine's move for a move of the code
-abbrev pub move_of : Move → MoveOf
-move_of move.PushesMark = moves.PushesMark
-move_of move.Pops = moves.Pops
-move_of move.PopsMark = moves.PopsMark
-move_of move.Duplicates = moves.Duplicates
-move_of move.Stores = moves.Stores
-move_of move.StoresNext = moves.StoresNext
-move_of move.Fetches = moves.Fetches
-move_of move.NoOp = moves.NoOp
-
 -- the effect of a plain instruction
 abbrev pub acted : Action → Instruction → Arena → Result Arena Breach
 acted (Makes t m) i a = and_then (picked t a.shape.entries) (λ u. Ok (made_of (kind_made m i) u a))
 acted (Fills t f) i a = and_then (found_above t a.shape.entries) (λ u. Ok (filled_of u a))
 acted (Moves m) i a =
-    and_then (moved (move_of m) (memo_number i) a.shape)
-    (λ h. Ok (record { shape = h; kept = a.kept }))
+    and_then (moved m (memo_number i) a.shape) (λ h. Ok (record { shape = h; kept = a.kept }))
 acted Stops i a = Ok a
 
 -- the keys that the action sets
@@ -145,7 +129,7 @@ FillsSame f g = ⊥
 abbrev pub ActsAs : Action → Effect → Type 0
 ActsAs (Makes t m) (effect.Operates u NoName g) = TakesSame t u × MakesSame m g
 ActsAs (Fills t f) (effect.Operates u NoName g) = TakesAbove t u × FillsSame f g
-ActsAs (Moves m) (effect.Moves p) = move_of m ≡ p
+ActsAs (Moves m) (effect.Moves p) = m ≡ p
 ActsAs Stops effect.Stops = Unit {0}
 ActsAs a e = ⊥
 
