@@ -100,7 +100,7 @@ fn costly_at(meter: &Meter, excess: Excess) -> Costly
     } }
 {
     Costly {
-        pickle: meter.pickle(),
+        pickle: meter.metering.pickle,
         at: meter.at(),
         excess,
     }
@@ -116,8 +116,8 @@ fn with_bill(
     match answer {
         Ok(yes) => Ok(YesWithBill {
             yes,
-            tally: meter.tally(),
-            memory: meter.memory(),
+            tally: meter.metering.machine.tally(),
+            memory: meter.metering.machine.memory(),
         }),
         Err(refused) => Err(refused),
     }

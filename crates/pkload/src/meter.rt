@@ -11,7 +11,6 @@ ghost use Rattle.pkload.specs.Tolls.{Exceeds, unlimited};
 
 use crate::halt::Billing;
 use crate::metering::Metering;
-use crate::tally::Tally;
 use crate::tolls::{Excess, Tolls};
 use pkcheck::{Audience, Memo};
 use pkops::{Inst, Op};
@@ -22,7 +21,8 @@ use std::marker::Model;
 /// the check judges it. That the check accepts it is known when the next one is told, and then the
 /// meter stops the check.
 pub struct Meter {
-    metering: Metering,
+    /// The pickle that the instruction is in, and what it costs so far.
+    pub metering: Metering,
     tolls: Tolls,
     memo: Memo,
     excess: Option<Excess>,
@@ -139,27 +139,6 @@ impl Meter {
         Ok(())
     }
 
-    /// The number of the pickle that the instruction is in.
-    pub fn pickle(&self) -> u64
-        ensures { result ≡ self.now.metering.pickle }
-    {
-        self.metering.pickle()
-    }
-
-    /// What the keys of this pickle cost so far.
-    pub fn tally(&self) -> Tally
-        ensures { result ≡ self.now.metering.bill.tally }
-    {
-        self.metering.tally()
-    }
-
-    /// The memory that loading this pickle takes so far.
-    pub fn memory(&self) -> u64
-        ensures { result ≡ self.now.metering.bill.memory }
-    {
-        self.metering.memory()
-    }
-
     /// The offset of the instruction that exceeded a limit, if one did.
     pub fn at(&self) -> u64
         ensures { result ≡ self.now.at }
@@ -187,8 +166,8 @@ fn excess_of(
     if matches!(billing, Billing::Failed) {
         return Some(Excess::OutOfMemory);
     }
-    let excess = tolls.excess_of(&metering.tally(), metering.memory());
-    *pausing = excess.is_some() || metering.ended();
+    let excess = tolls.excess_of(&metering.machine.tally(), metering.machine.memory());
+    *pausing = excess.is_some() || metering.machine.ended();
     excess
 }
 
@@ -198,7 +177,7 @@ fn takes_too_much(tolls: &Tolls, metering: &Metering) -> bool
     ensures value { result ≡ ltb tolls.now.memory metering.now.bill.memory }
     ensures unlimited { tolls.now ≡ unlimited → result ≡ false }
 {
-    metering.memory() > tolls.memory
+    metering.machine.memory() > tolls.memory
 }
 
 /// Whether no limit is exceeded, and the pickle goes on.
@@ -207,9 +186,9 @@ fn goes_on(tolls: &Tolls, metering: &Metering) -> bool
     ensures fits { result ≡ true → Fits tolls.now metering.now }
     ensures ended { result ≡ true → metering.now.bill.ended ≡ false }
 {
-    !metering.ended()
+    !metering.machine.ended()
         && tolls
-            .excess_of(&metering.tally(), metering.memory())
+            .excess_of(&metering.machine.tally(), metering.machine.memory())
             .is_none()
 }
 

@@ -1,6 +1,6 @@
 //! The bill of one pickle of a row after the other.
 
-ghost use Rattle.std.specs.Prelude.{◌≡◌, IfOk, OnOk, Ok, false, true};
+ghost use Rattle.std.specs.Prelude.{◌≡◌, OnOk, Ok, false, true};
 ghost use Rattle.pkops.specs.Inst.{instruction_of};
 ghost use Rattle.pkcheck.specs.Reports.{Skipped, Whole};
 ghost use Rattle.pkload.specs.Bill.{no_bill};
@@ -10,7 +10,6 @@ ghost use Rattle.pkload.specs.Private.Told.{metered_told, next_if, ready};
 
 use crate::halt::{Billing, Halt};
 use crate::machine::Machine;
-use crate::tally::Tally;
 use pkcheck::Memo;
 use pkops::{Inst, Op};
 use std::alloc::Global;
@@ -18,8 +17,10 @@ use std::marker::Model;
 
 /// The bill of a pickle, and the number of the pickle.
 pub struct Metering {
-    machine: Machine,
-    pickle: u64,
+    /// Its bill.
+    pub machine: Machine,
+    /// The number of the pickle.
+    pub pickle: u64,
 }
 
 impl Drop for Metering {
@@ -48,37 +49,6 @@ impl Metering {
             machine: Machine::new(alloc),
             pickle: 0,
         }
-    }
-
-    /// The number of the pickle.
-    pub fn pickle(&self) -> u64
-        ensures { result ≡ self.now.pickle }
-    {
-        self.pickle
-    }
-
-    /// Whether the pickle stopped.
-    #[inline]
-    pub fn ended(&self) -> bool
-        ensures { result ≡ self.now.bill.ended }
-    {
-        self.machine.ended()
-    }
-
-    /// What was counted.
-    #[inline]
-    pub fn tally(&self) -> Tally
-        ensures { result ≡ self.now.bill.tally }
-    {
-        self.machine.tally()
-    }
-
-    /// The memory that loading takes.
-    #[inline]
-    pub fn memory(&self) -> u64
-        ensures { result ≡ self.now.bill.memory }
-    {
-        self.machine.memory()
     }
 
     /// Begins the next pickle, if one has ended.
