@@ -2,6 +2,7 @@
 pub mod Packed
 pub mod Shown
 pub mod Gathered
+pub mod Lost
 pub mod Billing
 pub mod Told
 pub mod Meter

@@ -1,15 +1,16 @@
 //! Takes slices from the stack, and sums up their objects.
 
 ghost use Rattle.std.specs.List.{list_all};
-ghost use Rattle.std.specs.Prelude.{◌≡◌, IfOk, OnOk, map, suc, true};
+ghost use Rattle.std.specs.Prelude.{◌≡◌, IfErr, IfOk, OnOk, map, suc, true};
 ghost use Rattle.pkstack.specs.Shape.{is_even};
 ghost use Rattle.pkload.specs.Keys.{every_other};
 ghost use Rattle.pkload.specs.Private.Billing.{HasKeys, HasPairs};
 ghost use Rattle.pkload.specs.Private.Gathered.{IsTied, is_light};
+ghost use Rattle.pkload.specs.Private.Lost.{IsTooGreat};
 ghost use Rattle.pkload.specs.Private.Packed.{unpacked};
 ghost use Rattle.pkload.specs.Tally.{with_keys};
 
-use crate::halt::Halt;
+use crate::halt::{Halt, plus};
 use crate::making::tied;
 use crate::packed::{LIGHT, LIGHT_SALTED, PackedHeft};
 use crate::stack::Stack;
@@ -139,10 +140,8 @@ fn tied_slowly(codes: &[u32]) -> Result<PackedHeft, Halt>
 /// So many objects, and one more.
 #[inline(always)]
 pub fn with_receiver(count: u64) -> Result<u64, Halt>
-    ensures { IfOk result (λ all. all ≡ suc count) }
+    ensures ok { IfOk result (λ all. all ≡ suc count) }
+    ensures err { IfErr result (IsTooGreat (suc count)) }
 {
-    if count == u64::MAX {
-        return Err(Halt::Lost);
-    }
-    Ok(count + 1)
+    plus(count, 1)
 }

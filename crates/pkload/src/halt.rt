@@ -1,6 +1,7 @@
 //! Whether an instruction is billed, or why the bill can't be kept.
 
-ghost use Rattle.std.specs.Prelude.{◌≡◌, Ok, false, true};
+ghost use Rattle.std.specs.Prelude.{◌≡◌, ◌+◌, IfErr, IfOk, Ok, false, true};
+ghost use Rattle.pkload.specs.Private.Lost.{IsTooGreat};
 
 /// Why the bill can't be kept.
 #[derive(Clone, Copy)]
@@ -9,6 +10,18 @@ pub enum Halt {
     Lost,
     /// An allocation was refused.
     OutOfMemory,
+}
+
+/// The sum, if it fits.
+#[inline]
+pub fn plus(sum: u64, more: u64) -> Result<u64, Halt>
+    ensures ok { IfOk result (λ total. total ≡ sum + more) }
+    ensures err { IfErr result (IsTooGreat (sum + more)) }
+{
+    if sum > u64::MAX - more {
+        return Err(Halt::Lost);
+    }
+    Ok(sum + more)
 }
 
 /// Whether an instruction is billed. It fits a register, where a result would lie in memory.

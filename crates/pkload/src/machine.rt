@@ -15,9 +15,9 @@ mod reading;
 mod slicing;
 
 use crate::action::{Action, action_of};
-use crate::halt::{Billing, Halt};
+use crate::halt::{Billing, Halt, plus};
 use crate::memo::MemoTable;
-use crate::memory::{after_move, after_stop, argument_bytes, number_kept, plus};
+use crate::memory::{after_move, after_stop, argument_bytes, number_kept};
 use crate::moves::apply;
 use crate::packed::{LIGHT, PackedHeft};
 use crate::stack::Stack;

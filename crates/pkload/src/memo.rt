@@ -1,7 +1,8 @@
 //! The memo: what the objects stored under numbers cost.
 
-ghost use Rattle.std.specs.Prelude.{◌≡◌, length, IfOk, OnOk};
+ghost use Rattle.std.specs.Prelude.{◌≡◌, length, IfErr, IfOk, OnOk};
 ghost use Rattle.pkstack.specs.Shape.{stored};
+ghost use Rattle.pkload.specs.Private.Lost.{HasNoNumber};
 
 use crate::halt::Halt;
 use crate::packed::PackedHeft;
@@ -13,7 +14,8 @@ pub type MemoTable = NumberedMap<PackedHeft>;
 /// The next number, if it has 32 bits.
 #[inline(always)]
 pub fn next_number(memo: &MemoTable) -> Result<u32, Halt>
-    ensures { IfOk result (λ next. next ≡ length memo.now) }
+    ensures ok { IfOk result (λ next. next ≡ length memo.now) }
+    ensures err { IfErr result (HasNoNumber memo.now) }
 {
     let next = memo.len();
     if next > u64::from(u32::MAX) {

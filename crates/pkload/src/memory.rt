@@ -1,32 +1,22 @@
 //! The memory that loading takes.
 
 ghost use Rattle.std.specs.List.{filter, list_all};
-ghost use Rattle.std.specs.Prelude.{◌≡◌, ◌+◌, ◌*◌, ◌≤◌, IfOk, List, length, ltb};
+ghost use Rattle.std.specs.Prelude.{◌≡◌, ◌+◌, ◌*◌, ◌≤◌, IfErr, IfOk, List, length, ltb};
 ghost use Rattle.pkops.specs.Inst.{instruction_of};
 ghost use Rattle.pkstack.specs.Shape.{Entry};
 ghost use Rattle.pkload.specs.Heft.{Heft};
 ghost use Rattle.pkload.specs.Memory.{argument_bytes, begins_character, character_width};
 ghost use Rattle.pkload.specs.Memory.{held_memory, line_memory, move_memory, number_kept};
 ghost use Rattle.pkload.specs.Memory.{set_memory, text_memory};
+ghost use Rattle.pkload.specs.Private.Lost.{HasNoNumber, IsTooGreat, IsTooMuch};
 
-use crate::halt::Halt;
+use crate::halt::{Halt, plus};
 use crate::memo::{self, MemoTable};
 use pkops::{Arg, Inst, Op, is_ascii, spells_itself};
 use pkstack::Move;
 
 /// So much more than any memory that sums of some of them fit 64 bits.
 pub const MOST: u64 = 1_125_899_906_842_624;
-
-/// The sum, if it fits.
-#[inline]
-pub fn plus(memory: u64, more: u64) -> Result<u64, Halt>
-    ensures { IfOk result (λ sum. sum ≡ memory + more) }
-{
-    if memory > u64::MAX - more {
-        return Err(Halt::Lost);
-    }
-    Ok(memory + more)
-}
 
 /// Whether all bytes are below this one.
 fn are_below(bytes: &[u8], limit: u8) -> bool
@@ -146,7 +136,8 @@ pub fn argument_bytes<'a>(inst: &'a Inst<'_>) -> &'a [u8]
 /// The memory after an operation on so many objects.
 #[inline]
 pub fn after_operation(op: Op, count: u64, memory: u64) -> Result<u64, Halt>
-    ensures { IfOk result (λ sum. sum ≡ memory + (16 + held_memory op count)) }
+    ensures ok { IfOk result (λ sum. sum ≡ memory + (16 + held_memory op count)) }
+    ensures err { IfErr result (IsTooMuch count (memory + (16 + held_memory op count))) }
 {
     if count > MOST {
         return Err(Halt::Lost);
@@ -157,7 +148,9 @@ pub fn after_operation(op: Op, count: u64, memory: u64) -> Result<u64, Halt>
 /// The memory after an instruction that makes a text of these bytes.
 #[inline(always)]
 pub fn after_text(bytes: &[u8], memory: u64) -> Result<u64, Halt>
-    ensures { IfOk result (λ sum. sum ≡ memory + (16 + text_memory bytes.now)) }
+    ensures ok { IfOk result (λ sum. sum ≡ memory + (16 + text_memory bytes.now)) }
+    ensures err { IfErr result (IsTooMuch (length bytes.now)
+        (memory + (16 + text_memory bytes.now))) }
 {
     if bytes.len() as u64 > MOST {
         return Err(Halt::Lost);
@@ -168,7 +161,8 @@ pub fn after_text(bytes: &[u8], memory: u64) -> Result<u64, Halt>
 /// The memory after STOP.
 #[inline]
 pub fn after_stop(memory: u64) -> Result<u64, Halt>
-    ensures { IfOk result (λ sum. sum ≡ memory + 16) }
+    ensures ok { IfOk result (λ sum. sum ≡ memory + 16) }
+    ensures err { IfErr result (IsTooGreat (memory + 16)) }
 {
     plus(memory, 16)
 }
@@ -176,8 +170,9 @@ pub fn after_stop(memory: u64) -> Result<u64, Halt>
 /// The memo number under which a move stores, otherwise 0.
 #[inline(always)]
 pub fn number_kept(what: Move, number: u32, memo: &MemoTable) -> Result<u32, Halt>
-    ensures { IfOk result (λ kept. (entries : List (Entry Heft)) → kept ≡ number_kept what number
+    ensures ok { IfOk result (λ kept. (entries : List (Entry Heft)) → kept ≡ number_kept what number
         (record { entries = entries; memo = memo.now })) }
+    ensures err { IfErr result (λ halt. (what ≡ Move.StoresNext) × HasNoNumber memo.now halt) }
 {
     match what {
         Move::Stores => Ok(number),
@@ -189,7 +184,8 @@ pub fn number_kept(what: Move, number: u32, memo: &MemoTable) -> Result<u32, Hal
 /// The memory after a move that stores under a number so far above the highest before.
 #[inline(always)]
 pub fn after_move(what: Move, grown: u32, memory: u64) -> Result<u64, Halt>
-    ensures { IfOk result (λ sum. sum ≡ memory + move_memory what grown) }
+    ensures ok { IfOk result (λ sum. sum ≡ memory + move_memory what grown) }
+    ensures err { IfErr result (IsTooGreat (memory + move_memory what grown)) }
 {
     match what {
         Move::PushesMark => plus(memory, 32),

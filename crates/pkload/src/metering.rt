@@ -1,14 +1,15 @@
 //! The bill of one pickle of a row after the other.
 
-ghost use Rattle.std.specs.Prelude.{◌≡◌, OnOk, Ok, false, true};
+ghost use Rattle.std.specs.Prelude.{◌≡◌, IfErr, OnOk, Ok, false, suc, true};
 ghost use Rattle.pkops.specs.Inst.{instruction_of};
 ghost use Rattle.pkcheck.specs.Reports.{Skipped, Whole};
 ghost use Rattle.pkload.specs.Bill.{no_bill};
 ghost use Rattle.pkmachine.specs.declared.memo.Memo.{Memo as Between};
 ghost use Rattle.pkload.specs.Private.Billing.{IfBilled, IsQuiet};
+ghost use Rattle.pkload.specs.Private.Lost.{IsTooGreat};
 ghost use Rattle.pkload.specs.Private.Told.{metered_told, next_if, ready};
 
-use crate::halt::{Billing, Halt};
+use crate::halt::{Billing, Halt, plus};
 use crate::machine::Machine;
 use pkcheck::Memo;
 use pkops::{Inst, Op};
@@ -54,7 +55,9 @@ impl Metering {
     /// Begins the next pickle, if one has ended.
     #[inline(always)]
     fn begin(&mut self, memo: Memo) -> Result<(), Halt>
-        ensures { OnOk result (self.new ≡ ready memo self.old) }
+        ensures ok { OnOk result (self.new ≡ ready memo self.old) }
+        ensures err { IfErr result (λ halt. (self.old.bill.ended ≡ true)
+            × IsTooGreat (suc self.old.pickle) halt) }
     {
         if self.machine.ended() {
             return self.begin_next(memo);
@@ -65,12 +68,10 @@ impl Metering {
     /// Begins the next pickle.
     #[inline(never)]
     fn begin_next(&mut self, memo: Memo) -> Result<(), Halt>
-        ensures { OnOk result (self.new ≡ next_if true memo self.old) }
+        ensures ok { OnOk result (self.new ≡ next_if true memo self.old) }
+        ensures err { IfErr result (IsTooGreat (suc self.old.pickle)) }
     {
-        if self.pickle == u64::MAX {
-            return Err(Halt::Lost);
-        }
-        self.pickle += 1;
+        self.pickle = plus(self.pickle, 1)?;
         self.machine.begin_next(memo);
         Ok(())
     }

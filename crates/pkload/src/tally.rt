@@ -1,11 +1,11 @@
 //! What the keys of a pickle cost together.
 
-ghost use Rattle.std.specs.Prelude.{◌≡◌, ◌+◌, IfOk, OnOk};
+ghost use Rattle.std.specs.Prelude.{◌≡◌, IfErr, OnOk};
 ghost use Rattle.pkload.specs.Private.Gathered.{with_lights};
+ghost use Rattle.pkload.specs.Private.Lost.{HasTooGreat};
 ghost use Rattle.pkload.specs.Tally.{building, no_tally, with_key};
 
-use crate::halt::Halt;
-use crate::memory;
+use crate::halt::{Halt, plus};
 use crate::packed::{LIGHT, PackedHeft};
 
 /// What the keys of dicts and the items of sets cost, and whether BUILD takes an imported object.
@@ -51,15 +51,16 @@ impl Tally {
     /// Counts one more key.
     #[inline(always)]
     pub(crate) fn add(&mut self, key: PackedHeft) -> Result<(), Halt>
-        ensures { OnOk result (self.new ≡ with_key self.old key) }
+        ensures ok { OnOk result (self.new ≡ with_key self.old key) }
+        ensures err { IfErr result (HasTooGreat (with_key self.old key)) }
     {
         if key.code() == LIGHT {
             return self.add_lights(1, 0);
         }
         let weight = key.weight();
         let clash = if key.is_salted() { 0 } else { weight };
-        self.work = plus(self.work, weight)?;
-        self.clash = plus(self.clash, clash)?;
+        self.work = plus(self.work, u64::from(weight))?;
+        self.clash = plus(self.clash, u64::from(clash))?;
         self.levels = self.levels.max(key.depth());
         self.weight = self.weight.max(weight);
         Ok(())
@@ -68,24 +69,13 @@ impl Tally {
     /// Counts keys that weigh one, so many with an unsalted hash and so many with a salted one.
     #[inline]
     pub(crate) fn add_lights(&mut self, plain: u64, salted: u64) -> Result<(), Halt>
-        ensures { OnOk result (self.new ≡ with_lights plain salted self.old) }
+        ensures ok { OnOk result (self.new ≡ with_lights plain salted self.old) }
+        ensures err { IfErr result (HasTooGreat (with_lights plain salted self.old)) }
     {
-        let all = memory::plus(plain, salted)?;
-        self.work = memory::plus(self.work, all)?;
-        self.clash = memory::plus(self.clash, plain)?;
+        let all = plus(plain, salted)?;
+        self.work = plus(self.work, all)?;
+        self.clash = plus(self.clash, plain)?;
         self.weight = self.weight.max(if all > 0 { 1 } else { 0 });
         Ok(())
     }
-}
-
-/// The sum, if it fits.
-#[inline]
-fn plus(sum: u64, weight: u32) -> Result<u64, Halt>
-    ensures { IfOk result (λ total. total ≡ sum + weight) }
-{
-    let weight = u64::from(weight);
-    if sum > u64::MAX - weight {
-        return Err(Halt::Lost);
-    }
-    Ok(sum + weight)
 }

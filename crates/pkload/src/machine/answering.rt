@@ -5,8 +5,7 @@ ghost use Rattle.pkstack.specs.Shape.{items};
 ghost use Rattle.pkload.specs.Private.Billing.{IsAnswered, IsQuiet, op_billed};
 
 use super::Machine;
-use crate::halt::Halt;
-use crate::memory::plus;
+use crate::halt::{Halt, plus};
 use crate::packed::PackedHeft;
 use pkops::Op;
 
