@@ -1,30 +1,16 @@
 //! The lines of GET, PUT, INT and UNICODE, the most frequent ones of protocol 0. One pass over such
 //! a line both finds its end and judges it. Lines that it doesn't recognize are left to `front`.
 
-ghost use Rattle.std.specs.Prelude.{◌≡◌, ◌≢◌, ◌⊎◌, ◌<◌, ◌≤◌, ◌==◌, ◌||◌, false, length, not};
+ghost use Rattle.std.specs.Prelude.{◌≡◌, ◌≢◌, ◌<◌, ◌≤◌, ◌==◌, ◌||◌, false, length, not};
 ghost use Rattle.std.specs.Prelude.{position, slice_index, true};
 ghost use Rattle.std.specs.Char.{is_ascii_digit};
 ghost use Rattle.pkops.specs.Limits.{Bounds};
-ghost use Rattle.pkops.specs.Table.{code_of};
-ghost use Rattle.pkops.specs.declared.Op.{Op};
-ghost use Rattle.pkops.specs.declared.Op.TheVariants as op;
 ghost use Rattle.pkops.specs.declared.Rule.TheVariants as rule;
-ghost use Rattle.pkread.specs.Private.Arms.{BeginsWithNumber, HasLine, IsInFront};
+ghost use Rattle.pkread.specs.Private.Arms.{BeginsWithNumber, HasCode, HasLine, IsInFront};
 
-use pkops::laws::{one_code, rules_are_computed};
+use pkops::Op;
+use pkops::laws::rules_are_computed;
 use pkops::lengths::SEARCHED;
-
-/// The code of INT.
-const INT: u8 = 0x49;
-
-/// The code of UNICODE.
-const TEXT: u8 = 0x56;
-
-/// The code of GET.
-const GET: u8 = 0x67;
-
-/// The code of PUT.
-const PUT: u8 = 0x70;
 
 /// The bytes of nine digits, which 32 bits always hold, and a line feed.
 const NUMBER: usize = 10;
@@ -33,31 +19,21 @@ const NUMBER: usize = 10;
 /// UNICODE, it is good, its number has at most nine digits, and its text has no escape; otherwise
 /// it may be 0.
 #[inline(always)]
-pub(crate) fn frequent_line_length(code: u8, bytes: &[u8]) -> usize
+pub(crate) fn frequent_line_length(op: Op, bytes: &[u8]) -> usize
     requires some { 0 < length bytes.now }
-    requires code { code ≡ slice_index bytes.now 0 }
-    ensures { (named : Op) (limits : Bounds) → code_of named ≡ code → result ≢ 0
-        → IsInFront limits named result bytes.now }
+    requires code { HasCode op bytes.now }
+    ensures { (limits : Bounds) → result ≢ 0 → IsInFront limits op result bytes.now }
 {
-    one_code();
-    if is_memo_code(code) {
+    if let Op::Get | Op::Put = op {
         return memo_line_length(bytes);
     }
-    if code == INT {
+    if let Op::Int = op {
         return int_line_length(bytes);
     }
-    if code == TEXT {
+    if let Op::Unicode = op {
         return text_line_length(bytes);
     }
     0
-}
-
-/// Whether this is the code of GET or PUT.
-#[inline(always)]
-fn is_memo_code(code: u8) -> bool
-    ensures { result ≡ true → (code ≡ code_of op.Get) ⊎ (code ≡ code_of op.Put) }
-{
-    code == GET || code == PUT
 }
 
 /// The number of bytes of an instruction with a memo number.

@@ -1,17 +1,16 @@
 -- The lines of GET, PUT, INT and UNICODE that one pass finds and judges.
-use Rattle.std.proofs.Common.{◌≡◌, ℕ, suc, zero, ◌+◌, ◌<◌, ◌≤◌, ◌^◌, Bool, false, true}
-use Rattle.std.proofs.Common.{List, [], ◌∷◌, ◌++◌, length, take, drop, get_or, Some, refl, leb}
-use Rattle.std.proofs.Common.{sym, ap, subst, ◌∙◌, arith, append_assoc, length-append, inl, inr}
-use Rattle.std.proofs.Common.{not}
-use Rattle.std.specs.Prelude.{◌≢◌, ◌↔◌, ◌==◌, ◌||◌, map, position}
+use Rattle.std.proofs.Common.{◌≡◌, ℕ, suc, zero, ◌+◌, ◌<◌, ◌≤◌, ◌^◌, Bool, false, true, List, []}
+use Rattle.std.proofs.Common.{◌∷◌, ◌++◌, length, take, drop, get_or, Some, refl, leb, sym, ap}
+use Rattle.std.proofs.Common.{subst, ◌∙◌, arith, append_assoc, length-append, inl, inr, not, ◌≢◌}
+use Rattle.std.proofs.Common.{◌↔◌, ◌==◌, ◌||◌, map, position, All, flat_map, get_or-take}
+use Rattle.std.proofs.Common.{length-take, take-append-drop, take-take, take_at}
 use Rattle.std.specs.Char.{is_ascii_digit}
-use Rattle.std.specs.List.{All, AllByRecursion, flat_map, list_all}
+use Rattle.std.specs.List.{AllByRecursion, list_all}
 use Rattle.std.specs.Str.Parse.{AllDigits, digits_value}
 use Rattle.std.proofs.Math.Nat.{pow-le-pow_right}
 use Rattle.std.proofs.lemmas.Bool.{and_from, and_parts, cases_Bool, eqb-false, eqb-true, le-leb}
 use Rattle.std.proofs.lemmas.Bool.{leb-true, lt-ltb, or_cases, or_left, or_right}
 use Rattle.std.proofs.lemmas.Int.Digits.{digits_value-lt}
-use Rattle.std.proofs.lemmas.List.{get_or-take, length-take, take-append-drop, take-take, take_at}
 use Rattle.std.proofs.lemmas.List.{take_more}
 use Rattle.std.proofs.lemmas.List.Concat.{flat_map-cons}
 use Rattle.std.proofs.lemmas.List.Elements.{All-cons, All-nil}
@@ -26,11 +25,13 @@ use Rattle.pkops.specs.Spelling.{Argument, Line, Suits, layout_at, line_feed}
 use Rattle.pkops.specs.Table.{code_of}
 use Rattle.pkops.specs.declared.Layout.TheVariants as layout
 use Rattle.pkops.specs.declared.Op.{Op}
+use Rattle.pkops.specs.declared.Op.TheVariants as op
 use Rattle.pkops.specs.declared.Rule.{Rule}
 use Rattle.pkops.specs.declared.Rule.TheVariants as rule
-use Rattle.pkread.proofs.Bytes.FrontLines.{line_role}
+use Rattle.pkread.proofs.Bytes.FrontLines.{no_two_lines, other_role}
 use Rattle.pkread.proofs.Bytes.Texts.{line_admitted}
-use Rattle.pkread.specs.Private.Arms.{BeginsWithNumber, HasLine, IsInFront}
+use Rattle.pkread.specs.Private.Arms.{BeginsWithNumber, HasCode, HasLine, IsFront}
+use Rattle.pkread.specs.Private.Arms.{IsInFront}
 
 -- ---- few digits without a leading zero are a memo number
 
@@ -321,7 +322,7 @@ text_line n k (x ∷ rest) some low found feed = text_at n k x rest low found fe
 -- an opcode with a good line is in front
 pub line_in_front : (limits : Bounds) (o : Op) (n most : ℕ) (bytes : List ℕ) →
     layout_at o ≡ layout.Line most → 256 ≤ most → code_of o ≡ get_or bytes 0 0 →
-    HasLine (rule_of o) n bytes → IsInFront limits o n bytes
+    HasLine (rule_of o) n bytes → IsFront limits o 0 n bytes
 line_in_front limits o n most bytes lay room code h =
     let e : n ≡ suc (length (h.line ++ line_feed ∷ [])) =
     omega (arith, h.count, length-append h.line (line_feed ∷ [])) in
@@ -337,29 +338,28 @@ line_in_front limits o n most bytes lay room code h =
     let sum = length-append front h.behind in
     let short = h.short.short in
     let suits : Suits (layout_at o) (Line h.line) =
-    rw lay (record { short = omega (arith, short, room); whole = h.short.whole }) in (
-      0,
-      record {
-        found = record {
-          arg = Line h.line;
-          lies = record {
-            laid = record { suits = suits; within = tt };
-            spelled = rw code cut;
-            split_is = refl;
-          };
-          good = record { suits = suits; contents = h.obeys };
-          admitted = line_admitted o most (Line h.line) lay;
+    rw lay (record { short = omega (arith, short, room); whole = h.short.whole }) in
+    record {
+      found = record {
+        arg = Line h.line;
+        lies = record {
+          laid = record { suits = suits; within = tt };
+          spelled = rw code cut;
+          split_is = refl;
         };
-        role = line_role o most lay;
-        within = omega (arith, e, total, sum);
-      },
-    )
+        good = record { suits = suits; contents = h.obeys };
+        admitted = line_admitted o most (Line h.line) lay;
+      };
+      role = other_role o (rw lay (λ e. cc)) (rw lay (λ e. cc));
+      within = omega (arith, e, total, sum);
+    }
 
--- and so is any opcode that has the code of this one
-pub line_of : ((a b : Op) → code_of a ≡ code_of b → a ≡ b) → (limits : Bounds) (o named : Op)
-    (n most code : ℕ) (bytes : List ℕ) → layout_at o ≡ layout.Line most → 256 ≤ most →
-    code_of named ≡ code → code ≡ code_of o → code ≡ get_or bytes 0 0 →
+-- and so is an opcode that is this one
+pub line_of : (limits : Bounds) (o named : Op) (n most : ℕ) (bytes : List ℕ) → named ≡ o →
+    layout_at o ≡ layout.Line most → 256 ≤ most → o ≢ op.Stop → HasCode named bytes →
     HasLine (rule_of o) n bytes → IsInFront limits named n bytes
-line_of one limits o named n most code bytes lay room is known at h =
-    subst (λ (x : Op). IsInFront limits x n bytes) (sym (one named o (is ∙ known)))
-    (line_in_front limits o n most bytes lay room (sym known ∙ at) h)
+line_of limits o named n most bytes is lay room unlike code h =
+    let same = subst (λ (x : Op). HasCode x bytes) is code unlike in
+    let front = line_in_front limits o n most bytes lay room same h in
+    let single = no_two_lines o (λ m. rw lay (λ e. cc)) in
+    subst (λ (x : Op). IsInFront limits x n bytes) (sym is) (rw single front)

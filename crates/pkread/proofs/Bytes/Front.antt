@@ -1,11 +1,8 @@
 -- The instruction at the front of the bytes that a source has at hand.
 use Rattle.std.proofs.Common.{◌≡◌, ℕ, suc, zero, ◌+◌, ◌-◌, ◌*◌, ◌<◌, ◌≤◌, Bool, false, true, List}
-use Rattle.std.proofs.Common.{[], ◌∷◌, ◌++◌, length, take, drop, get_or, None, refl}
-use Rattle.std.proofs.Common.{sym, ap, subst, ◌∙◌, arith}
-use Rattle.std.specs.Prelude.{slice_index}
-use Rattle.std.specs.Str.{IsUtf8}
-use Rattle.std.proofs.Math.Seq.{take-add}
-use Rattle.std.proofs.lemmas.List.{get_or-take, length-drop, length-take}
+use Rattle.std.proofs.Common.{[], ◌∷◌, ◌++◌, length, take, drop, get_or, None, refl, sym, ap, subst}
+use Rattle.std.proofs.Common.{◌∙◌, arith, slice_index, IsUtf8, take-add, get_or-take, length-drop}
+use Rattle.std.proofs.Common.{length-take}
 use Rattle.byteorder.specs.Endian.{little_bytes, little_from}
 use Rattle.byteorder.specs.Numbers.{little_from-lt}
 use Rattle.pkops.specs.Contents.{Keeps, rule_of}
@@ -13,20 +10,17 @@ use Rattle.pkops.specs.Growth.{CountLaws, FieldLaws}
 use Rattle.pkops.specs.Limits.{Bounds}
 use Rattle.pkops.specs.KnownLayout.{AreBytes, Lies, count_in, field_len}
 use Rattle.pkops.specs.Payloads.{payload_limit}
-use Rattle.pkops.specs.Spelling.{Counted, Number}
-use Rattle.pkops.specs.Spelling.{count_limit, instruction, layout_at}
-use Rattle.pkops.specs.Spelling.{size_of}
+use Rattle.pkops.specs.Spelling.{Counted, Number, count_limit, instruction, layout_at, size_of}
 use Rattle.pkops.specs.Table.{code_of}
 use Rattle.pkops.specs.declared.Layout.TheVariants as layout
 use Rattle.pkops.specs.declared.Width.{Width}
 use Rattle.pkops.specs.declared.Op.{Op}
 use Rattle.pkops.specs.declared.Op.TheVariants as op
+use Rattle.pkread.proofs.Bytes.FrontLines.{other_role}
 use Rattle.pkread.proofs.Bytes.Plain.{any_rule, takes_any, text_admitted, text_rule}
 use Rattle.pkread.proofs.Bytes.Taken.{AreBytes-take}
 use Rattle.pkread.specs.Admission.{objection}
-use Rattle.pkread.specs.Framing.{other}
-use Rattle.pkread.specs.Pieces.{role_of}
-use Rattle.pkread.specs.Private.Arms.{HasFixedLength, IsFront, IsInFront}
+use Rattle.pkread.specs.Private.Arms.{HasFixedLength, IsFront}
 use Rattle.pkread.specs.Private.Judgement.{is_plain}
 use Rattle.pkread.specs.Pull.{AreAllBytes}
 
@@ -71,35 +65,26 @@ protocol_is (suc (suc (suc (suc (suc (suc more)))))) known = absurd (omega (arit
 
 -- PROTO with a known protocol
 pub proto_front : (limits : Bounds) (bytes : List ℕ) → 2 ≤ length bytes →
-    code_of op.Proto ≡ get_or bytes 0 0 → get_or bytes 1 0 ≤ 5 → IsInFront limits op.Proto 2 bytes
+    code_of op.Proto ≡ get_or bytes 0 0 → get_or bytes 1 0 ≤ 5 → IsFront limits op.Proto 0 2 bytes
 proto_front limits [] room code known = absurd (omega (arith, room))
 proto_front limits (x ∷ []) room code known = absurd (omega (arith, room))
 proto_front limits (x ∷ version ∷ rest) room code known =
     let is = protocol_is version known in
-    let small : version < 256 = omega (arith, known) in (
-      0,
-      record {
-        found = record {
-          arg = Number 1 version;
-          lies = record {
-            laid = record { suits = (refl, small); within = tt };
-            spelled = rw (code, is.0) refl;
-            split_is = refl;
-          };
-          good = record { suits = (refl, small); contents = tt };
-          admitted = is.1;
+    let small : version < 256 = omega (arith, known) in
+    record {
+      found = record {
+        arg = Number 1 version;
+        lies = record {
+          laid = record { suits = (refl, small); within = tt };
+          spelled = rw (code, is.0) refl;
+          split_is = refl;
         };
-        role = refl;
-        within = room;
-      },
-    )
-
--- an opcode with an argument that varies in length is neither STOP nor FRAME
-counted_role : (o : Op) (size : Width) → layout_at o ≡ layout.Counted size false →
-    role_of o 0 ≡ other
-counted_role op.Stop size e = absurd cc
-counted_role op.Frame size e = absurd cc
-counted_role _ size e = refl
+        good = record { suits = (refl, small); contents = tt };
+        admitted = is.1;
+      };
+      role = refl;
+      within = room;
+    }
 
 -- the number in the first bytes doesn't depend on those behind them
 number_take : (i n k : ℕ) (xs : List ℕ) → i + n ≤ k →
@@ -123,7 +108,7 @@ pub counted_front : CountLaws → (limits : Bounds) (n : ℕ) (o : Op) (size : W
     size_of size + 1 ≤ length bytes → count_in size (drop 1 bytes) ≤ payload_limit limits o →
     n ≡ size_of size + 1 + count_in size (drop 1 bytes) → n ≤ length bytes →
     (is_plain o ≡ false → IsUtf8 (take (n - (size_of size + 1)) (drop (size_of size + 1) bytes))) →
-    IsInFront limits o n bytes
+    IsFront limits o 0 n bytes
 counted_front counts limits n o size [] lay fits code head within is room good =
     absurd (omega (arith, head))
 counted_front counts limits n o size (x ∷ rest) lay fits code head within is room good =
@@ -151,20 +136,18 @@ counted_front counts limits n o size (x ∷ rest) lay fits code head within is r
     let left : n - (k + 1) ≡ count = omega (arith, is) in
     let head_is : k + 1 ≡ suc k = omega arith in
     let good' : is_plain o ≡ false → IsUtf8 (take (n - (k + 1)) (drop k rest)) =
-    λ e. subst (λ (m : ℕ). IsUtf8 (take (n - (k + 1)) (drop m (x ∷ rest)))) head_is (good e) in (
-      0,
-      record {
-        found = record {
-          arg = Counted payload;
-          lies = lies;
-          good = record {
-            suits = lies.laid.suits;
-            contents = payload_keeps o size payload (is_plain o) lay refl
-                (subst (λ (m : ℕ). is_plain o ≡ false → IsUtf8 (take m (drop k rest))) left good');
-          };
-          admitted = text_admitted o size false (Counted payload) lay;
+    λ e. subst (λ (m : ℕ). IsUtf8 (take (n - (k + 1)) (drop m (x ∷ rest)))) head_is (good e) in
+    record {
+      found = record {
+        arg = Counted payload;
+        lies = lies;
+        good = record {
+          suits = lies.laid.suits;
+          contents = payload_keeps o size payload (is_plain o) lay refl
+              (subst (λ (m : ℕ). is_plain o ≡ false → IsUtf8 (take m (drop k rest))) left good');
         };
-        role = counted_role o size lay;
-        within = room;
-      },
-    )
+        admitted = text_admitted o size false (Counted payload) lay;
+      };
+      role = other_role o (rw lay (λ e. cc)) (rw lay (λ e. cc));
+      within = room;
+    }

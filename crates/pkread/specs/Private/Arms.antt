@@ -1,6 +1,7 @@
 -- How the arms take the bytes of one instruction.
 use Rattle.std.specs.Prelude.{◌≡◌, ◌≢◌, ◌⊎◌, ℕ, ◌+◌, ◌<◌, ◌≤◌, List, [], ◌∷◌, ◌++◌, length}
-use Rattle.std.specs.Prelude.{None, Result, MatchResult, slice_index, take, true}
+use Rattle.std.specs.Prelude.{None, Result, MatchResult, slice_index, take, true, false, Bool, ◌/◌}
+use Rattle.std.specs.Prelude.{◌%◌, if◌then◌else◌}
 use Rattle.std.specs.Char.{is_ascii_digit}
 use Rattle.std.specs.List.{AllByRecursion, list_all}
 use Rattle.std.specs.Io.KnownBytes.{IsAtEnd}
@@ -14,6 +15,7 @@ use Rattle.pkops.specs.Spelling.{Argument, IsLine, Line, count_limit, instructio
 use Rattle.pkops.specs.Spelling.{line_feed, size_of}
 use Rattle.pkops.specs.Table.{code_of}
 use Rattle.pkops.specs.declared.Op.{Op}
+use Rattle.pkops.specs.declared.Op.TheVariants as op
 use Rattle.pkops.specs.declared.Rule.{Rule}
 use Rattle.pkops.specs.declared.Reason.{Reason}
 use Rattle.pkops.specs.declared.Reason.TheVariants.{Source, Truncated, TooLarge}
@@ -125,9 +127,27 @@ pub record IsFront (limits : Bounds) (op : Op) (split n : ℕ) (bytes : List ℕ
   pub role : role_of op 0 ≡ other
   pub within : n ≤ length bytes
 
--- like IsFront, wherever its first line ends
+-- the opcode has two lines
+abbrev pub has_two_lines : Op → Bool
+has_two_lines op.Global = true
+has_two_lines op.Inst = true
+has_two_lines _ = false
+
+-- one number tells how long an instruction is. With two lines, it is 512 times the length of the
+-- first plus the length of the instruction, both below 512
+abbrev pub first_of : Op → ℕ → ℕ
+first_of o lengths = if has_two_lines o then lengths / 512 else 0
+
+abbrev pub length_of : Op → ℕ → ℕ
+length_of o lengths = if has_two_lines o then lengths % 512 else lengths
+
+-- like IsFront, with both lengths in one number
 abbrev pub IsInFront : Bounds → Op → ℕ → List ℕ → Type 0
-IsInFront limits op n bytes = (split : ℕ) × IsFront limits op split n bytes
+IsInFront limits o lengths bytes = IsFront limits o (first_of o lengths) (length_of o lengths) bytes
+
+-- the bytes begin with the code of the opcode, unless that is STOP
+abbrev pub HasCode : Op → List ℕ → Type 0
+HasCode o bytes = o ≢ op.Stop → code_of o ≡ slice_index bytes 0
 
 -- behind the code stand a line that obeys the rule, and its line feed: n bytes with the code
 pub record HasLine (rule : Rule) (n : ℕ) (bytes : List ℕ) : Type 0 where

@@ -9,7 +9,7 @@ returns c =
     let op = c.start_of-start.result.op in
     let same = c.from-length.ensures in
     let some = λ (e : c.start_of-start.result.length ≡ 0). c.if-length-eq0.false (rw same e) in
-    let code = c.start_of-start.ensures.code some in
+    let code = c.start_of-start.ensures.code (λ stop. some) in
     let fixed : HasFixedLength op c.from-length.result =
     rw same (c.start_of-start.ensures.fixed op code some)
     in
