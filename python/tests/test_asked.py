@@ -71,7 +71,7 @@ def files():
 
 class Asked(unittest.TestCase):
     def assert_others_find_nothing(self, data, path="file"):
-        names = {name for name, _ in asked(place_of(data, path))}
+        names = {name for name, _ in asked(path, place_of(data).source)}
         for name, reading in READINGS.items():
             if name not in names:
                 self.assertEqual(said(reading, place_of(data, path)), ([], False), (name, data))
@@ -85,7 +85,7 @@ class Asked(unittest.TestCase):
     def test_each_kind_is_asked(self):
         found = set()
         for data in files():
-            names = {name for name, _ in asked(place_of(data))}
+            names = {name for name, _ in asked("file", place_of(data).source)}
             found |= {it for it in names if said(READINGS[it], place_of(data)) != ([], False)}
         self.assertEqual(set(READINGS) - found, {"dbm.dumb", "distcp"})
 
@@ -104,7 +104,8 @@ class Asked(unittest.TestCase):
             self.assertEqual([it.status for it in found], ["refused"], found)
 
     def test_few_are_asked_about_a_pickle(self):
-        names = [name for name, _ in asked(place_of(pickle.dumps(["a text"] * 99, 2)))]
+        source = place_of(pickle.dumps(["a text"] * 99, 2)).source
+        names = [name for name, _ in asked("file", source)]
         self.assertEqual(names, ["pickle"])
 
 

@@ -17,8 +17,9 @@ from .packed import (
 )
 from .pickles import pickle_reading
 from .places import METADATA, PART, VALUES
-from .readings import Place, Reading
+from .readings import Reading
 from .shelves import shelf_reading
+from .source import Source
 from .sqlite_files import sqlite_reading
 from .stores import HDF5_MAGIC, LMDB_MARK, STORES
 from .tars import TAR_MARK, tar_reading
@@ -79,13 +80,12 @@ _Item = Tuple[str, Reading]
 _ENDINGS = (VALUES, PART, METADATA)
 
 
-def asked(place: Place) -> Sequence[_Item]:
+def asked(path: str, source: Source) -> Sequence[_Item]:
     """The readings that have to be asked, by name: the others find nothing. Few have to be, of most
     files.
     """
-    source = place.source
     front = source.front()
-    if not front or place.path.lower().endswith(_ENDINGS):
+    if not front or path.lower().endswith(_ENDINGS):
         return tuple(READINGS.items())
     is_whole = len(front) == source.size
     plain, marks, others = _beginning(front[:1])

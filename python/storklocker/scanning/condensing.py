@@ -93,8 +93,10 @@ def _is_small(report: Report) -> bool:
     """Whether there is room for it, if no other is in front of it."""
     if report.is_finding or report.listing or len(report.imports) > 7:
         return False
-    names = sum(len(text or "") for pair in report.imports for text in pair)
-    return len(report.path) + len(report.file) + len(report.why) + names < 4000
+    size = len(report.path) + len(report.file) + len(report.why)
+    for module, name in report.imports:
+        size += len(module or "") + len(name or "")
+    return size < 4000
 
 
 def _weight(report: Report) -> int:

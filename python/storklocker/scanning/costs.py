@@ -67,7 +67,7 @@ def exceeded(data: bytes, names: Iterable[Names]) -> Optional[Exceeded]:
     """Why a guard refuses the pickle at the front of the bytes, whose imports are these, whatever
     is listed; None if it doesn't.
     """
-    allow = _permitting(names)
+    allow = permitting(names)
     found = verdict(data, allow, None)
     if found.reason not in KINDS:
         return None
@@ -81,7 +81,7 @@ def exceeded_in_row(data: bytes, names: Iterable[Names]) -> Optional[Tuple[Excee
     """Why a guard refuses the first of these pickles that it refuses whatever is listed, its offset
     and its index; None if there is none, or another one is refused before it.
     """
-    found = row_verdict(data, _permitting(names), None)
+    found = row_verdict(data, permitting(names), None)
     if found.reason not in KINDS:
         return None
     at = 0
@@ -91,7 +91,8 @@ def exceeded_in_row(data: bytes, names: Iterable[Names]) -> Optional[Tuple[Excee
     return None if first is None else (first, at, found.pickles)
 
 
-def _permitting(names: Iterable[Names]) -> AllowList:
+def permitting(names: Iterable[Names]) -> AllowList:
+    """The list of these names, with limits on costs alone."""
     pairs = tuple((module, name) for module, name in names if module is not None and name)
     is_small = sum(len(module) + len(name) for module, name in pairs) <= _SMALL
     return _permitting_few(pairs) if is_small else _permitting_all(pairs)
@@ -109,7 +110,7 @@ def bill_of(data: bytes, names: Iterable[Names]) -> str:
     """What loading the pickle at the front of the bytes costs, whose imports are these; empty if it
     isn't known.
     """
-    return _bill_under(_permitting(names), data)
+    return _bill_under(permitting(names), data)
 
 
 def _bill_under(allow: AllowList, data: bytes) -> str:

@@ -14,6 +14,8 @@ from .costs import COUNTED, bill_of, cost_finding
 from .dangers import import_findings
 from .joblib_files import WRAPPER_NAMES, without_arrays
 from .listing import listing
+from .lone import Lone
+from .names import pair_of
 from .readings import (
     Beside, Nothing, Piece, Place, Unread, all_asked, examine, is_text, nothing
 )
@@ -53,10 +55,42 @@ def reports_of(
     """The reports on a file: one for each piece that is a pickle, and one for each finding."""
     try:
         source = source_of(file)
+        lone = _lone_report(path, source, question)
+        if lone is not None:
+            yield lone
+            return
         place = Place(path, source, Budget(source.size), beside=beside)
         yield from _reports_at(place, question)
     except TooMuch as error:
         yield unreadable(path, "file", Finding("too-much", str(error)), path)
+
+
+_lone = Lone(None)
+"""Tells of lone pickles under the list of the last file."""
+
+
+def _lone_report(path: str, source: Source, question: Question) -> Optional[Report]:
+    """The report on a file that is one small pickle, as most are; None if it isn't known to be."""
+    global _lone
+    lone = _lone
+    if lone.allow is not question.allow:
+        lone = _lone = Lone(question.allow)
+    told = lone.told(path, source)
+    if told is None:
+        return None
+    status, why = _accepted(source.size, len(told.imports), question.allow)
+    sha256 = _sha256(source) if question.with_sha256 else ""
+    return Report(
+        *(path, "pickle", status, why, source.size, sha256, 1),
+        *(told.imports, (), told.findings, (), 0, path),
+    )
+
+
+def _accepted(taken: int, count: int, allow: Optional[AllowList]) -> Tuple[str, str]:
+    """The status and the line of an accepted pickle with so many bytes and names."""
+    if allow is None:
+        return UNJUDGED, f"{taken} bytes, {count} names"
+    return ACCEPTED, f"yes: {taken} bytes, {count} names"
 
 
 def _reports_at(place: Place, question: Question) -> Iterator[Report]:
@@ -90,15 +124,13 @@ def _counts(row: Row, allow: Optional[AllowList]) -> bool:
     """Whether an import of a broken pickle is off the list; without one, known to do harm."""
     if allow is not None:
         return not (row.is_complete and all(map(allow._has, row.names)))
-    found = import_findings(map(_pair_of, row.names))
+    found = import_findings(map(pair_of, row.names))
     return not row.is_complete or any(finding.severity != NOTE for finding in found)
 
 
 def _judged(piece: Piece, row: Row, question: Question, place: Place) -> Report:
     imports, missing, findings = _told_names(row, question.allow, place.budget)
-    status, why = ACCEPTED, f"yes: {row.taken} bytes, {len(row.names)} names"
-    if question.allow is None:
-        status, why = UNJUDGED, f"{row.taken} bytes, {len(row.names)} names"
+    status, why = _accepted(row.taken, len(row.names), question.allow)
     if row.refusal is not None:
         why = row.refusal.line(64)
         if row.number:
@@ -163,14 +195,14 @@ def _told_names(row: Row, allow: Optional[AllowList], budget: Budget) -> _Told:
         if budget.spend_names(len(pairs), size):
             return pairs, (), [] if is_harmless else import_findings(pairs, allow)
     imports, missing = _shown_names(row, allow, budget)
-    return imports, missing, import_findings(map(_pair_of, row.names), allow)
+    return imports, missing, import_findings(map(pair_of, row.names), allow)
 
 
 # (the files of a scan mostly import the same names)
 @functools.lru_cache(maxsize=1024)
 def _texts_of(names: Tuple["Names", ...]) -> Tuple[Tuple[Pair, ...], int, bool]:
     """These names as pairs of texts, how long all are, and whether all are known to be harmless."""
-    pairs = tuple(map(_pair_of, names))
+    pairs = tuple(map(pair_of, names))
     size = sum(len(text or "") for pair in pairs for text in pair)
     return pairs, size, not import_findings(pairs)
 
@@ -194,13 +226,6 @@ def _shown_names(
         return tuple(kept.values()), ()
     imports = tuple(kept[both] for both in row.names if both in kept)
     return imports, tuple(kept[both] for both in row.names if both in kept and is_off(both))
-
-
-def _pair_of(both: Tuple[Optional[bytes], Optional[bytes]]) -> Pair:
-    module, name = both
-    if module is None or name is None:
-        return (None, None)
-    return (module.decode("utf-8", "replace"), name.decode("utf-8", "replace"))
 
 
 def _text_of(name: Optional[bytes]) -> Optional[str]:

@@ -12,6 +12,7 @@ from .._pairs import records
 from .._reasons import Reason
 from .._storklocker import imports as _imports
 from .budget import Budget
+from .report import Pair
 from .source import BLOCK, Source
 
 if TYPE_CHECKING:
@@ -47,6 +48,14 @@ def _with_numbers(most: int) -> Limits:
 @functools.lru_cache(maxsize=256)
 def _few_of(room: bytes) -> Tuple[Names, ...]:
     return tuple(records(room))
+
+
+def pair_of(both: Names) -> Pair:
+    """Both names as texts."""
+    module, name = both
+    if module is None or name is None:
+        return (None, None)
+    return (module.decode("utf-8", "replace"), name.decode("utf-8", "replace"))
 
 
 class Imports(NamedTuple):

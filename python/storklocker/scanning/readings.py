@@ -124,7 +124,7 @@ _CONTROL, _SOON = re.compile(rb"[\0-\x08\x0b\x0e-\x1f\x7f]"), 256
 
 
 @functools.lru_cache(maxsize=None)
-def all_asked() -> Callable[[Place], Sequence[Tuple[str, Reading]]]:
+def all_asked() -> Callable[[str, Source], Sequence[Tuple[str, Reading]]]:
     """What gives the readings to ask. It is imported late, because they import this module, and
     once, because that takes as long as some of them.
     """
@@ -139,7 +139,7 @@ def examine(place: Place) -> Found:
     takers: List[str] = []
     if place.depth < 0:
         raise TooMuch(f"containers are more than {DEPTH} deep in one another")
-    for name, reading in all_asked()(place):
+    for name, reading in all_asked()(place.path, place.source):
         if (yield from reading(place)):
             takers.append(name)
     if len(takers) > 1:

@@ -33,7 +33,7 @@ _AT_ONCE = 1 << 16
 """How many bytes of small pickles are looked at for costs by one call: a call for each would take
 as long as all the rest.
 """
-_CLAIM = re.compile(rb"\x80[\x02-\x05]")
+CLAIM = re.compile(rb"\x80[\x02-\x05]")
 """How pickles of protocol 2 and later begin. Those of 0 and 1 have no PROTO, but fonts have it."""
 _IMPORTING = (Reason.ImportOffList, Reason.UnknownImport, Reason.ExtensionCode)
 
@@ -72,7 +72,7 @@ class Row:
     def __init__(self, piece: Piece, allow: Optional[AllowList], budget: Budget) -> None:
         self._piece, self._source, self._budget = piece, piece.source, budget
         self._allow, self._listed = allow, NOTHING if allow is None else allow
-        self._is_limited = _limits_costs(self._listed)
+        self._is_limited = limits_costs(self._listed)
         self.names: Dict["Names", None] = {}
         self._recent: Dict["Names", None] = {}  # what the pickles import from there on
         try:
@@ -128,7 +128,7 @@ class Row:
         taken, names = found.verdict.taken, found.names
         if taken >= _AT_ONCE or not found.is_complete or self._is_limited:
             return False
-        if not all(map(_is_listable if self._allow is None else self._allow._has, names)):
+        if not all(map(may_be_listed if self._allow is None else self._allow._has, names)):
             return False
         self.names, self.pickles, self.taken = dict(names), 1, taken
         self._uncosted = (taken, 1)
@@ -140,7 +140,7 @@ class Row:
         whose imports a list can permit: another would end the look at many.
         """
         verdict = found.verdict
-        is_listable = found.is_complete and all(map(_is_listable, names))
+        is_listable = found.is_complete and all(map(may_be_listed, names))
         if verdict and verdict.taken < _AT_ONCE and is_listable:
             if self.taken - self._uncosted[0] > _AT_ONCE:
                 self._find_costly()
@@ -264,12 +264,12 @@ class Row:
         return True
 
 
-def _is_listable(names: "Names") -> bool:
+def may_be_listed(names: "Names") -> bool:
     """Whether a list may have these names."""
     return bool(names[1])
 
 
-def _limits_costs(allow: AllowList) -> bool:
+def limits_costs(allow: AllowList) -> bool:
     """Whether the list limits what loading costs."""
     if allow.limits is None and allow.build is None:
         return False
@@ -282,7 +282,7 @@ def row_of(piece: Piece, allow: Optional[AllowList], budget: Budget) -> Optional
     each.
     """
     front = piece.source.front()
-    is_claimed = piece.is_claimed or _CLAIM.match(front) is not None
+    is_claimed = piece.is_claimed or CLAIM.match(front) is not None
     if not is_claimed and not _may_be_pickle(piece, front):
         return None
     row = Row(piece._replace(is_claimed=is_claimed), allow, budget)

@@ -1,0 +1,66 @@
+"""Files that are one small pickle, whose imports are permitted and which costs little: most are."""
+
+from __future__ import annotations
+
+import functools
+from typing import NamedTuple, Optional, Tuple
+
+from .._lists import AllowList, settings_of
+from .._pairs import records
+from .._storklocker import imports
+from .costs import permitting
+from .dangers import import_findings
+from .joblib_files import WRAPPER_NAMES
+from .names import NOTHING, limits_under, pair_of
+from .readings import all_asked
+from .report import LONGEST, Finding, Pair, sorted_findings
+from .rows import CLAIM, limits_costs, may_be_listed
+from .source import BLOCK, Source
+
+_ROOM = LONGEST
+"""The most bytes of encoded imports that are told of here."""
+
+
+class Told(NamedTuple):
+    """What a report tells of such a file."""
+
+    imports: Tuple[Pair, ...]
+    findings: Tuple[Finding, ...]
+
+
+class Lone:
+    """Tells of such files, under a list or under none, in two calls of the checker. What it tells
+    is what all the readings and a `Row` tell, which take twice as long.
+    """
+
+    def __init__(self, allow: Optional[AllowList]) -> None:
+        self.allow, self._listed = allow, NOTHING if allow is None else allow
+        self._is_limited = limits_costs(self._listed)
+        self._settings = settings_of(self._listed, limits_under(allow, BLOCK), "unknown")
+        # (the files of a scan mostly import the same names)
+        self._known = functools.lru_cache(maxsize=256)(self._judged)
+
+    def told(self, path: str, source: Source) -> Optional[Told]:
+        """What is to be told of a file; None if it isn't known to be such a file."""
+        data = source.front()
+        if self._is_limited or not CLAIM.match(data):
+            return None
+        if len(all_asked()(path, source)) > 1:  # others than that of pickles
+            return None
+        verdict, wanted, room = imports(data, self._listed, self._settings, _ROOM)
+        if verdict.taken != source.size or wanted > _ROOM:
+            return None
+        found = self._known(room[:wanted])
+        return None if found is None or found[0]._refusal(data) is not None else found[1]
+
+    def _judged(self, room: bytes) -> Optional[Tuple[AllowList, Told]]:
+        """A list of these encoded imports, with limits on costs, and what is to be told of them;
+        None if one isn't permitted, or is an array of joblib's.
+        """
+        names = tuple(dict.fromkeys(records(room)))
+        is_permitted = may_be_listed if self.allow is None else self.allow._has
+        if not all(map(is_permitted, names)) or WRAPPER_NAMES.intersection(names):
+            return None
+        pairs = tuple(map(pair_of, names))
+        findings = sorted_findings(import_findings(pairs, self.allow))
+        return permitting(names), Told(pairs, findings)
