@@ -268,8 +268,8 @@ static PyMethodDef methods[] = {
      "Says what `loads` of a guard checks with, or None, what it loads with, and whether a pickle\n"
      "with imports needs substitutes."},
     {"pairs_of", pairs_of, METH_VARARGS, "Pairs of a subclass, from its pairs and settings."},
-    {"walked", walked, METH_VARARGS,
-     "Where the whole instructions from an offset on end, and whether the last is STOP."},
+    {"walked", walked, METH_VARARGS, "Where whole instructions end, and whether with STOP."},
+    {"holds", holds, METH_VARARGS, "Whether one of the texts of a tuple stands in the bytes."},
     {"followed", followed, METH_VARARGS,
      "Where the plain instructions end that the cutter of joblib's files follows, and a frame."},
     {"respelled", respelled, METH_VARARGS,

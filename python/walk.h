@@ -17,6 +17,9 @@
 PyObject *walked(PyObject *module, PyObject *args);
 PyObject *respelled(PyObject *module, PyObject *args);
 
+/* Whether one of the texts in a tuple, bytes that aren't empty, stands in the bytes. */
+PyObject *holds(PyObject *module, PyObject *args);
+
 /* Follows plain instructions for the cutter of joblib's files: those that put numbers and texts on
    the stack, into tuples, lists and the memo. Takes bytes, an offset, the stack, the memo, what
    stands there for any other object and for a mark, and the class of dicts. Returns where the

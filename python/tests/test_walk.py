@@ -12,7 +12,7 @@ import storklocker
 from common import SEEDS
 from storklocker._builtins import TABLE
 from storklocker._lists import SUBSTITUTED
-from storklocker._storklocker import respelled, walked
+from storklocker._storklocker import holds, respelled, walked
 
 LARGE = 1 << 20
 
@@ -122,6 +122,23 @@ class Listed(unittest.TestCase):
             guard = storklocker.Guard(storklocker.AllowList([pair]))
             self.assertTrue(guard._has_substitutes)
         self.assertFalse(storklocker.Guard(storklocker.AllowList([("a", "b")]))._has_substitutes)
+
+
+class Holds(unittest.TestCase):
+    def test_is_what_python_finds(self):
+        chosen = random.Random(1)
+        for _ in range(5000):
+            data = bytes(chosen.choices(b"ab", k=chosen.randrange(12)))
+            texts = tuple(
+                bytes(chosen.choices(b"ab", k=chosen.randrange(1, 5)))
+                for _ in range(chosen.randrange(4))
+            )
+            self.assertIs(holds(data, texts), any(it in data for it in texts), (data, texts))
+
+    def test_wrong_arguments(self):
+        for texts in ([b"a"], (b"",), ("a",), (1,)):
+            self.assertRaises(TypeError, holds, b"a", texts)
+        self.assertRaises(TypeError, holds, "a", (b"a",))
 
 
 if __name__ == "__main__":

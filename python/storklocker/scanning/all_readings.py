@@ -6,6 +6,7 @@ import functools
 import re
 from typing import Dict, Pattern, Sequence, Tuple
 
+from .._storklocker import holds
 from .berkeley import BERKELEY_MARK, berkeley_reading
 from .caches import CACHE_MARK, cachelib_reading
 from .checkpoints import records_reading
@@ -76,6 +77,8 @@ _ZIP = b"PK"  # (as local headers and end records begin)
 HOLDING: Dict[str, bytes] = {"npy": NPY_MAGIC, "HDF5": HDF5_MAGIC, "zip": _ZIP}
 """What stands somewhere in all files that a reader takes."""
 
+_HELD = tuple(HOLDING.values())
+
 _Item = Tuple[str, Reading]
 _ENDINGS = (VALUES, PART, METADATA)
 
@@ -89,9 +92,7 @@ def asked(path: str, source: Source) -> Sequence[_Item]:
         return tuple(READINGS.items())
     is_whole = len(front) == source.size
     plain, marks, others = _beginning(front[:1])
-    if is_whole and not (
-        NPY_MAGIC in front or HDF5_MAGIC in front or _ZIP in front or marks.match(front)
-    ):
+    if is_whole and not (holds(front, _HELD) or marks.match(front)):
         return plain
     return [
         (name, reading)
