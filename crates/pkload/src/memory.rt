@@ -63,7 +63,9 @@ fn text_memory(bytes: &[u8]) -> u64
     wide_memory(bytes)
 }
 
-/// The memory of a text in UTF-8 that isn't ASCII.
+/// The memory of a text in UTF-8 that isn't ASCII. Cold, so that no register is saved for this call
+/// where a text is short ASCII.
+#[cold]
 #[inline(never)]
 fn wide_memory(bytes: &[u8]) -> u64
     requires { length bytes.now ≤ 1_125_899_906_842_624 }

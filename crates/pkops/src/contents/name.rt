@@ -29,7 +29,9 @@ pub fn is_ascii(bytes: &[u8]) -> bool
     is_long_ascii(bytes)
 }
 
-/// `is_ascii` of a text that may be long.
+/// `is_ascii` of a text that may be long. Cold, so that no register is saved for this call where a
+/// text is short.
+#[cold]
 #[inline(never)]
 fn is_long_ascii(bytes: &[u8]) -> bool
     ensures { result ≡ list_all is_ascii bytes.now }
