@@ -2,6 +2,7 @@
 pub mod Exact
 pub mod Fields
 pub mod LineEnds
+pub mod Places
 pub mod Lines
 pub mod LinePairs
 pub mod Payloads

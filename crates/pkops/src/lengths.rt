@@ -1,7 +1,7 @@
 //! Lengths of instructions and of their parts. Whoever finds instructions in bytes takes them from
 //! here.
 
-ghost use Rattle.std.specs.Prelude.{◌≡◌, ◌≤◌, SomeIff, false, length, true};
+ghost use Rattle.std.specs.Prelude.{◌≡◌, ◌≤◌, ◌==◌, ◌||◌, SomeIff, false, length, position, true};
 ghost use Rattle.pkops.specs.Admitted.{highest_protocol};
 ghost use Rattle.pkops.specs.Lengths.{counted_head, end_of_line, head_length, searched};
 ghost use Rattle.pkops.specs.Payloads.{is_passed};
@@ -15,6 +15,9 @@ use crate::op::Op;
 
 /// The highest protocol that is known.
 pub const HIGHEST_PROTOCOL: u8 = 5;
+
+/// How many bytes are searched at a time.
+const PIECE: usize = 8;
 
 /// The most bytes, the code included, that are searched for the ends of lines.
 pub const SEARCHED: usize = 257;
@@ -31,7 +34,37 @@ pub fn constants_are_defined()
 pub fn end_of_line(bytes: &[u8]) -> Option<usize>
     ensures { result ≡ end_of_line bytes.now }
 {
-    bytes.iter().position(|byte| *byte == b'\n')
+    end_at(b'\n', bytes)
+}
+
+/// The offset of the first line feed or `other` byte. It searches pieces of a length that the
+/// compiler knows, since it unrolls only such a search.
+#[inline(always)]
+pub fn end_at(other: u8, bytes: &[u8]) -> Option<usize>
+    ensures { result ≡ position (λ byte. byte == 10 || byte == other) bytes.now }
+{
+    let mut rest = bytes;
+    'pieces: while rest.len() >= PIECE {
+        match end_in(other, &rest[..PIECE]) {
+            Some(end) => return Some(bytes.len() - rest.len() + end),
+            None => {}
+        }
+        rest = &rest[PIECE..];
+    }
+    match end_in(other, rest) {
+        Some(end) => Some(bytes.len() - rest.len() + end),
+        None => None,
+    }
+}
+
+/// `end_at` by one search.
+#[inline(always)]
+fn end_in(other: u8, bytes: &[u8]) -> Option<usize>
+    ensures { result ≡ position (λ byte. byte == 10 || byte == other) bytes.now }
+{
+    bytes
+        .iter()
+        .position(|byte| *byte == b'\n' || *byte == other)
 }
 
 /// The length of the head in front of a payload: the code and the count.

@@ -1,7 +1,7 @@
 //! The lines of GET, PUT, INT and UNICODE, the most frequent ones of protocol 0. One pass over such
 //! a line both finds its end and judges it. Lines that it doesn't recognize are left to `front`.
 
-ghost use Rattle.std.specs.Prelude.{◌≡◌, ◌≢◌, ◌<◌, ◌≤◌, ◌==◌, ◌||◌, false, length, not};
+ghost use Rattle.std.specs.Prelude.{◌≡◌, ◌≢◌, ◌<◌, ◌≤◌, false, length, not};
 ghost use Rattle.std.specs.Prelude.{position, slice_index, true};
 ghost use Rattle.std.specs.Char.{is_ascii_digit};
 ghost use Rattle.pkops.specs.Limits.{Bounds};
@@ -10,7 +10,7 @@ ghost use Rattle.pkread.specs.Private.Arms.{BeginsWithNumber, HasCode, HasLine, 
 
 use pkops::Op;
 use pkops::laws::rules_are_computed;
-use pkops::lengths::SEARCHED;
+use pkops::lengths::{SEARCHED, end_at};
 
 /// The bytes of nine digits, which 32 bits always hold, and a line feed.
 const NUMBER: usize = 10;
@@ -154,21 +154,11 @@ fn text_line_length(bytes: &[u8]) -> usize
     ensures { result ≢ 0 → HasLine rule.Escapes result bytes.now }
 {
     let line = &bytes[1..bytes.len().min(SEARCHED)];
-    let Some(end) = end_of_plain(line) else {
+    let Some(end) = end_at(b'\\', line) else {
         return 0;
     };
     if line[end] != b'\n' {
         return 0;
     }
     end + 2
-}
-
-/// The offset of the first line feed or backslash.
-#[inline(always)]
-fn end_of_plain(bytes: &[u8]) -> Option<usize>
-    ensures { result ≡ position (λ byte. byte == 10 || byte == 92) bytes.now }
-{
-    bytes
-        .iter()
-        .position(|byte| *byte == b'\n' || *byte == b'\\')
 }
