@@ -1,8 +1,8 @@
 //! Lengths of instructions and of their parts.
 
 use pkops::lengths::{
-    HIGHEST_PROTOCOL, SEARCHED, constants_are_defined, count_width, counted_head, end_of_line,
-    head_length,
+    HIGHEST_PROTOCOL, SEARCHED, constants_are_defined, count_width, counted_head, end_at,
+    end_of_line, head_length,
 };
 use pkops::{Op, Width};
 
@@ -37,6 +37,7 @@ fn a_head_is_a_code_and_a_count(rt: HostRuntime) {
 fn a_line_ends_at_its_line_feed(rt: HostRuntime) {
     assert_eq!(rt; end_of_line(b"12\n3\n"), Some(2));
     assert_eq!(rt; end_of_line(b"12\r"), None);
+    assert_eq!(rt; end_at(b'\\', b"ab\\\n"), Some(2));
     constants_are_defined();
     // `pickle.HIGHEST_PROTOCOL` of CPython 3.8 and later.
     assert_eq!(rt; HIGHEST_PROTOCOL, 5);
