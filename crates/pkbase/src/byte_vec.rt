@@ -5,8 +5,8 @@ ghost use Rattle.std.specs.Prelude.{◌≡◌, ◌≤◌, ◌<◌, ◌+◌, ◌+
 use std::alloc::{AllocError, Global};
 use std::marker::Model;
 
-/// The least number of bytes by which a store is lengthened. They are zeroed before they are
-/// replaced.
+/// By how many bytes a store is longer than what is in use, after it was lengthened. They are zeroed
+/// before they are replaced.
 const STEP: usize = 512;
 
 /// The length up to which a piece is copied without a call.
@@ -90,27 +90,28 @@ impl ByteVec {
         let count = self.count;
         let end = count + piece.len();
         if end > self.store.len() {
-            lengthen(&mut self.store, count, piece.len())?;
+            return self.push_beyond(piece);
         }
         put(&mut self.store[count..end], piece);
         self.count = end;
         Ok(())
     }
-}
 
-/// Lengthens a store, so that it has room for so many bytes behind its first ones.
-#[cold]
-#[inline(never)]
-fn lengthen(store: &mut Vec<u8>, count: usize, wanted: usize) -> Result<(), AllocError>
-    requires { count ≤ length store.old.items }
-    ensures ok { OnOk result (count + wanted ≤ length store.new.items) }
-    ensures same { take count store.new.items ≡ take count store.old.items }
-    ensures more { count ≤ length store.new.items }
-{
-    let Some(len) = count.checked_add(wanted.max(STEP)) else {
-        return Err(AllocError);
-    };
-    store.resize(len, 0)
+    /// `push` of a piece for which the store is too short. A long one is not zeroed first.
+    #[cold]
+    #[inline(never)]
+    fn push_beyond(&mut self, piece: &[u8]) -> Result<(), AllocError>
+        ensures ok { OnOk result (self.new ≡ self.old ++ piece.now) }
+        ensures err { OnErr result (self.new ≡ self.old) }
+    {
+        self.store.truncate(self.count);
+        self.store.reserve(piece.len() + STEP)?;
+        self.store.extend_from_slice(piece)?;
+        let end = self.store.len();
+        self.store.resize(end + STEP, 0)?;
+        self.count = end;
+        Ok(())
+    }
 }
 
 /// Copies a piece to as many bytes. The compiler turns a copy of known length into a move, so a

@@ -73,7 +73,6 @@ impl<V: Copy + Drop> NumberedMap<V> {
     }
 
     /// The number of entries.
-    #[inline]
     pub fn len(&self) -> u64
         ensures value { result ≡ length self.now }
         ensures rising { IsStrictlySortedBy nat_cmp (keys_of self.now) }
@@ -84,7 +83,6 @@ impl<V: Copy + Drop> NumberedMap<V> {
     }
 
     /// Whether there is no entry.
-    #[inline]
     pub fn is_empty(&self) -> bool
         ensures { IsTrue result ↔ (self.now ≡ []) }
     {
@@ -163,7 +161,6 @@ impl<V: Copy + Drop> NumberedMap<V> {
     }
 
     /// `store_within` for a number that isn't the next in order.
-    #[inline(never)]
     fn store_other_within(&mut self, most: u64, number: u64, value: V) -> Result<(), NotStored>
         requires { length self.old ≤ most }
         ensures ok { OnOk result (self.new ≡ insert_entry nat_cmp self.old number value) }

@@ -42,7 +42,6 @@ impl<T: Copy + Drop> StackVec<T> {
     }
 
     /// The number of entries.
-    #[inline]
     pub fn len(&self) -> usize
         ensures value { result ≡ length self.now }
         ensures small { result < 2 ^ 63 }
@@ -51,7 +50,6 @@ impl<T: Copy + Drop> StackVec<T> {
     }
 
     /// The entries.
-    #[inline]
     pub fn entries(&self) -> &[T]
         ensures { result.now ≡ self.now }
     {
@@ -59,7 +57,6 @@ impl<T: Copy + Drop> StackVec<T> {
     }
 
     /// Removes all entries, and keeps the memory.
-    #[inline]
     pub fn clear(&mut self)
         ensures { self.new ≡ [] }
     {
@@ -67,7 +64,6 @@ impl<T: Copy + Drop> StackVec<T> {
     }
 
     /// Keeps the first `count` entries.
-    #[inline]
     pub fn truncate(&mut self, count: usize)
         ensures { self.new ≡ take count self.old }
     {
@@ -77,7 +73,6 @@ impl<T: Copy + Drop> StackVec<T> {
     }
 
     /// Keeps the entry at a place and those before it.
-    #[inline(always)]
     pub fn end_with(&mut self, place: usize)
         requires { place < length self.old }
         ensures { self.new ≡ take (place + 1) self.old }
@@ -88,7 +83,6 @@ impl<T: Copy + Drop> StackVec<T> {
     }
 
     /// Replaces the entry at an index.
-    #[inline(always)]
     pub fn set(&mut self, index: usize, entry: T)
         requires { index < length self.old }
         ensures { self.new ≡ set self.old index entry }
@@ -128,7 +122,6 @@ impl<T: Copy + Drop> StackVec<T> {
     }
 
     /// Replaces the entry at a place and all those after it with one entry.
-    #[inline(always)]
     pub fn replace(&mut self, place: usize, entry: T)
         requires { place < length self.old }
         ensures { self.new ≡ take place self.old ++ entry ∷ [] }
