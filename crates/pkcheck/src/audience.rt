@@ -83,7 +83,6 @@ impl<L: Listener> Audience for L {
 
     ghost fails = { λ old new told error. ⊤ };
 
-    #[inline(always)]
     fn holds() -> bool {
         true
     }
@@ -123,17 +122,14 @@ impl Audience for Silent {
 
     ghost fails = { λ old new told error. ⊤ };
 
-    #[inline(always)]
     fn holds() -> bool {
         false
     }
 
-    #[inline(always)]
     fn tell(&mut self, _at: u64, _inst: &Inst<'_>, _marks: usize) -> Result<(), Infallible> {
         Ok(())
     }
 
-    #[inline(always)]
     fn tell_skipped(
         &mut self,
         _at: u64,
@@ -150,7 +146,6 @@ impl Audience for Silent {
 }
 
 /// Tells of an instruction that lies whole at hand.
-#[inline(always)]
 pub(crate) fn tell_lent<A: Audience>(
     audience: &mut A,
     at: u64,

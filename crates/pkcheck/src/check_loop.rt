@@ -97,7 +97,6 @@ pub fn check_pickles<R: Source, A: Audience>(
 
 /// The loop of `check_pickles`. It owns nothing that must be dropped: each exit of a loop that does
 /// has stack slots of its own for that, which the compiler clears at the start of every check.
-#[inline(always)]
 fn hear_pickles<R: Source, A: Audience>(
     session: &mut Session,
     reader: &mut Reader<'_, R>,

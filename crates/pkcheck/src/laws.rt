@@ -14,7 +14,6 @@ use pkread::laws::one_sequence;
 
 /// An accepted pickle is not refused under the same policy, limits and setting, if its runs begin
 /// alike, except for a refused allocation or a failed read.
-#[inline]
 pub fn yes_excludes_no()
     ensures { YesExcludesNo }
 {
@@ -25,7 +24,6 @@ pub fn yes_excludes_no()
 
 /// A row of pickles that was accepted is not refused when it is loaded alike, under the same policy
 /// and limits, except for a refused allocation or a failed read.
-#[inline]
 pub fn yes_of_row_excludes_no()
     ensures { YesOfRowExcludesNo }
 {
@@ -37,7 +35,6 @@ pub fn yes_of_row_excludes_no()
 /// Bytes that begin with instructions that have no fault are refused only behind these, under the
 /// same policy, limits and setting and behind the same pickles, except for a refused allocation or
 /// a failed read.
-#[inline]
 pub fn refused_behind()
     ensures { RefusedBehind }
 {
@@ -47,7 +44,6 @@ pub fn refused_behind()
 }
 
 /// Of two lists of good instructions with which bytes begin, one begins with the other.
-#[inline]
 pub fn one_begins()
     ensures { OneBegins }
 {
@@ -56,7 +52,6 @@ pub fn one_begins()
 
 /// A pickle whose only faults are exceeded limits is refused only for a limit, a refused allocation
 /// or a failed read.
-#[inline]
 pub fn refused_for_limits()
     ensures { RefusedForLimits }
 {
@@ -67,7 +62,6 @@ pub fn refused_for_limits()
 
 /// If all runs of a pickle end well when Python 2 strings may decode to anything, they end well
 /// under each setting of `old_strings`. The pickle may follow others of a row.
-#[inline]
 pub fn sound_in_each()
     ensures { SoundInEach }
 {}
@@ -75,7 +69,6 @@ pub fn sound_in_each()
 /// `SameEnd` is an equivalence on ends that aren't stuck. Runs with the same end have equal events;
 /// if one ends well, or has all its imports listed, so does the other. A run that ends well isn't
 /// stuck.
-#[inline]
 pub fn same_ends()
     ensures itself { SameAsItself }
     ensures either_way { SameEitherWay }
@@ -88,7 +81,6 @@ pub fn same_ends()
 
 /// Some run gets past instructions that have no fault and follow accepted pickles, and all that its
 /// operations answer are new objects.
-#[inline]
 pub fn faultless_is_run()
     ensures { FaultlessIsRun }
 {

@@ -122,7 +122,6 @@ impl Session {
     /// Tells of the instructions at the front of some bytes and judges each, as far as they can be
     /// lent and lie in the open frame. The first byte has the offset `at`. Returns the number of
     /// their bytes.
-    #[inline(always)]
     fn hear_all_lent<A: Audience>(
         &mut self,
         at: u64,
@@ -171,7 +170,6 @@ impl Session {
     }
 
     /// Takes the next instruction of a reader, tells of it, and judges it.
-    #[inline(always)]
     pub fn hear_next<R: Source, A: Audience>(
         &mut self,
         reader: &mut Reader<'_, R>,
@@ -250,7 +248,6 @@ impl Session {
     }
 
     /// Judges an instruction that a loop seldom meets: any one that is not lent.
-    #[inline(never)]
     pub fn judge(&mut self, inst: &Inst<'_>, policy: &Permit<'_>) -> Result<(), Reason>
         requires admitted { IsTrue (is_admitted (instruction_of inst.now)) }
         requires running { self.old.machine.stopped ≡ false }
@@ -326,7 +323,6 @@ impl Session {
 }
 
 /// The length of the frame that a FRAME opens; 0 for any other instruction.
-#[inline]
 fn frame_length(inst: &Inst<'_>) -> u64
     ensures { role_of (instruction_of inst.now).op result
         ≡ role_of (instruction_of inst.now).op (number_of (instruction_of inst.now).arg) }

@@ -85,7 +85,6 @@ impl ImportTable {
     }
 
     /// The number of texts.
-    #[inline]
     pub fn texts(&self) -> usize
         ensures { result ≡ length self.now.texts }
     {

@@ -48,7 +48,6 @@ impl Texts {
     }
 
     /// The number of texts.
-    #[inline]
     pub fn len(&self) -> usize
         ensures { result ≡ length self.now }
     {

@@ -11,7 +11,6 @@ use pkops::lengths::{counted_head, end_of_line};
 use pkops::{Inst, Layout, Limits, Op, Scan, Width, layout_of_op, op_of_byte, scan};
 
 /// The instruction at the front of the bytes, and the number of bytes that spell it.
-#[inline]
 pub fn whole_at_front<'a>(bytes: &'a [u8], limits: &Limits) -> Option<(Inst<'a>, usize)>
     requires { HasFront limits.now.counted bytes.now }
     ensures { IsFront limits.now.counted bytes.now result }
@@ -27,7 +26,6 @@ pub fn whole_at_front<'a>(bytes: &'a [u8], limits: &Limits) -> Option<(Inst<'a>,
 }
 
 /// Like `whole_at_front`, but checks the contents.
-#[inline(never)]
 fn scanned<'a>(bytes: &'a [u8], limits: &Limits) -> Option<(Inst<'a>, usize)>
     ensures { IsFront limits.now.counted bytes.now result }
 {
@@ -40,7 +38,6 @@ fn scanned<'a>(bytes: &'a [u8], limits: &Limits) -> Option<(Inst<'a>, usize)>
 
 /// Like `whole_at_front`, for opcodes without two lines. An accepted pickle's arguments are good,
 /// so only the length is found out.
-#[inline]
 fn spelled_at_front<'a>(bytes: &'a [u8]) -> Option<(Inst<'a>, usize)>
     requires { (limit : ℕ) × HasFront limit bytes.now }
     ensures { IfSome result (λ found. (limit : ℕ) → IsFront limit bytes.now (Some found)) }
@@ -63,7 +60,6 @@ fn spelled_at_front<'a>(bytes: &'a [u8]) -> Option<(Inst<'a>, usize)>
 
 /// The number of bytes of the instruction with this opcode at the front of the bytes, unless it may
 /// have two lines.
-#[inline]
 fn spelled_length(op: Op, bytes: &[u8]) -> Option<usize>
     ensures { IfSome result (Measures op bytes.now) }
 {
@@ -94,7 +90,6 @@ fn line_length(bytes: &[u8]) -> Option<usize>
 }
 
 /// The number of bytes of an instruction with a count of this width and a payload.
-#[inline]
 fn counted_length(width: Width, bytes: &[u8]) -> Option<usize>
     ensures { IfSome result (λ n. (op : SpecOp) (signed : Bool) →
         layout_at op ≡ layout.Counted width signed → Measures op bytes.now n) }

@@ -23,7 +23,6 @@ pub struct Weight {
 }
 
 /// The weight of a value without parts, whose text has about this many bytes.
-#[inline]
 fn scalar(size: usize) -> Weight
     ensures depth { result.depth ≡ 0 }
     ensures count { result.count ≡ 1 }
@@ -36,7 +35,6 @@ fn scalar(size: usize) -> Weight
 }
 
 /// The weight of a value with its key.
-#[inline]
 fn keyed(value: Weight, key: &str) -> Weight
     ensures depth { result.depth ≡ value.depth }
     ensures count { result.count ≡ value.count }
@@ -48,13 +46,11 @@ fn keyed(value: Weight, key: &str) -> Weight
 }
 
 /// About how many bytes a key has in a text.
-#[inline]
 pub fn key_size(key: &str) -> u32 {
     key.len().min(LONG) as u32 + 3
 }
 
 /// The weight of both together.
-#[inline]
 fn joined(one: Weight, other: Weight, cap: u32) -> Weight
     requires one { one.count ≤ cap }
     requires other { other.count ≤ cap }
@@ -70,7 +66,6 @@ fn joined(one: Weight, other: Weight, cap: u32) -> Weight
 }
 
 /// The weight of an object with these parts.
-#[inline]
 fn raised(inner: Weight, cap: u32) -> Weight
     requires depth { inner.depth < 2 ^ 31 }
     requires count { inner.count ≤ cap }

@@ -31,7 +31,6 @@ pub struct Weighed<'n, 'a, 'b> {
 
 impl<'n, 'a, 'b> Weighed<'n, 'a, 'b> {
     /// About how many bytes the text of an object's value has.
-    #[inline]
     fn size(&self, place: usize) -> u32 {
         if place < self.weights.len() {
             self.weights[place].size
@@ -79,7 +78,6 @@ impl<'n, 'a, 'b> Weighed<'n, 'a, 'b> {
     }
 
     /// About how many bytes a member has in a text.
-    #[inline]
     fn member_size(&self, member: (&str, usize)) -> u32 {
         let (key, value) = member;
         self.size(value).saturating_add(key_size(key))

@@ -35,7 +35,6 @@ impl<'a, 'b> Settled<'a, 'b> {
     }
 
     /// What an object holds.
-    #[inline]
     pub fn node(&self, number: usize) -> Node<'_, 'a>
         requires { number < size self.now }
         ensures { IsNode self.now number result }
@@ -47,7 +46,6 @@ impl<'a, 'b> Settled<'a, 'b> {
 }
 
 /// What an object holds; the members of a dict that has some are at this place.
-#[inline]
 fn node_of<'s, 'a>(
     object: &'s Object<'_>,
     dicts: &'s [Vec<(&'a str, usize)>],
@@ -68,7 +66,6 @@ fn node_of<'s, 'a>(
 }
 
 /// The members of a dict that was given these; those of a dict that has some are at this place.
-#[inline]
 fn members_of<'s, 'a>(
     given: &[usize],
     dicts: &'s [Vec<(&'a str, usize)>],
@@ -83,7 +80,6 @@ fn members_of<'s, 'a>(
 }
 
 /// The place of an object's dict; 0 if none is known.
-#[inline]
 fn place_at(places: &[u32], number: usize) -> usize
     ensures { result ≡ slice_index places.now number }
 {

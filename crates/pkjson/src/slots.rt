@@ -109,7 +109,6 @@ pub fn add_numbers(found: &mut Vec<usize>, slots: &[Slot]) -> Result<(), AllocEr
 }
 
 /// Appends the number of the object, if the entry is one.
-#[inline]
 fn add_number(found: &mut Vec<usize>, slot: Slot) -> Result<(), AllocError>
     ensures { OnOk result (found.new.items ≡ found.old.items ++ numbers_of (slot ∷ [])) }
 {

@@ -5,13 +5,11 @@ ghost use Rattle.pklist.specs.Pairs.{HalvingIsRight};
 
 /// A binary search finds only pairs that the array has, and finds all of them if the array is
 /// sorted.
-#[inline]
 pub fn halving()
     ensures { HalvingIsRight }
 {}
 
 /// The names of a list are of bounded length, so there is a text longer than all of them.
-#[inline]
 pub fn bounded_names()
     ensures { NamesAreBounded }
 {}

@@ -81,7 +81,6 @@ pub fn action_of(op: Op) -> Action
 }
 
 /// The action of an opcode by its effect.
-#[inline]
 pub fn rare_action_of(op: Op) -> Action
     ensures { result ≡ action_in (effect_of op) }
 {

@@ -93,7 +93,6 @@ pub fn take_pairs(stack: &mut Stack, tally: &mut Tally) -> Result<u64, Halt>
 }
 
 /// Whether each weighs one and isn't deep.
-#[inline(always)]
 fn are_light(codes: &[u32]) -> bool
     ensures { result ≡ list_all is_light codes.now }
 {
@@ -103,7 +102,6 @@ fn are_light(codes: &[u32]) -> bool
 }
 
 /// What a tuple of these objects costs. Most tuples are of small ints and short texts.
-#[inline(always)]
 #[tactic(auto, using(crate::proofs::Lights::light_weights, crate::proofs::Lights::light_depths))]
 pub fn tied_all(codes: &[u32]) -> Result<PackedHeft, Halt>
     ensures { IfOk result (IsTied (map unpacked codes.now)) }
@@ -118,7 +116,6 @@ pub fn tied_all(codes: &[u32]) -> Result<PackedHeft, Halt>
 const MOST_ITEMS: u64 = 17_592_186_044_415;
 
 /// What a tuple of any objects costs.
-#[inline(never)]
 fn tied_slowly(codes: &[u32]) -> Result<PackedHeft, Halt>
     ensures { IfOk result (IsTied (map unpacked codes.now)) }
 {
@@ -138,7 +135,6 @@ fn tied_slowly(codes: &[u32]) -> Result<PackedHeft, Halt>
 }
 
 /// So many objects, and one more.
-#[inline(always)]
 pub fn with_receiver(count: u64) -> Result<u64, Halt>
     ensures ok { IfOk result (λ all. all ≡ suc count) }
     ensures err { IfErr result (IsTooGreat (suc count)) }

@@ -37,7 +37,6 @@ pub enum Billing {
 
 impl Billing {
     /// Of a result that says whether the instruction may count keys or end the pickle.
-    #[inline(always)]
     pub fn of(noted: Result<bool, Halt>) -> Billing
         ensures plain { result ≡ Billing.Plain → noted ≡ Ok false }
         ensures noted { result ≡ Billing.Noted → noted ≡ Ok true }

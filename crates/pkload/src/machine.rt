@@ -96,7 +96,6 @@ impl Machine {
     }
 
     /// Whether the pickle stopped.
-    #[inline]
     pub fn ended(&self) -> bool
         ensures { result ≡ self.now.ended }
     {
@@ -171,7 +170,6 @@ impl Machine {
     }
 
     /// Executes the move of an opcode that is rare. Returns false.
-    #[inline(never)]
     fn go_rarely(&mut self, op: Op) -> Result<bool, Halt>
         ensures billed { OnOk result (op_billed op self.old ≡ Ok self.new) }
         ensures quiet { OnOk result (IsQuiet self.old self.new) }

@@ -6,7 +6,6 @@ ghost use Rattle.pkload.specs.Private.Billing.{string_heft};
 use crate::packed::PackedHeft;
 
 /// What a text costs of so many bytes, or bytes.
-#[inline(always)]
 pub fn made_text(size: u64) -> PackedHeft
     ensures { result ≡ string_heft size }
 {
@@ -15,7 +14,6 @@ pub fn made_text(size: u64) -> PackedHeft
 }
 
 /// What an int of so many bytes or digits costs.
-#[inline(always)]
 pub fn made_long(size: u64) -> PackedHeft
     ensures { result ≡ record {
       weight = min 1_048_575 (1 + size / 8);
@@ -29,7 +27,6 @@ pub fn made_long(size: u64) -> PackedHeft
 }
 
 /// What a tuple costs whose items together weigh this much, and the deepest of them is this deep.
-#[inline(always)]
 pub fn tied(held: u32, deepest: u32) -> PackedHeft
     requires held { held ≤ 4_194_304 }
     requires deepest { deepest ≤ 1_023 }
@@ -46,7 +43,6 @@ pub fn tied(held: u32, deepest: u32) -> PackedHeft
 }
 
 /// What a frozenset costs whose items together weigh this much.
-#[inline(always)]
 pub fn frozen(held: u64) -> PackedHeft
     ensures { result ≡ record {
       weight = min 1_048_575 (1 + held);

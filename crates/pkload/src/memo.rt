@@ -25,7 +25,6 @@ pub fn next_number(memo: &MemoTable) -> Result<u32, Halt>
 }
 
 /// Stores what an object costs.
-#[inline]
 pub fn store(memo: &mut MemoTable, number: u32, heft: PackedHeft) -> Result<(), Halt>
     ensures { OnOk result (memo.new ≡ stored number heft memo.old) }
 {

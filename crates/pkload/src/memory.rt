@@ -51,7 +51,6 @@ fn character_width(bytes: &[u8]) -> u64
 }
 
 /// The memory of a text in UTF-8.
-#[inline(always)]
 fn text_memory(bytes: &[u8]) -> u64
     requires { length bytes.now ≤ 1_125_899_906_842_624 }
     ensures value { result ≡ text_memory bytes.now }
@@ -66,7 +65,6 @@ fn text_memory(bytes: &[u8]) -> u64
 /// The memory of a text in UTF-8 that isn't ASCII. Cold, so that no register is saved for this call
 /// where a text is short ASCII.
 #[cold]
-#[inline(never)]
 fn wide_memory(bytes: &[u8]) -> u64
     requires { length bytes.now ≤ 1_125_899_906_842_624 }
     ensures value { result ≡ 88 + character_width bytes.now * length (filter begins_character
@@ -136,7 +134,6 @@ pub fn argument_bytes<'a>(inst: &'a Inst<'_>) -> &'a [u8]
 }
 
 /// The memory after an operation on so many objects.
-#[inline]
 pub fn after_operation(op: Op, count: u64, memory: u64) -> Result<u64, Halt>
     ensures ok { IfOk result (λ sum. sum ≡ memory + (16 + held_memory op count)) }
     ensures err { IfErr result (IsTooMuch count (memory + (16 + held_memory op count))) }
@@ -148,7 +145,6 @@ pub fn after_operation(op: Op, count: u64, memory: u64) -> Result<u64, Halt>
 }
 
 /// The memory after an instruction that makes a text of these bytes.
-#[inline(always)]
 pub fn after_text(bytes: &[u8], memory: u64) -> Result<u64, Halt>
     ensures ok { IfOk result (λ sum. sum ≡ memory + (16 + text_memory bytes.now)) }
     ensures err { IfErr result (IsTooMuch (length bytes.now)
@@ -161,7 +157,6 @@ pub fn after_text(bytes: &[u8], memory: u64) -> Result<u64, Halt>
 }
 
 /// The memory after STOP.
-#[inline]
 pub fn after_stop(memory: u64) -> Result<u64, Halt>
     ensures ok { IfOk result (λ sum. sum ≡ memory + 16) }
     ensures err { IfErr result (IsTooGreat (memory + 16)) }

@@ -108,7 +108,6 @@ impl Meter {
     }
 
     /// Tells of an instruction where the meter pauses.
-    #[inline(never)]
     fn tell_at_pause(&mut self, at: u64, inst: &Inst<'_>) -> Result<(), Excess>
         ensures ok { (marks : ℕ) → OnOk result (Meters self.old self.new
             (report at (Whole (instruction_of inst.now)) marks ∷ [])) }
@@ -124,7 +123,6 @@ impl Meter {
     }
 
     /// Tells of an instruction whose payload is skipped, where the meter pauses.
-    #[inline(never)]
     fn tell_skipped_at_pause(&mut self, at: u64, op: Op, length: u64) -> Result<(), Excess>
         ensures ok { (marks : ℕ) → OnOk result (Meters self.old self.new
             (report at (Skipped op length) marks ∷ [])) }
@@ -172,7 +170,6 @@ fn excess_of(
 }
 
 /// Whether the memory exceeds its limit. It is all that can do so if no key was counted.
-#[inline(always)]
 fn takes_too_much(tolls: &Tolls, metering: &Metering) -> bool
     ensures value { result ≡ ltb tolls.now.memory metering.now.bill.memory }
     ensures unlimited { tolls.now ≡ unlimited → result ≡ false }
@@ -181,7 +178,6 @@ fn takes_too_much(tolls: &Tolls, metering: &Metering) -> bool
 }
 
 /// Whether no limit is exceeded, and the pickle goes on.
-#[inline(always)]
 fn goes_on(tolls: &Tolls, metering: &Metering) -> bool
     ensures fits { result ≡ true → Fits tolls.now metering.now }
     ensures ended { result ≡ true → metering.now.bill.ended ≡ false }
@@ -204,7 +200,6 @@ impl Audience for Meter {
 
     ghost fails = { λ old new told error. StopsFor old new error };
 
-    #[inline]
     fn holds() -> bool {
         false
     }
@@ -238,7 +233,6 @@ impl Audience for Meter {
         Ok(())
     }
 
-    #[inline(never)]
     fn tell_skipped(&mut self, at: u64, op: Op, length: u64, _marks: usize) -> Result<(), Excess> {
         if self.pausing {
             return self.tell_skipped_at_pause(at, op, length);

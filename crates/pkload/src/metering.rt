@@ -53,7 +53,6 @@ impl Metering {
     }
 
     /// Begins the next pickle, if one has ended.
-    #[inline(always)]
     fn begin(&mut self, memo: Memo) -> Result<(), Halt>
         ensures ok { OnOk result (self.new ≡ ready memo self.old) }
         ensures err { IfErr result (λ halt. (self.old.bill.ended ≡ true)
@@ -66,7 +65,6 @@ impl Metering {
     }
 
     /// Begins the next pickle.
-    #[inline(never)]
     fn begin_next(&mut self, memo: Memo) -> Result<(), Halt>
         ensures ok { OnOk result (self.new ≡ next_if true memo self.old) }
         ensures err { IfErr result (IsTooGreat (suc self.old.pickle)) }

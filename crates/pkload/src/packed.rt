@@ -33,7 +33,6 @@ impl Model for PackedHeft {
 
 impl PackedHeft {
     /// The cost with these parts.
-    #[inline]
     pub fn new(weight: u32, depth: u32, salted: bool, imported: bool) -> PackedHeft
         requires weight { weight ≤ 1_048_575 }
         requires depth { depth ≤ 1_023 }
@@ -50,7 +49,6 @@ impl PackedHeft {
     }
 
     /// The cost with a code.
-    #[inline]
     pub fn from_code(code: u32) -> PackedHeft
         ensures { result ≡ unpacked code }
     {
@@ -58,7 +56,6 @@ impl PackedHeft {
     }
 
     /// The code.
-    #[inline]
     pub fn code(self) -> u32
         ensures { unpacked result ≡ self }
     {
@@ -66,7 +63,6 @@ impl PackedHeft {
     }
 
     /// The weight.
-    #[inline]
     pub fn weight(self) -> u32
         ensures value { result ≡ self.weight }
         ensures small { result ≤ 1_048_575 }
@@ -75,7 +71,6 @@ impl PackedHeft {
     }
 
     /// The depth.
-    #[inline]
     pub fn depth(self) -> u32
         ensures value { result ≡ self.depth }
         ensures small { result ≤ 1_023 }
@@ -84,7 +79,6 @@ impl PackedHeft {
     }
 
     /// Whether the hash is salted, or it isn't known what hashes the object.
-    #[inline]
     pub fn is_salted(self) -> bool
         ensures { result ≡ self.salted }
     {
@@ -92,7 +86,6 @@ impl PackedHeft {
     }
 
     /// Whether an import answered the object.
-    #[inline]
     pub fn is_imported(self) -> bool
         ensures { result ≡ self.imported }
     {
@@ -101,7 +94,6 @@ impl PackedHeft {
 }
 
 /// 1 or 0.
-#[inline]
 fn flag(set: bool) -> u32
     ensures { result ≡ flag set }
 {

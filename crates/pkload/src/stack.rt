@@ -62,7 +62,6 @@ impl Stack {
     }
 
     /// Pushes a mark.
-    #[inline]
     pub fn push_mark(&mut self) -> Result<(), Halt>
         ensures { OnOk result (self.new ≡ Mark ∷ self.old) }
     {
@@ -79,7 +78,6 @@ impl Stack {
 
     /// Pushes an object. Not `inline(always)`, which would count as part of `Machine::step`: that
     /// must stay small enough to be inlined itself.
-    #[inline]
     pub fn push(&mut self, heft: PackedHeft) -> Result<(), Halt>
         ensures { OnOk result (self.new ≡ Item heft ∷ self.old) }
     {
@@ -103,7 +101,6 @@ impl Stack {
     }
 
     /// Puts an object in place of the topmost entry, which must be an object.
-    #[inline(always)]
     #[tactic(auto, using(crate::proofs::Slots::replaced))]
     pub fn replace(&mut self, heft: PackedHeft) -> Result<(), Halt>
         ensures { OnOk result ((entry : Entry Heft) (below : List (Entry Heft))
@@ -118,7 +115,6 @@ impl Stack {
     }
 
     /// Removes the topmost entry, which must be an object.
-    #[inline(always)]
     pub fn pop_object(&mut self) -> Option<PackedHeft>
         ensures { IfSome result (λ heft. self.old ≡ Item heft ∷ self.new) }
     {
@@ -146,7 +142,6 @@ impl Stack {
     }
 
     /// Removes so many of the topmost entries, which must be objects.
-    #[inline(always)]
     #[tactic(auto, using(crate::proofs::Slots::objects_dropped))]
     pub fn drop_objects(&mut self, count: usize) -> Result<(), Halt>
         ensures { OnOk result (HasItems count self.old self.new) }
@@ -160,7 +155,6 @@ impl Stack {
     }
 
     /// The codes of the objects above the topmost mark.
-    #[inline(always)]
     #[tactic(auto, using(crate::proofs::Slots::objects_shown))]
     pub fn objects(&self) -> &[u32]
         ensures { HasObjects self.now result.now }
@@ -169,7 +163,6 @@ impl Stack {
     }
 
     /// Removes the objects above the topmost mark, and the mark. Returns the number of the objects.
-    #[inline(always)]
     #[tactic(auto, using(crate::proofs::Slots::slice_shown))]
     pub fn drop_slice(&mut self) -> Result<u64, Halt>
         ensures { IfOk result (HasSlice self.old self.new) }
@@ -190,7 +183,6 @@ impl Stack {
 
     /// Puts an object in place of the objects above the topmost mark, and the mark. Returns their
     /// number.
-    #[inline(always)]
     #[tactic(auto, using(crate::proofs::Slots::slice_replaced))]
     pub fn replace_slice(&mut self, heft: PackedHeft) -> Result<u64, Halt>
         ensures { IfOk result (HasReplaced self.old self.new heft) }

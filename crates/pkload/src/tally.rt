@@ -38,7 +38,6 @@ impl Tally {
     }
 
     /// The tally, where BUILD may have taken an imported object.
-    #[inline]
     pub(crate) fn building(self, builds: bool) -> Tally
         ensures { result ≡ building builds self }
     {
@@ -49,7 +48,6 @@ impl Tally {
     }
 
     /// Counts one more key.
-    #[inline(always)]
     pub(crate) fn add(&mut self, key: PackedHeft) -> Result<(), Halt>
         ensures ok { OnOk result (self.new ≡ with_key self.old key) }
         ensures err { IfErr result (HasTooGreat (with_key self.old key)) }
@@ -67,7 +65,6 @@ impl Tally {
     }
 
     /// Counts keys that weigh one, so many with an unsalted hash and so many with a salted one.
-    #[inline]
     pub(crate) fn add_lights(&mut self, plain: u64, salted: u64) -> Result<(), Halt>
         ensures ok { OnOk result (self.new ≡ with_lights plain salted self.old) }
         ensures err { IfErr result (HasTooGreat (with_lights plain salted self.old)) }

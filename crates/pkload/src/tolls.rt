@@ -106,7 +106,6 @@ impl Tolls {
     }
 
     /// The first limit that a tally or this much memory exceeds.
-    #[inline(always)]
     pub(crate) fn excess_of(&self, tally: &Tally, memory: u64) -> Option<Excess>
         ensures excess { MatchOption result (KeepsWithin self.now tally.now memory)
             (λ excess. Exceeds excess self.now tally.now memory) }

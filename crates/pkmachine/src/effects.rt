@@ -40,7 +40,6 @@ pub enum Action {
 }
 
 /// Takes the operands and pushes a new object of this class.
-#[inline(always)]
 fn makes(takes: Takes, class: Class) -> Operation
     ensures { effect_in result ≡ makes takes class }
 {
@@ -48,7 +47,6 @@ fn makes(takes: Takes, class: Class) -> Operation
 }
 
 /// Takes the operands and pushes a new object of this class, or raises.
-#[inline(always)]
 fn may_make(takes: Takes, class: Class) -> Operation
     ensures { effect_in result ≡ may_make takes class }
 {
@@ -56,7 +54,6 @@ fn may_make(takes: Takes, class: Class) -> Operation
 }
 
 /// Takes the operands and pushes any object, or raises.
-#[inline(always)]
 fn answers(takes: Takes) -> Operation
     ensures { effect_in result ≡ answers takes }
 {
@@ -64,7 +61,6 @@ fn answers(takes: Takes) -> Operation
 }
 
 /// Takes the operands except the first, which stays on the stack with more in it, or raises.
-#[inline(always)]
 fn fills(takes: Takes, wanted: Wanted) -> Operation
     ensures { effect_in result ≡ fills takes wanted }
 {
@@ -72,7 +68,6 @@ fn fills(takes: Takes, wanted: Wanted) -> Operation
 }
 
 /// An operation that imports nothing.
-#[inline(always)]
 fn unnamed(takes: Takes, gives: Gives) -> Operation
     ensures { effect_in result ≡ Operates takes Names.NoName gives }
 {
@@ -84,7 +79,6 @@ fn unnamed(takes: Takes, gives: Gives) -> Operation
 }
 
 /// Takes the operands, imports a pair and pushes the object of that name, or raises.
-#[inline(always)]
 fn imports(takes: Takes, names: Names) -> Operation
     ensures { effect_in result ≡ imports takes names }
 {

@@ -6,7 +6,6 @@ ghost use Rattle.pkmachine.specs.StepLaws.{StepLaws};
 /// What a loop over [`Machine::step`](crate::Machine::step) knows about runs: what an accepted step
 /// does in every covered state, that the runs for which its knowledge stands have no fault there,
 /// and that a refused instruction has the named one.
-#[inline]
 pub fn steps()
     ensures { StepLaws }
 {}

@@ -189,7 +189,6 @@ impl Machine {
     }
 
     /// The limits of the check.
-    #[inline(always)]
     pub fn limits(&self) -> &Limits
         ensures { result.now ≡ self.now.limits }
     {
@@ -292,7 +291,6 @@ impl Machine {
 }
 
 /// Notes that the machine has stopped, if the step was a STOP. All other steps write nothing.
-#[inline(always)]
 fn stop_after(moved: Moved, stopped: &mut bool)
     requires { stopped.old ≡ false }
     ensures { stopped.new ≡ stopped_by moved }

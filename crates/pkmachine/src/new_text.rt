@@ -35,7 +35,6 @@ impl From<NotPushed> for Reason {
 
     ghost from_gives = { λ why reason. reason ≡ reason_for why };
 
-    #[inline]
     fn from(why: NotPushed) -> Reason {
         match why {
             NotPushed::Full => Reason::TooLarge,
@@ -114,7 +113,6 @@ fn push_text(
 
 /// Like `name_text`, for an opcode and its payload. A parameter of type `Inst` would force the
 /// instruction into memory in every step.
-#[inline(never)]
 fn name_payload(
     stack: &mut Stack,
     table: &mut ImportTable,
@@ -135,7 +133,6 @@ fn name_payload(
 }
 
 /// Whether the payload is a Python 2 string and the text itself.
-#[inline]
 fn is_old_text(op: Op, payload: &[u8]) -> bool
     ensures utf8 { result ≡ true → IsUtf8 payload.now }
     ensures text { result ≡ true → text (instruction op (Counted payload.now)) ≡ payload.now }
@@ -191,7 +188,6 @@ fn name_line(
 }
 
 /// Whether the line is the text itself and needs no decoding.
-#[inline]
 fn is_text(op: Op, line: &[u8]) -> bool
     ensures utf8 { result ≡ true → IsUtf8 line.now }
     ensures text { result ≡ true → text (instruction op (Line line.now)) ≡ line.now }
@@ -258,7 +254,6 @@ pub fn make_text(
 }
 
 /// Whether the payload of the opcode is UTF-8 and needs no decoding.
-#[inline]
 fn holds_utf8(op: Op) -> bool
     ensures { result ≡ true → rule_of op ≡ rule.Utf8 }
 {

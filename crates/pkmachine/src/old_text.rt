@@ -12,7 +12,6 @@ use pkops::{Arg, Inst, Op, is_ascii, old_bytes_of};
 use std::alloc::{AllocError, Global};
 
 /// Whether the Python 2 string of an instruction is ASCII.
-#[inline(always)]
 pub fn is_ascii_string(alloc: Global, inst: &Inst<'_>) -> Result<bool, AllocError>
     requires spells { IsSpelled (instruction_of inst.now).arg }
     ensures { IfOk result (λ answer. answer
@@ -27,7 +26,6 @@ pub fn is_ascii_string(alloc: Global, inst: &Inst<'_>) -> Result<bool, AllocErro
 
 /// Like `has_ascii`, for an opcode and its payload. A parameter of type `Inst` would force the
 /// instruction into memory in every step.
-#[inline(never)]
 fn is_ascii_payload(alloc: Global, op: Op, payload: &[u8]) -> Result<bool, AllocError>
     requires { IsGood (instruction op (Counted payload.now)) }
     ensures { IfOk result (λ answer. answer
@@ -41,7 +39,6 @@ fn is_ascii_payload(alloc: Global, op: Op, payload: &[u8]) -> Result<bool, Alloc
 }
 
 /// Like `has_ascii`, for an opcode and its line. See `is_ascii_payload`.
-#[inline(never)]
 fn is_ascii_line(alloc: Global, op: Op, line: &[u8]) -> Result<bool, AllocError>
     requires { IsGood (instruction op (Line line.now)) }
     ensures { IfOk result (λ answer. answer

@@ -29,14 +29,12 @@ impl From<Reason> for StepError {
 
     ghost from_gives = { λ reason error. error ≡ record { reason = reason; pair = None } };
 
-    #[inline]
     fn from(reason: Reason) -> StepError {
         StepError { reason, pair: None }
     }
 }
 
 /// The two lines of an argument, if it has two.
-#[inline(always)]
 pub fn lines_of<'a>(inst: &Inst<'a>) -> Option<(&'a [u8], &'a [u8])>
     ensures named { option_map (λ pair. (pair.0.now, pair.1.now)) result
         ≡ pair_named (instruction_of inst.now) }

@@ -32,7 +32,6 @@ const PLAIN: u32 = 12;
 
 impl PackedValue {
     /// An object about which nothing is known.
-    #[inline(always)]
     pub fn unknown() -> PackedValue
         ensures { result ≡ Value.Unknown }
     {
@@ -40,7 +39,6 @@ impl PackedValue {
     }
 
     /// An object of a class, which the machine made.
-    #[inline(always)]
     pub fn made(class: Class) -> PackedValue
         ensures { result ≡ Value.Made class }
     {
@@ -50,7 +48,6 @@ impl PackedValue {
     }
 
     /// The text with this number; `None` if it has no code.
-    #[inline(always)]
     pub fn text(number: usize) -> Option<PackedValue>
         ensures { IfSome result (λ packed. packed ≡ Value.Text number) }
     {
@@ -75,7 +72,6 @@ impl PackedValue {
 }
 
 /// The value of a code below `PLAIN`.
-#[inline(always)]
 fn plain_of(code: u32) -> Value
     requires { code < 12 }
     ensures { result ≡ unpacked code }

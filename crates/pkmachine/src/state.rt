@@ -127,7 +127,6 @@ impl MachineState {
     }
 
     /// Pushes a new object of this class.
-    #[inline(always)]
     pub fn make(&mut self, limits: &Limits, class: Class) -> Result<(), Reason>
         ensures ok { OnOk result (self.new.knowledge ≡ with_made class self.old.knowledge) }
         ensures room { OnOk result (length self.new.knowledge.entries ≤ limits.now.stack) }
@@ -141,7 +140,6 @@ impl MachineState {
     }
 
     /// Pushes an object about which nothing is known.
-    #[inline]
     pub fn answer(&mut self, limits: &Limits) -> Result<(), Reason>
         ensures ok { OnOk result (self.new.knowledge ≡ with_item None self.old.knowledge) }
         ensures room { OnOk result (length self.new.knowledge.entries ≤ limits.now.stack) }

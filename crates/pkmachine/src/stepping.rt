@@ -107,7 +107,6 @@ fn read_copy(state: &mut MachineState, config: &MachineConfig, inst: &Inst) -> R
 
 /// Pushes what a Python 2 string decodes to. Refuses with `NotAscii` if it must be ASCII but is
 /// not.
-#[inline(never)]
 fn read_old_string(
     state: &mut MachineState,
     config: &MachineConfig,
@@ -132,7 +131,6 @@ fn read_old_string(
 }
 
 /// Pops the result. Refuses with `LeftOver` if anything else is on the stack.
-#[inline(always)]
 fn finish(state: &mut MachineState) -> Result<(), Reason>
     ensures ok { OnOk result (stop_learned state.old.knowledge.memo
         (top state.old.knowledge.entries)

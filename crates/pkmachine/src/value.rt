@@ -23,7 +23,6 @@ pub enum Value {
 }
 
 /// The class of the object that INT makes.
-#[inline(always)]
 pub fn int_or_bool(inst: &Inst) -> Class
     ensures { result ≡ int_or_bool (instruction_of inst.now) }
 {
@@ -35,7 +34,6 @@ pub fn int_or_bool(inst: &Inst) -> Class
 }
 
 /// What is known about the result of an operation; `None` if it leaves the receiver.
-#[inline(always)]
 pub fn value_of(gives: Gives) -> Option<PackedValue>
     requires { IgnoresArgument gives }
     ensures { (ts : List (List ℕ)) (i : Instruction) → StandsIf ts result (known_given gives i) }

@@ -7,7 +7,6 @@ ghost use Rattle.pkops.specs.declared.op.Op.{Op};
 use crate::op::Op;
 
 /// The opcode with this code byte, or `None` if no opcode has it.
-#[inline]
 pub fn op_of_byte(byte: u8) -> Option<Op>
     ensures found { IfSome result (λ op. code_of op ≡ byte) }
     ensures none { IfNone result ((op : Op) → code_of op ≢ byte) }

@@ -73,7 +73,6 @@ impl Rule {
 }
 
 /// Whether the argument obeys the rule.
-#[inline]
 pub fn keeps(rule: Rule, arg: Arg<'_>) -> bool
     ensures { MatchBool result
         (Keeps rule (shown_arg arg.entry)) (¬ (Keeps rule (shown_arg arg.entry))) }
@@ -81,7 +80,6 @@ pub fn keeps(rule: Rule, arg: Arg<'_>) -> bool
     passes(rule, arg)
 }
 
-#[inline]
 fn passes(rule: Rule, arg: Arg<'_>) -> bool
     ensures { result ≡ passes rule (shown_arg arg.entry) }
 {

@@ -75,7 +75,6 @@ impl<'a> Inst<'a> {
     }
 
     /// The instruction with this opcode and an argument that is known to be good for it.
-    #[inline]
     pub fn known(op: Op, arg: Arg<'a>) -> Inst<'a>
         requires { IsGood (instruction op (shown_arg arg)) }
         ensures { instruction_of result ≡ instruction op (shown_arg arg.entry) }
@@ -88,7 +87,6 @@ impl<'a> Inst<'a> {
 
     /// The instruction that these bytes spell, which is known to be good. `split` is the length of
     /// the first of two lines, otherwise 0.
-    #[inline]
     pub fn spelled(op: Op, split: usize, bytes: &'a [u8]) -> Inst<'a>
         requires { HasGoodArgument op split bytes.now }
         ensures { OfArgument op split bytes.entry.now
@@ -155,7 +153,6 @@ impl<'a> Inst<'a> {
     }
 
     /// Whether the instruction is an INT that makes a bool, by `00` or `01`.
-    #[inline(always)]
     pub fn names_bool(&self) -> bool
         ensures { result ≡ names_bool (instruction_of self.now) }
     {
@@ -214,7 +211,6 @@ fn is_same_argument(first: Arg<'_>, second: Arg<'_>) -> bool
 }
 
 /// Whether the opcode's argument is a memo number.
-#[inline(always)]
 fn names_memo_entry(op: Op) -> bool
     ensures { result ≡ names_memo_entry op }
 {
@@ -225,7 +221,6 @@ fn names_memo_entry(op: Op) -> bool
 }
 
 /// Whether the opcode is INT.
-#[inline(always)]
 fn is_int(op: Op) -> bool
     ensures { MatchBool result (op ≡ opcode.Int) (op ≢ opcode.Int) }
 {

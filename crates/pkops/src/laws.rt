@@ -19,28 +19,24 @@ ghost use Rattle.pkops.specs.declared.op.Op.{Op};
 ghost use Rattle.pkops.specs.declared.op.Op.TheVariants as op;
 
 /// No spelling is a proper prefix of another, so bytes have one reading however they are split.
-#[inline]
 pub fn one_spelling()
     ensures { (i j : Instruction) (front more : List ℕ) →
         Spells i front → Spells j (front ++ more) → (more ≡ []) × (i ≡ j) }
 {}
 
 /// A scan has exactly one right answer.
-#[inline]
 pub fn one_answer()
     ensures { (limit : ℕ) (bytes : List ℕ) (r s : Answer) →
         Answers limit bytes r → Answers limit bytes s → r ≡ s }
 {}
 
 /// No two opcodes share a code.
-#[inline]
 pub fn one_code()
     ensures { (a b : Op) → code_of a ≡ code_of b → a ≡ b }
 {}
 
 /// What a prefix becomes as more bytes arrive: which bytes begin an instruction, and what a code is
 /// with its field, or with its count and payload.
-#[inline]
 pub fn growth()
     ensures begun { BegunLaws }
     ensures field { FieldLaws }
@@ -48,19 +44,16 @@ pub fn growth()
 {}
 
 /// Each content rule is equivalent to its test, which computes.
-#[inline]
 pub fn rules_are_computed()
     ensures { (rule : Rule) (arg : Argument) → Keeps rule arg ↔ (passes rule arg ≡ true) }
 {}
 
 /// The text that `text_of` returns is the one that the instruction names.
-#[inline]
 pub fn text_is_named()
     ensures { (i : Instruction) (text : List ℕ) → NamesText i text ↔ (text_bytes i ≡ Some text) }
 {}
 
 /// A line that `spells_itself` is UTF-8, and the text that UNICODE spells with it.
-#[inline]
 pub fn plain_line_is_text()
     ensures utf8 { (line : List ℕ) → list_all is_plain_ascii line ≡ true → IsUtf8 line }
     ensures text { (line : List ℕ) → list_all is_plain_ascii line ≡ true →
@@ -69,7 +62,6 @@ pub fn plain_line_is_text()
 
 /// The bytes that `old_bytes_of` returns are those of the Python 2 string that the instruction
 /// names.
-#[inline]
 pub fn old_bytes_are_named()
     ensures { (i : Instruction) (bytes : List ℕ) →
         NamesBytes i bytes ↔ (old_bytes i ≡ Some bytes) }

@@ -45,7 +45,6 @@ pub enum Width {
 
 impl Kind {
     /// The layout of an argument of this kind.
-    #[inline]
     pub fn layout(self) -> Layout
         ensures { result ≡ layout_of self }
     {
@@ -76,7 +75,6 @@ impl Kind {
 
 impl Width {
     /// The width of the count field in bytes.
-    #[inline]
     pub fn size(self) -> usize
         ensures { result ≡ size_of self }
     {
@@ -89,7 +87,6 @@ impl Width {
 }
 
 /// Whether a count field of this width can hold the number.
-#[inline]
 pub fn is_count(width: Width, signed: bool, count: u64) -> bool
     ensures { result ≡ nat_lt count (count_limit width signed) }
 {

@@ -80,7 +80,6 @@ pub fn memo_number_behind(op: Op, bytes: &[u8]) -> u32
 }
 
 /// Whether the line of an INT spells a bool.
-#[inline(always)]
 pub fn is_bool_behind(bytes: &[u8]) -> bool
     requires { (split : ℕ) × HasArgument opcode.Int split bytes.now }
     ensures { (split : ℕ) → OfArgument opcode.Int split bytes.now
@@ -103,7 +102,6 @@ fn line_number_behind(bytes: &[u8]) -> u32
 }
 
 /// The count after the code.
-#[inline]
 pub fn count_behind(width: Width, bytes: &[u8]) -> u64
     requires { size_of width + 1 ≤ length bytes.now }
     ensures { result ≡ count_in width (drop 1 bytes.now) }

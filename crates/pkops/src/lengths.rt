@@ -23,14 +23,12 @@ const PIECE: usize = 8;
 pub const SEARCHED: usize = 257;
 
 /// The constants are those of the definitions.
-#[inline]
 pub fn constants_are_defined()
     ensures protocol { HIGHEST_PROTOCOL ≡ highest_protocol }
     ensures searched { SEARCHED ≡ searched }
 {}
 
 /// The offset of the first line feed.
-#[inline]
 pub fn end_of_line(bytes: &[u8]) -> Option<usize>
     ensures { result ≡ end_of_line bytes.now }
 {
@@ -68,7 +66,6 @@ fn end_in(other: u8, bytes: &[u8]) -> Option<usize>
 }
 
 /// The length of the head in front of a payload: the code and the count.
-#[inline]
 pub fn head_length(width: Width) -> usize
     ensures { result ≡ head_length width }
 {
@@ -82,7 +79,6 @@ pub fn head_length(width: Width) -> usize
 /// The length of the head in front of a payload, and the count in it. `None` unless the bytes hold
 /// the whole head. The caller judges the count and looks for the payload, because a reader that has
 /// limits compares the count with them first.
-#[inline(always)]
 pub fn counted_head(width: Width, bytes: &[u8]) -> Option<(usize, u64)>
     ensures { SomeIff result (head_length width ≤ length bytes.now)
         (counted_head width bytes.now) }
@@ -96,7 +92,6 @@ pub fn counted_head(width: Width, bytes: &[u8]) -> Option<(usize, u64)>
 
 /// The width of the count of an opcode whose payload may be skipped. All of these counts are
 /// unsigned.
-#[inline]
 pub fn count_width(op: Op) -> Width
     requires { is_passed op ≡ true }
     ensures { layout_at op ≡ layout.Counted result false }

@@ -8,7 +8,6 @@ use crate::op::Op;
 impl Op {
     /// Whether the payload is plain bytes, which a reader may take without holding them: BINBYTES,
     /// SHORT_BINBYTES, BINBYTES8 and BYTEARRAY8.
-    #[inline]
     pub fn passed(self) -> bool
         ensures { result ≡ is_passed self }
     {

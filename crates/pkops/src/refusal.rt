@@ -115,7 +115,6 @@ impl From<AllocError> for Reason {
 
     ghost from_gives = { λ _ reason. reason ≡ OutOfMemory };
 
-    #[inline]
     fn from(_refused: AllocError) -> Reason {
         Reason::OutOfMemory
     }
@@ -127,7 +126,6 @@ impl<T: Drop> From<AllocFailed<T>> for Reason {
 
     ghost from_gives = { λ _ reason. reason ≡ OutOfMemory };
 
-    #[inline]
     fn from(_refused: AllocFailed<T>) -> Reason {
         Reason::OutOfMemory
     }

@@ -53,7 +53,6 @@ impl Made {
     }
 
     /// Takes a piece that isn't copied in one move.
-    #[inline(never)]
     fn take_slowly(&mut self, piece: &[u8]) -> Result<(), AllocError>
         ensures { OnOk result (self.new ≡ self.old ++ piece.now) }
     {
@@ -61,7 +60,6 @@ impl Made {
     }
 
     /// Takes a piece that isn't copied in one move, and two more bytes.
-    #[inline(never)]
     fn take_two_slowly(&mut self, piece: &[u8], first: u8, second: u8) -> Result<(), AllocError>
         ensures { OnOk result (self.new ≡ self.old ++ (piece.now ++ first ∷ second ∷ [])) }
     {

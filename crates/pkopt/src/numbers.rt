@@ -9,7 +9,6 @@ use crate::sources::Sources;
 use std::alloc::{AllocError, Global};
 
 /// Lengthens a list up to this write.
-#[inline(never)]
 fn reach_slowly(kept: &mut Vec<bool>, write: usize) -> Result<(), AllocError>
     ensures there { OnOk result (write < length kept.new.items) }
     ensures same { (w : ℕ) → slice_index_or kept.new.items w false

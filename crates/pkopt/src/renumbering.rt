@@ -38,7 +38,6 @@ fn digit(value: u32) -> u8
 
 /// Gives a sink an opcode and a number as a line of digits. In most long pickles the numbers that
 /// stay have one or two.
-#[inline(never)]
 fn give_line<S: Sink>(sink: &mut S, op: Op, number: u32) -> Result<(), S::Error>
     requires { names_memo_entry op ≡ true }
     ensures { OnOk result (S.takes sink.old sink.new

@@ -228,7 +228,6 @@ impl Pass {
 
     /// Gives a sink what is left of the instruction at a place, and counts it, with less work for
     /// the most frequent opcodes of long pickles.
-    #[inline(always)]
     fn give<S: Sink>(
         &mut self,
         plan: &Plan,

@@ -75,7 +75,6 @@ pub(crate) fn is_good(op: Op, arg: Arg<'_>) -> bool
 }
 
 /// Why an instruction is refused, or `None` if it isn't. Handles every opcode.
-#[inline(never)]
 fn look_slowly(op: Op, split: usize, bytes: &[u8]) -> Option<Reason>
     requires { IsSpelled op split bytes.now }
     ensures none { IfNone result (IsFine op split bytes.now) }

@@ -108,7 +108,6 @@ impl Gathering {
     }
 
     /// Takes a count and its payload.
-    #[inline(never)]
     pub(crate) fn counted<R: Source>(
         &mut self,
         source: &mut R,
@@ -136,7 +135,6 @@ impl Gathering {
     }
 
     /// Takes an argument of one line.
-    #[inline(never)]
     pub(crate) fn one_line<R: Source>(
         &mut self,
         source: &mut R,
@@ -160,7 +158,6 @@ impl Gathering {
     }
 
     /// Takes an argument of two lines, and returns the length of the first.
-    #[inline(never)]
     pub(crate) fn two_lines<R: Source>(
         &mut self,
         source: &mut R,

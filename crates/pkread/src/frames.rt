@@ -19,7 +19,6 @@ impl From<BrokenFrame> for Reason {
 
     ghost from_gives = { λ _ reason. reason ≡ BrokenFrame };
 
-    #[inline]
     fn from(_broken: BrokenFrame) -> Reason {
         Reason::BrokenFrame
     }
@@ -81,7 +80,6 @@ impl Frames {
     }
 
     /// As many of these bytes as lie in the open frame, or all of them outside any frame.
-    #[inline(always)]
     pub fn inside<'a>(&self, bytes: &'a [u8]) -> &'a [u8]
         ensures outside { self.now ≡ 0 → result.now ≡ bytes.now }
         ensures inside { self.now ≢ 0 → result.now ≡ take self.now bytes.now }
@@ -94,7 +92,6 @@ impl Frames {
 
     /// Takes instructions at once, which are neither FRAME nor STOP and have `count` bytes in all.
     /// If a frame is open, they lie in it.
-    #[inline(always)]
     pub fn take_inside(&mut self, count: usize)
         requires { self.old ≢ 0 → count ≤ self.old }
         ensures { self.new ≡ self.old - count }
@@ -105,7 +102,6 @@ impl Frames {
 
 /// The last argument of `Frames::take`: the number in the instruction's argument if that is
 /// unsigned, otherwise 0.
-#[inline]
 pub fn frame_argument(inst: &Inst<'_>) -> u64
     ensures { result ≡ number_of (instruction_of inst.now).arg }
 {

@@ -108,7 +108,6 @@ static STARTS: [Start; 256] = entries! {
     _ _ _ _ _ _ _ _ _ _ _ _ _ _ _ _
 };
 
-#[inline(always)]
 fn start_of(code: u8) -> Start
     ensures code { (result.op ≡ opcode.Stop → result.length ≢ 0) → code_of result.op ≡ code }
     ensures fixed { (op : SpecOp) → code_of op ≡ code → result.length ≢ 0
@@ -285,7 +284,6 @@ fn proto_length(bytes: &[u8]) -> usize
 }
 
 /// The limit on the payload of an opcode.
-#[inline(always)]
 fn limit_of(op: Op, limits: &Limits) -> u64
     ensures { result ≡ payload_limit limits.now op }
 {

@@ -65,7 +65,6 @@ impl Gathering {
     }
 
     /// Takes the code of an instruction. The buffer already holds it if it was read ahead.
-    #[inline]
     fn take_code<R: Source>(&mut self, source: &mut R) -> Result<u8, Reason>
         requires { AtMostOneAhead self.old.buffer.bytes self.old.taken }
         ensures keeps { KeepsRest self.old self.new }
@@ -121,7 +120,6 @@ impl Gathering {
 
     /// Takes bytes until they spell an instruction: first the code, unless the buffer already holds
     /// it, then what its layout needs.
-    #[inline]
     pub(crate) fn gather<R: Source>(&mut self, source: &mut R) -> Result<Found, Reason>
         requires { AtMostOneAhead self.old.buffer.bytes self.old.taken }
         ensures keeps { KeepsRest self.old self.new }

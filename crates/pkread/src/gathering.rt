@@ -61,7 +61,6 @@ impl Gathering {
         }
     }
 
-    #[inline]
     pub(crate) fn taken(&self) -> u64
         ensures { result ≡ self.now.taken }
     {
@@ -69,14 +68,12 @@ impl Gathering {
     }
 
     /// How many bytes can still be taken.
-    #[inline]
     pub(crate) fn room(&self) -> u64
         ensures { self.now.taken + result ≡ all_bytes }
     {
         self.room
     }
 
-    #[inline]
     pub(crate) fn limits(&self) -> &Limits
         ensures { result.now ≡ self.now.limits }
     {
@@ -91,7 +88,6 @@ impl Gathering {
     }
 
     /// The bytes held.
-    #[inline]
     pub(crate) fn bytes(&self) -> &[u8]
         ensures { result.now ≡ self.now.buffer.bytes }
     {
@@ -99,7 +95,6 @@ impl Gathering {
     }
 
     /// The first byte held, if any.
-    #[inline]
     pub(crate) fn first(&self) -> Option<u8>
         ensures none { IfNone result (self.now.buffer.bytes ≡ []) }
         ensures some { IfSome result (λ byte.
@@ -112,7 +107,6 @@ impl Gathering {
     }
 
     /// Drops all bytes and keeps their memory.
-    #[inline]
     pub(crate) fn clear(&mut self)
         ensures { self.new ≡ record self.old {
           buffer = record { bytes = []; peak = most_held self.old.buffer };
@@ -123,7 +117,6 @@ impl Gathering {
     }
 
     /// Keeps the first `count` bytes and drops the rest.
-    #[inline]
     pub(crate) fn cut(&mut self, count: usize)
         requires { count ≤ length self.old.buffer.bytes }
         ensures { self.new ≡ record self.old {
@@ -139,7 +132,6 @@ impl Gathering {
 
     /// Updates the peak before bytes are dropped. The peak rarely rises, so the write is out of
     /// line.
-    #[inline(always)]
     fn note_most(&mut self)
         ensures { self.new ≡ record self.old {
           buffer = record {
@@ -153,7 +145,6 @@ impl Gathering {
         }
     }
 
-    #[inline(never)]
     fn note_most_slowly(&mut self)
         ensures { self.new ≡ record self.old {
           buffer = record {
@@ -167,7 +158,6 @@ impl Gathering {
 
     /// Counts bytes as taken: those of an instruction that is lent from where it lies, as if it
     /// were held, or the one that was read ahead.
-    #[inline(always)]
     pub(crate) fn count_lent(&mut self, count: usize)
         requires { self.old.taken + count ≤ all_bytes }
         ensures { self.new ≡ record self.old { taken = self.old.taken + count } }
@@ -176,7 +166,6 @@ impl Gathering {
     }
 
     /// Takes one byte. Refuses with `TooLarge` once 2^64 - 1 bytes were taken.
-    #[inline]
     pub(crate) fn take_byte<R: Source>(&mut self, source: &mut R) -> Result<u8, Reason>
         ensures keeps { KeepsRest self.old self.new }
         ensures takes { TakesByte result
@@ -194,7 +183,6 @@ impl Gathering {
 
     /// Reads one byte and holds it, but does not count it as taken. It passes through an array of
     /// one, because the compiler turns a copy of known length to a known place into a move.
-    #[inline]
     pub(crate) fn read_byte<R: Source>(&mut self, source: &mut R) -> Result<u8, Reason>
         ensures keeps { KeepsRest self.old self.new }
         ensures taken { self.new.taken ≡ self.old.taken }
@@ -244,7 +232,6 @@ impl Gathering {
     }
 
     /// Makes one read of at most `wanted` bytes and holds them, as `read_byte` does.
-    #[inline]
     fn read<R: Source>(&mut self, source: &mut R, wanted: usize) -> Result<usize, Reason>
         requires some { 0 < wanted }
         requires few { wanted ≤ 4096 }
@@ -268,7 +255,6 @@ impl Gathering {
     }
 
     /// Makes one read of at most `left` bytes, and at most a block. Returns how many arrived.
-    #[inline]
     pub(crate) fn take_block<R: Source>(
         &mut self,
         source: &mut R,
@@ -352,7 +338,6 @@ impl Gathering {
 
     /// Takes `count` bytes. Short reads and payloads above a block are rare, so the loop is out of
     /// line.
-    #[inline(always)]
     fn take_rest<R: Source>(&mut self, source: &mut R, count: usize) -> Result<(), Reason>
         ensures keeps { KeepsRest self.old self.new }
         ensures takes { TakesAll count result

@@ -28,7 +28,6 @@ pub(crate) enum Gathered {
 
 /// Whether the payload of an opcode is skipped. Only counted layouts have to look at the opcode;
 /// for all others the layout, which the caller has already matched, decides.
-#[inline(always)]
 fn is_skipped(op: Op, layout: Layout) -> bool
     requires { layout ≡ layout_at op }
     ensures { result ≡ is_passed op }
@@ -40,9 +39,7 @@ fn is_skipped(op: Op, layout: Layout) -> bool
 }
 
 impl Gathering {
-    /// Skips the rest of a payload, by reading it only where the source can't pass over it. Rarely
-    /// needed, so the loop is out of line.
-    #[inline(never)]
+    /// Skips the rest of a payload, by reading it only where the source can't pass over it.
     fn skip_rest<R: Source>(&mut self, source: &mut R, count: usize) -> Result<(), Reason>
         requires { length self.old.buffer.bytes ≤ 9 }
         ensures rises { RisesLittle self.old self.new }
@@ -85,7 +82,6 @@ impl Gathering {
     }
 
     /// Takes the count of a skipped payload, skips the payload, and returns its length.
-    #[inline(never)]
     fn skip_argument<R: Source>(&mut self, source: &mut R, op: Op) -> Result<u64, Reason>
         requires code { self.old.buffer.bytes ≡ code_of op ∷ [] }
         requires skipped { is_passed op ≡ true }

@@ -21,7 +21,6 @@ pub fn framed()
 /// What a loop over `Reader::next` knows: the instructions given so far are those that the bytes
 /// taken spell, the last is STOP if the reader has ended, and a refusal is reported where it first
 /// occurs.
-#[inline]
 pub fn nexts()
     ensures begins { ReadingBegins }
     ensures given { NextIsRead }
@@ -32,7 +31,6 @@ pub fn nexts()
 {}
 
 /// What a loop over `Reader::next_head` knows, as for `next`.
-#[inline]
 pub fn heads()
     ensures begins { ReadingBegins }
     ensures given { HeadIsRead }
@@ -45,7 +43,6 @@ pub fn heads()
 
 /// What a loop over either knows after `Reader::again` has returned true, what its refusal is, and
 /// that the bytes of several pickles were taken one after the other.
-#[inline]
 pub fn rows()
     ensures begins { ReadingGoesOn }
     ensures refused { NoByteIsRefused }
@@ -56,7 +53,6 @@ pub fn rows()
 }
 
 /// What a loop over `genops` knows, as for `next`.
-#[inline]
 pub fn walks()
     ensures begins { WalkBegins }
     ensures given { ItemIsWalked }
@@ -66,7 +62,6 @@ pub fn walks()
 
 /// The rule of `Frames::take` as instructions are appended: what it accepts is framed, and the next
 /// one that it refuses is not.
-#[inline]
 pub fn frames()
     ensures more { FramesGoOn }
     ensures all { FramesHold }
@@ -76,7 +71,6 @@ pub fn frames()
 /// Bytes have at most one instruction at their front, and at most one sequence, whatever the limits
 /// on payloads. The sequence begins with any instructions at the front that have no STOP among
 /// them.
-#[inline]
 pub fn one_sequence()
     ensures front { OneFront }
     ensures one { OneSequence }

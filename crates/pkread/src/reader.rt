@@ -175,7 +175,6 @@ impl<'r, R: Source> Reader<'r, R> {
     /// begun, but no clause says that it comes only there.
     ///
     /// [`lend`]: crate::lend
-    #[inline(always)]
     pub fn at_hand(&self) -> Option<&[u8]>
         ensures next { IfSome result (λ bytes. AreNext (state R.left R.failures self.now)
             bytes.now) }
@@ -193,7 +192,6 @@ impl<'r, R: Source> Reader<'r, R> {
 
     /// Takes `count` of the bytes that `at_hand` returned: those of whole instructions. The source
     /// is then as after calls of `next` or `next_head`.
-    #[inline(always)]
     pub fn advance(&mut self, count: usize)
         requires within { count ≤ R.at_hand (source_of self.old) }
         requires room { (state R.left R.failures self.old).taken + count ≤ all_bytes }

@@ -128,7 +128,6 @@ impl Core {
     }
 
     /// Whether an instruction is read next, and none of it was read ahead.
-    #[inline(always)]
     pub(crate) fn is_open(&self) -> bool
         ensures open { result ≡ true → self.now.phase ≡ phase.Open }
         ensures none { result ≡ true → self.now.ahead ≡ [] }
@@ -137,7 +136,6 @@ impl Core {
     }
 
     /// The number of bytes that can still be taken.
-    #[inline(always)]
     pub(crate) fn room(&self) -> u64
         ensures { self.now.taken + result ≡ all_bytes }
     {
@@ -145,7 +143,6 @@ impl Core {
     }
 
     /// Counts `count` bytes of instructions that are lent from where they lie.
-    #[inline(always)]
     pub(crate) fn count_lent(&mut self, count: usize)
         requires none { self.old.ahead ≡ [] }
         requires within { self.old.taken + count ≤ all_bytes }
@@ -156,7 +153,6 @@ impl Core {
     }
 
     /// Sets the phase after an instruction with this opcode.
-    #[inline]
     fn give(&mut self, op: Op)
         requires open { self.old.phase ≡ phase.Open }
         requires none { self.old.ahead ≡ [] }
@@ -170,7 +166,6 @@ impl Core {
     }
 
     /// Sets the phase after an instruction, held or skipped.
-    #[inline(always)]
     fn give_head(&mut self, head: Gathered)
         requires open { self.old.phase ≡ phase.Open }
         requires none { self.old.ahead ≡ [] }
@@ -184,7 +179,6 @@ impl Core {
     }
 
     /// Refuses this call and every later one.
-    #[inline(always)]
     fn refuse(&mut self, at: u64, reason: Reason) -> Refusal
         requires { self.old.ahead ≡ [] }
         ensures refusal { result ≡ record { at = at; reason = reason } }
@@ -197,7 +191,6 @@ impl Core {
 
     /// The gathered instruction. Its contents were judged when they were taken, so this neither
     /// checks them again nor decodes the argument, which stays in the buffer.
-    #[inline(always)]
     pub(crate) fn instruction(&self, found: Found) -> Inst<'_>
         requires { IsFound self.now.limits.counted self.now.held.bytes found.op found.split }
         ensures { (arg : Argument) →
@@ -229,7 +222,6 @@ impl Core {
     }
 
     /// Takes the bytes of the next instruction without holding byte payloads.
-    #[inline]
     pub(crate) fn collect_head<R: Source>(&mut self, source: &mut R) -> Result<Gathered, Refusal>
         requires { self.old.phase ≡ phase.Open }
         ensures advances { Advances self.old self.new }
@@ -282,7 +274,6 @@ impl Core {
 
 /// Starts an instruction. Keeps the byte that was read ahead for it, and otherwise clears the
 /// buffer.
-#[inline(always)]
 fn keep(gathering: &mut Gathering, stage: &mut Stage)
     requires { length (ahead_of stage.old gathering.old.buffer.bytes) ≤ gathering.old.buffer.peak }
     ensures kept { gathering.new ≡ record gathering.old {

@@ -10,7 +10,6 @@ use crate::source::{ReadFailed, Source};
 use std::alloc::AllocError;
 
 /// Writes a byte to the store at `at`.
-#[inline]
 pub(crate) fn put(store: &mut Vec<u8>, at: usize, byte: u8)
     requires { at < length store.old.items }
     ensures front { take (at + 1) store.new.items ≡ take at store.old.items ++ byte ∷ [] }
@@ -32,7 +31,6 @@ pub(crate) fn put_field<const N: usize>(store: &mut Vec<u8>, at: usize, field: &
 }
 
 /// Makes room for `wanted` bytes behind the first `from`.
-#[inline]
 pub(crate) fn make_room(store: &mut Vec<u8>, from: usize, wanted: usize) -> Result<(), AllocError>
     requires within { from ≤ length store.old.items }
     requires few { wanted ≤ 4096 }
@@ -58,7 +56,6 @@ fn make_room_slowly(store: &mut Vec<u8>, from: usize, wanted: usize) -> Result<(
 }
 
 /// Makes one read of at most `wanted` bytes into the store at `from`.
-#[inline]
 pub(crate) fn pull_into<R: Source>(
     source: &mut R,
     store: &mut Vec<u8>,

@@ -80,7 +80,6 @@ impl<V: Copy + Drop> Stack<V> {
     /// # Errors
     ///
     /// `MissingItem`: a mark is on top, or nothing.
-    #[inline(always)]
     pub fn top(&self) -> Result<V, Reason>
         ensures ok { IfOk result (λ v. top self.now ≡ Ok (v, drop 1 self.now)) }
         ensures err { IfErr result (λ r. IsLack (top self.now) r) }
@@ -207,7 +206,6 @@ impl<V: Copy + Drop> Stack<V> {
     }
 
     /// Keeps the lowest `count` entries.
-    #[inline(always)]
     #[tactic(auto, using(crate::proofs::Limited::length_shown, crate::proofs::Places::below_shown))]
     pub fn truncate(&mut self, count: usize)
         ensures { self.new ≡ below count self.old }
@@ -259,7 +257,6 @@ impl<V: Copy + Drop> Stack<V> {
     }
 
     /// Keeps the entry at a place and those below it, of which `marks` are marks.
-    #[inline(always)]
     pub fn end_with(&mut self, place: usize, marks: usize)
         requires there { place < length self.old }
         requires marks { marks ≡ marks_of (below (place + 1) self.old) }

@@ -55,7 +55,6 @@ impl Block {
     }
 
     /// How many bytes are left.
-    #[inline]
     pub fn len(&self) -> usize
         ensures { result ≡ length self.now }
     {
@@ -63,7 +62,6 @@ impl Block {
     }
 
     /// The bytes that are left.
-    #[inline]
     pub fn bytes(&self) -> &[u8]
         ensures { result.now ≡ self.now }
     {
@@ -71,7 +69,6 @@ impl Block {
     }
 
     /// Drops the first `count` bytes.
-    #[inline]
     pub fn skip(&mut self, count: usize)
         requires { count ≤ length self.old }
         ensures { self.old ≡ take count self.old ++ self.new }
@@ -91,7 +88,6 @@ impl Block {
     }
 
     /// Moves the first bytes out of the block.
-    #[inline]
     pub fn fill(&mut self, to: &mut [u8])
         requires { length to.old ≤ length self.old }
         ensures bytes { self.old ≡ to.new ++ self.new }

@@ -71,18 +71,15 @@ impl<R: PassOver> Source for Blocks<R> {
         Ok(self.pull_some(to)?)
     }
 
-    #[inline(always)]
     fn ahead(&self) -> &[u8] {
         self.block.bytes()
     }
 
-    #[inline(always)]
     fn advance(&mut self, count: usize) {
         self.block.skip(count);
     }
 
     /// Passes over what is in the block too. Less than a block behind it is cheaper to read.
-    #[inline(never)]
     fn pass(&mut self, wanted: usize) -> usize {
         let held = self.block.len();
         if wanted.saturating_sub(held) < SIZE {

@@ -12,7 +12,6 @@ use pkops::Op;
 impl Machine {
     /// Does what an opcode says that takes objects and has no action of its own. Returns whether it
     /// may have counted keys.
-    #[inline(never)]
     pub(super) fn operate(&mut self, op: Op) -> Result<bool, Halt>
         ensures billed { OnOk result (op_billed op self.old ≡ Ok self.new) }
         ensures quiet { IfOk result (λ noted. noted ≡ false → IsQuiet self.old self.new) }
@@ -44,7 +43,6 @@ impl Machine {
     }
 
     /// INST, or OBJ, which takes one object at least. Returns false.
-    #[inline(never)]
     fn answer_slice(&mut self, wants_some: bool) -> Result<bool, Halt>
         ensures inst { OnOk result (op_billed Op.Inst self.old ≡ Ok self.new) }
         ensures obj { wants_some ≡ true → OnOk result (op_billed Op.Obj self.old ≡ Ok self.new) }

@@ -66,7 +66,6 @@ impl Machine {
     }
 
     /// APPEND, which leaves the list.
-    #[inline(always)]
     pub(super) fn append(&mut self) -> Result<bool, Halt>
         ensures billed { OnOk result (op_billed Op.Append self.old ≡ Ok self.new) }
         ensures quiet { OnOk result (IsQuiet self.old self.new) }

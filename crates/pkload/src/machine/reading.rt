@@ -14,7 +14,6 @@ use pkops::Op;
 
 impl Machine {
     /// Pushes a text of these bytes. Returns false, as do all here, since none counts a key.
-    #[inline(never)]
     pub(super) fn read_text(&mut self, bytes: &[u8]) -> Result<bool, Halt>
         ensures { OnOk result (self.new ≡ pushed (string_heft (length bytes.now))
             (16 + text_memory bytes.now) self.old) }
@@ -47,7 +46,6 @@ impl Machine {
     }
 
     /// Pushes what is made of these bytes. What has an action of its own isn't read.
-    #[inline(never)]
     pub(super) fn read(&mut self, op: Op, bytes: &[u8]) -> Result<bool, Halt>
         ensures { OnOk result (self.new ≡ pushed (heft_made op (length bytes.now) [])
             (reading_memory op bytes.now) self.old) }

@@ -55,7 +55,6 @@ impl Machine {
     }
 
     /// FROZENSET. Returns true. All items are keys, so what the keys weigh more is their weight.
-    #[inline(never)]
     pub(super) fn freeze_slice(&mut self) -> Result<bool, Halt>
         ensures billed { OnOk result (op_billed Op.FrozenSet self.old ≡ Ok self.new) }
         ensures counted { IfOk result (λ counted. counted ≡ true) }

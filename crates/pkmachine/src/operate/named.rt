@@ -119,7 +119,6 @@ fn replace_named(
 }
 
 /// Applies the operation of an opcode that may import a pair. Returns whether an import was listed.
-#[inline(never)]
 pub fn operate_named(
     stack: &mut Stack,
     table: &mut ImportTable,

@@ -75,7 +75,6 @@ fn fill_quickly(stack: &mut Stack, op: Op) -> bool
 }
 
 /// APPEND, for `fill_quickly`.
-#[inline]
 fn append(stack: &mut Stack) -> bool
     ensures done { result ≡ true → HasReplaced (effect_of Op.Append) stack.old stack.new }
     ensures kept { result ≡ false → stack.new ≡ stack.old }
@@ -84,7 +83,6 @@ fn append(stack: &mut Stack) -> bool
 }
 
 /// SETITEM, for `fill_quickly`.
-#[inline]
 fn set_item(stack: &mut Stack) -> bool
     ensures done { result ≡ true → HasReplaced (effect_of Op.SetItem) stack.old stack.new }
     ensures kept { result ≡ false → stack.new ≡ stack.old }
@@ -93,7 +91,6 @@ fn set_item(stack: &mut Stack) -> bool
 }
 
 /// BUILD, for `fill_quickly`.
-#[inline]
 fn build(stack: &mut Stack) -> bool
     ensures done { result ≡ true → HasReplaced (effect_of Op.Build) stack.old stack.new }
     ensures kept { result ≡ false → stack.new ≡ stack.old }
@@ -103,7 +100,6 @@ fn build(stack: &mut Stack) -> bool
 
 /// Removes the topmost `count` objects except the lowest one, the receiver. Returns false and
 /// changes nothing if they are not there, or if the receiver is known to have a wrong class.
-#[inline(always)]
 fn fill(stack: &mut Stack, count: usize, wanted: Wanted) -> bool
     requires { 0 < count }
     ensures done { result ≡ true
@@ -139,7 +135,6 @@ pub fn operate_unnamed(stack: &mut Stack, limits: &Limits, op: Op) -> Result<(),
 
 /// Applies the operation of an opcode that imports nothing. Frequent ones have arms of their own,
 /// each with the tests of that operation alone.
-#[inline(never)]
 fn operate_any(stack: &mut Stack, limits: &Limits, op: Op) -> Result<(), Reason>
     requires within { length stack.old ≤ limits.now.stack }
     requires unnamed { IsUnnamed (effect_of op) }

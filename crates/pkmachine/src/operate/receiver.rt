@@ -8,7 +8,6 @@ use crate::effect::{Class, Gives, Wanted};
 use crate::stack::Operands;
 use crate::value::Value;
 
-#[inline(always)]
 fn is_list(class: Class) -> bool
     ensures { result ≡ suits Wanted.WantsList (Plain class) }
 {
@@ -18,7 +17,6 @@ fn is_list(class: Class) -> bool
     }
 }
 
-#[inline(always)]
 fn is_dict(class: Class) -> bool
     ensures { result ≡ suits Wanted.WantsDict (Plain class) }
 {
@@ -30,7 +28,6 @@ fn is_dict(class: Class) -> bool
 
 /// Whether a receiver of this class is allowed. The variants are compared one by one, because a
 /// `match` on all of them compiles to a jump table, which is slower.
-#[inline(always)]
 pub fn class_suits(wanted: Wanted, class: Class) -> bool
     ensures { result ≡ suits wanted (Plain class) }
 {
@@ -50,7 +47,6 @@ pub fn class_suits(wanted: Wanted, class: Class) -> bool
 }
 
 /// Whether a value is known to have the wrong class.
-#[inline(always)]
 pub fn is_wrong(wanted: Wanted, value: Value) -> bool
     ensures { (ts : List (List ℕ)) → result ≡ wrong_first wanted (known ts value ∷ []) }
 {

@@ -37,7 +37,6 @@ pub fn read_text(alloc: Global, line: &[u8]) -> Result<Option<String>, AllocErro
 
 /// Whether a line of UNICODE is ASCII without a backslash, as most are. Such a line is its own text
 /// (`laws::plain_line_is_text`). It looks at every byte, as `is_ascii` does.
-#[inline]
 pub fn spells_itself(line: &[u8]) -> bool
     ensures { result ≡ list_all is_plain_ascii line.now }
 {
@@ -87,7 +86,6 @@ pub fn spells_text(line: &[u8]) -> bool
 }
 
 /// Whether any line spells a text, read byte by byte.
-#[inline(never)]
 fn spells_escaped(line: &[u8]) -> bool
     ensures { result ≡ is_some (points_of line.now) }
 {

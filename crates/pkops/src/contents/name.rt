@@ -70,7 +70,6 @@ pub fn is_short_ascii(bytes: &[u8]) -> bool
 }
 
 /// Whether each byte is ASCII, where the first `size` and the last `size` are all.
-#[inline(always)]
 fn are_ends_ascii(bytes: &[u8], size: usize) -> bool
     requires within { size ≤ length bytes.now }
     requires all { length bytes.now ≤ size + size }
@@ -81,7 +80,6 @@ fn are_ends_ascii(bytes: &[u8], size: usize) -> bool
 
 /// Whether each byte is ASCII. It looks at every byte, whatever the first ones are, which lets the
 /// compiler test them at once.
-#[inline(always)]
 fn are_ascii(bytes: &[u8]) -> bool
     ensures { result ≡ list_all is_ascii bytes.now }
 {

@@ -26,7 +26,6 @@ pub fn is_utf8(bytes: &[u8]) -> bool
 /// because the shipped libraries also run on processors that lack them. Cold, so that no register is
 /// saved for this call where a text is short ASCII.
 #[cold]
-#[inline(never)]
 fn is_any_utf8(bytes: &[u8]) -> bool
     ensures { MatchBool result (IsUtf8 bytes.now) (¬ (IsUtf8 bytes.now)) }
 {

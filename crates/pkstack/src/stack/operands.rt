@@ -23,7 +23,6 @@ impl<'a, V> Model for Operands<'a, V> {
 
 impl<'a, V: Copy + Drop> Operands<'a, V> {
     /// The objects among the entries from a place on.
-    #[inline(always)]
     pub(crate) fn from(slots: &'a [Slot<V>], place: usize) -> Operands<'a, V>
         requires { place ≤ length slots.now }
         ensures { result ≡ values_of (drop place slots.now) }

@@ -31,7 +31,6 @@ pub enum Slot<V> {
 }
 
 /// What is known about the topmost entry; `None` if it is a mark or there is none.
-#[inline(always)]
 pub fn top<V: Copy + Drop>(slots: &[Slot<V>]) -> Option<V>
     ensures { MatchOption result (top (shown slots.now [])
         ≡ Err NoItem) (λ v. top (shown slots.now []) ≡ Ok (v, drop 1 (shown slots.now []))) }
@@ -45,8 +44,7 @@ pub fn top<V: Copy + Drop>(slots: &[Slot<V>]) -> Option<V>
     Some(value)
 }
 
-/// Pushes an object. Out of line, so other paths reserve no register for it.
-#[inline(never)]
+/// Pushes an object.
 pub fn put_on_top<V: Copy + Drop>(slots: &mut StackVec<Slot<V>>, value: V) -> Result<(), AllocError>
     ensures ok { OnOk result (slots.new ≡ slots.old ++ Slot.Object value ∷ []) }
     ensures err { OnErr result (slots.new ≡ slots.old) }
@@ -55,7 +53,6 @@ pub fn put_on_top<V: Copy + Drop>(slots: &mut StackVec<Slot<V>>, value: V) -> Re
 }
 
 /// The place of the topmost mark.
-#[inline(always)]
 pub fn mark_place<V: Copy + Drop>(stack: &[Slot<V>], places: &[usize]) -> Option<usize>
     requires { places.now ≡ bars 0 stack.now }
     ensures value { MatchOption result (slice (shown stack.now []) []
@@ -73,7 +70,6 @@ pub fn mark_place<V: Copy + Drop>(stack: &[Slot<V>], places: &[usize]) -> Option
 }
 
 /// The number of objects above the topmost mark, or on the whole stack if it has no mark.
-#[inline(always)]
 pub fn objects_on_top<V: Copy + Drop>(stack: &[Slot<V>], places: &[usize]) -> usize
     requires { places.now ≡ bars 0 stack.now }
     ensures within { result ≤ length stack.now }
@@ -89,7 +85,6 @@ pub fn objects_on_top<V: Copy + Drop>(stack: &[Slot<V>], places: &[usize]) -> us
 
 /// The place where the topmost `count` objects begin, if no mark is among them. It compares the
 /// place of the topmost mark instead of looking at the entries.
-#[inline(always)]
 pub fn objects_place<V: Copy + Drop>(
     stack: &[Slot<V>],
     places: &[usize],
@@ -109,7 +104,6 @@ pub fn objects_place<V: Copy + Drop>(
 }
 
 /// The place of the topmost entry, if it is an object.
-#[inline(always)]
 pub fn one_object<V: Copy + Drop>(slots: &[Slot<V>]) -> Option<usize>
     ensures { MatchOption result (items 1 (shown slots.now []) [] ≡ Err NoItem)
         (λ n. (n + 1 ≡ length slots.now) × AllObjects (drop n slots.now)) }
@@ -124,7 +118,6 @@ pub fn one_object<V: Copy + Drop>(slots: &[Slot<V>]) -> Option<usize>
 }
 
 /// The place of the lower one of the topmost two entries, if both are objects.
-#[inline(always)]
 pub fn two_objects<V: Copy + Drop>(slots: &[Slot<V>]) -> Option<usize>
     ensures { MatchOption result (items 2 (shown slots.now []) [] ≡ Err NoItem)
         (λ n. (n + 2 ≡ length slots.now) × AllObjects (drop n slots.now)) }
@@ -142,7 +135,6 @@ pub fn two_objects<V: Copy + Drop>(slots: &[Slot<V>]) -> Option<usize>
 }
 
 /// The place of the lowest one of the topmost three entries, if all are objects.
-#[inline(always)]
 fn three_objects<V: Copy + Drop>(slots: &[Slot<V>]) -> Option<usize>
     ensures { MatchOption result (items 3 (shown slots.now []) [] ≡ Err NoItem)
         (λ n. (n + 3 ≡ length slots.now) × AllObjects (drop n slots.now)) }
@@ -161,7 +153,6 @@ fn three_objects<V: Copy + Drop>(slots: &[Slot<V>]) -> Option<usize>
 
 /// The place of the lowest one of the topmost `count` entries, if `count` is 2 or 3 and all of them
 /// are objects.
-#[inline(always)]
 pub fn few_objects<V: Copy + Drop>(slots: &[Slot<V>], count: usize) -> Option<usize>
     ensures { MatchOption result (IsFew count → items count (shown slots.now []) [] ≡ Err NoItem)
         (λ n. IsFew count × (n + count ≡ length slots.now) × AllObjects (drop n slots.now)) }
@@ -187,7 +178,6 @@ pub fn count_objects<V: Copy + Drop>(slots: &[Slot<V>]) -> usize
 }
 
 /// How many of the places, which rise, are below the place `count`.
-#[inline(always)]
 pub fn marks_below(places: &[usize], count: usize) -> usize
     ensures { IsCut places.now count result }
 {
@@ -202,7 +192,6 @@ pub fn marks_below(places: &[usize], count: usize) -> usize
 }
 
 /// Why a slice of `count` objects breaks the rule; `None` if it does not.
-#[inline(always)]
 pub fn rule_fault(rule: SliceRule, count: usize) -> Option<Reason>
     ensures { MatchOption result (breach_of rule count ≡ None) (λ r. (b : Breach)
         × (breach_of rule count ≡ Some b) × (r ≡ reason_of_breach b)) }
