@@ -5,7 +5,7 @@ ghost use Rattle.std.specs.Prelude.{◌≡◌, ◌≤◌, ◌<◌, ◌+◌, ◌+
 use std::alloc::{AllocError, Global};
 use std::marker::Model;
 
-/// By how many bytes a store is longer than what is in use, after it was lengthened. They are zeroed
+/// By how many bytes a store is longer than what is in use when it was lengthened. They are zeroed
 /// before they are replaced.
 const STEP: usize = 512;
 

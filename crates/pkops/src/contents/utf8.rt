@@ -23,8 +23,8 @@ pub fn is_utf8(bytes: &[u8]) -> bool
 }
 
 /// Whether the bytes are UTF-8, which may be any. Long ones are checked without byte shuffles,
-/// because the shipped libraries also run on processors that lack them. Cold, so that no register is
-/// saved for this call where a text is short ASCII.
+/// because the shipped libraries also run on processors that lack them. Cold, so that no register
+/// is saved for this call where a text is short ASCII.
 #[cold]
 fn is_any_utf8(bytes: &[u8]) -> bool
     ensures { MatchBool result (IsUtf8 bytes.now) (¬ (IsUtf8 bytes.now)) }
