@@ -266,7 +266,7 @@ fn argument_len(op: Op, arg: Arg<'_>) -> u64
         Arg::U8(_) | Arg::F8(_) => 8,
         Arg::Line(text) => line_len(text),
         Arg::Pair(first, second) => line_len(first) + line_len(second),
-        Arg::Counted(payload) => count_len(op) + payload_len(payload),
+        Arg::Counted(payload) => count_len(op) + payload.len() as u64,
     }
 }
 
@@ -276,14 +276,6 @@ fn line_len(text: &[u8]) -> u64
     ensures small { result ≤ 2 ^ 63 }
 {
     text.len() as u64 + 1
-}
-
-/// The length of a payload in bytes, without its count.
-fn payload_len(payload: &[u8]) -> u64
-    ensures is { result ≡ length payload.now }
-    ensures small { result < 2 ^ 63 }
-{
-    payload.len() as u64
 }
 
 /// The length of the opcode's count field in bytes; 0 if it has none.

@@ -27,10 +27,10 @@ pub fn argument_of<'a>(op: Op, split: usize, bytes: &'a [u8]) -> Arg<'a>
     match layout_of_op(op) {
         Layout::Nothing => Arg::None,
         Layout::U1 => Arg::U1(bytes[1]),
-        Layout::U2 => Arg::U2(u16_behind(bytes)),
+        Layout::U2 => Arg::U2(LittleEndian::read_u16(&bytes[1..])),
         Layout::I4 => Arg::I4(u32_behind(bytes).cast_signed()),
         Layout::U4 => Arg::U4(u32_behind(bytes)),
-        Layout::U8 => Arg::U8(u64_behind(bytes)),
+        Layout::U8 => Arg::U8(LittleEndian::read_u64(&bytes[1..])),
         Layout::F8 => Arg::F8(behind(1, bytes)),
         Layout::Line(_) => Arg::Line(between(1, bytes.len() - 1, bytes)),
         Layout::Pair(_) => Arg::Pair(
@@ -109,15 +109,8 @@ pub fn count_behind(width: Width, bytes: &[u8]) -> u64
     match width {
         Width::One => u64::from(bytes[1]),
         Width::Four => u64::from(u32_behind(bytes)),
-        Width::Eight => u64_behind(bytes),
+        Width::Eight => LittleEndian::read_u64(&bytes[1..]),
     }
-}
-
-fn u16_behind(bytes: &[u8]) -> u16
-    requires { 3 ≤ length bytes.now }
-    ensures { result ≡ little_number 2 (drop 1 bytes.now) }
-{
-    LittleEndian::read_u16(&bytes[1..])
 }
 
 fn u32_behind(bytes: &[u8]) -> u32
@@ -125,13 +118,6 @@ fn u32_behind(bytes: &[u8]) -> u32
     ensures { result ≡ little_number 4 (drop 1 bytes.now) }
 {
     LittleEndian::read_u32(&bytes[1..])
-}
-
-fn u64_behind(bytes: &[u8]) -> u64
-    requires { 9 ≤ length bytes.now }
-    ensures { result ≡ little_number 8 (drop 1 bytes.now) }
-{
-    LittleEndian::read_u64(&bytes[1..])
 }
 
 fn behind(n: usize, bytes: &[u8]) -> &[u8]
