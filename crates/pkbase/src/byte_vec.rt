@@ -5,9 +5,12 @@ ghost use Rattle.std.specs.Prelude.{◌≡◌, ◌≤◌, ◌<◌, ◌+◌, ◌+
 use std::alloc::{AllocError, Global};
 use std::marker::Model;
 
-/// By how many bytes a store is longer than what is in use when it was lengthened. They are zeroed
+/// How many bytes a store has at least behind those in use when it was lengthened. They are zeroed
 /// before they are replaced.
 const STEP: usize = 512;
+
+/// How many more it has at most, where many are in use.
+const MORE: usize = 1_024;
 
 /// The length up to which a piece is copied without a call.
 pub const SHORT: usize = 64;
@@ -104,11 +107,12 @@ impl ByteVec {
         ensures ok { OnOk result (self.new ≡ self.old ++ piece.now) }
         ensures err { OnErr result (self.new ≡ self.old) }
     {
+        let spare = STEP + self.count.min(MORE);
         self.store.truncate(self.count);
-        self.store.reserve(piece.len() + STEP)?;
+        self.store.reserve(piece.len() + spare)?;
         self.store.extend_from_slice(piece)?;
         let end = self.store.len();
-        self.store.resize(end + STEP, 0)?;
+        self.store.resize(end + spare, 0)?;
         self.count = end;
         Ok(())
     }
