@@ -35,8 +35,8 @@ CHECK = 5 << 30
 UNREAD = re.compile(r"(\./)?(src|specs)/\S+:\d+:\d+: error")
 REFUSAL = re.compile(r"(note: )?\S+:\d+:\d+: (error|.*not proved)")
 UNPROVED = re.compile(r"fn \S+: (?!proved|no holes)")
-# How `rt ci` says that a crate is done.
-PROVED = re.compile(r"rt: \w+ proved")
+# How `rt ci` says that a crate is done, in this run or in an earlier one.
+PROVED = re.compile(r"rt: \w+ (proved|is kept\b.*)")
 
 
 class Edit(NamedTuple):
