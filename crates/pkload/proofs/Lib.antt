@@ -1,6 +1,5 @@
 -- The lemmas of the bill: what a step costs, what whole runs cost, and what an answer says of them.
 -- runs and their bills
-pub mod Alike
 pub mod Accounts
 pub mod Readings
 pub mod Weights

@@ -32,8 +32,8 @@ use Rattle.pkmachine.specs.Runs.{stop_step, with_answer, with_event}
 use Rattle.pkstack.specs.Shape.{Breach, NoItem, Entry, Item, Shape, Taken, front, moved, operands}
 use Rattle.pkstack.specs.Shape.{put, top}
 use Rattle.pkload.proofs.Accounts.{along_end, next_is_new, nothing_counted, since_end}
-use Rattle.pkload.proofs.Alike.{Alike-map, AlikeTaken, AlikeTop, Pointwise-append, SameResult}
-use Rattle.pkload.proofs.Alike.{front_alike, moved_alike, operands_alike, top_alike}
+use Rattle.pkmachine.specs.AlikeLaws.{Alike-map, AlikeTaken, AlikeTop, Pointwise-append, SameResult}
+use Rattle.pkmachine.specs.AlikeLaws.{front_alike, moved_alike, operands_alike, top_alike}
 use Rattle.pkload.proofs.Weights.{again_count, again_some, answers_light, made_some}
 use Rattle.pkload.proofs.Weights.{old_string_answers, some_more}
 use Rattle.pkload.proofs.Readings.{AreSome, IsLightAnswer, IsLightGiven, IsLightIn, Reading}

@@ -1,5 +1,4 @@
 -- Runs, and what the checker knows about them.
-pub mod Alike
 pub mod CoversBy
 pub mod AcceptedSteps
 pub mod RefusedSteps

@@ -20,9 +20,9 @@ use Rattle.pkmachine.specs.Knowledge.{Known, Knowledge}
 use Rattle.pkimport.specs.Table.{Noted, HasMoreTexts}
 use Rattle.pkmachine.specs.Private.Slots.{IsNumbered, known, seen, remembered, resolved, StandsAs}
 use Rattle.pkmachine.specs.Private.Slots.{StandsIf, Sees, Resolves}
-use Rattle.pkmachine.proofs.Coverage.Alike.{SameResult, Pointwise-map, Pointwise-append}
-use Rattle.pkmachine.proofs.Coverage.Alike.{AlikeEntry-map, AlikeTaken, operands_alike, front_alike}
-use Rattle.pkmachine.proofs.Coverage.Alike.{moved_alike}
+use Rattle.pkmachine.specs.AlikeLaws.{SameResult, Pointwise-map, Pointwise-append}
+use Rattle.pkmachine.specs.AlikeLaws.{AlikeEntry-map, AlikeTaken, operands_alike, front_alike}
+use Rattle.pkmachine.specs.AlikeLaws.{moved_alike}
 
 abbrev first : Result (Value × List (Entry Value)) Breach → Option Value
 first (Ok t) = Some t.0

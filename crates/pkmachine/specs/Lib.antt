@@ -13,6 +13,7 @@ pub mod Texts
 pub mod Memory
 pub mod Step
 -- laws of these definitions
+pub mod AlikeLaws
 pub mod Witnesses
 pub mod StepLaws
 -- what need not be trusted

@@ -28,9 +28,9 @@ use Rattle.pkmachine.specs.Covers.{Pointwise, AlikeEntry, AlikeCell, Alike, impo
 use Rattle.pkmachine.specs.Covers.{Adds, TrueBy, CoversBy}
 use Rattle.pkmachine.proofs.Coverage.CoversBy.{Choose, AnswerHolds, OutcomeHolds, FollowsBy}
 use Rattle.pkmachine.proofs.Coverage.CoversBy.{FollowsIfOk}
-use Rattle.pkmachine.proofs.Coverage.Alike.{AlikeTop, top_alike, SameResult, Pointwise-append}
-use Rattle.pkmachine.proofs.Coverage.Alike.{Alike-map, AlikeTaken, operands_alike, moved_alike}
-use Rattle.pkmachine.proofs.Coverage.Alike.{front_alike}
+use Rattle.pkmachine.specs.AlikeLaws.{AlikeTop, top_alike, SameResult, Pointwise-append}
+use Rattle.pkmachine.specs.AlikeLaws.{Alike-map, AlikeTaken, operands_alike, moved_alike}
+use Rattle.pkmachine.specs.AlikeLaws.{front_alike}
 
 abbrev pub Grows : (List Object → ℕ → Type 0) → Type 0
 Grows U = (objects : List Object) (r : Object) (n : ℕ) → U objects n → U (objects ++ r ∷ []) n

@@ -10,7 +10,7 @@ use Rattle.pkmachine.specs.Runs.{Raised, Stopped, Stuck}
 use Rattle.pkmachine.specs.Knowledge.{Knowledge, Progress, Refusal}
 use Rattle.pkmachine.specs.Covers.{AlikeCell, AlikeEntry, IsObject, Adds, AddsRaising}
 use Rattle.pkmachine.specs.Covers.{TrueBy, CoversBy}
-use Rattle.pkmachine.proofs.Coverage.Alike.{length-Pointwise}
+use Rattle.pkmachine.specs.AlikeLaws.{length-Pointwise}
 
 -- one of two propositions
 abbrev pub Choose : Bool → Type 0 → Type 0 → Type 0

@@ -7,8 +7,8 @@ use Rattle.pkops.specs.declared.Reason.{Reason}
 use Rattle.pkops.specs.declared.Reason.TheVariants as reason
 use Rattle.pkstack.specs.Shape.{NoMark, NoItem, NoMemo, Odd, Extension}
 use Rattle.pkmachine.specs.Runs.{Raise, step_as}
-use Rattle.pkmachine.specs.Knowledge.{Knowledge, Policy, Progress, Refusal, Lacks, WrongClass}
-use Rattle.pkmachine.specs.Knowledge.{NotText, UnknownImport, OffList, LeftOver, NotAscii, TooLarge}
+use Rattle.pkmachine.specs.Knowledge.{Knowledge, Policy, Progress, Refusal, Lacks}
+use Rattle.pkmachine.specs.Knowledge.{UnknownImport, OffList}
 use Rattle.pkmachine.specs.Knowledge.{reason_of, advance}
 use Rattle.pkmachine.specs.Faults.{Arrivals, everyone, IsOff, AsksOtherThan, AsksOffList}
 use Rattle.pkmachine.specs.Faults.{HasFaultHere, rank, IsPairOf, IsFirstFault, HasNoFault}

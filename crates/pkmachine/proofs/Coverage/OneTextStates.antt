@@ -25,8 +25,8 @@ use Rattle.pkmachine.specs.Covers.{Pointwise, Alike, TrueBy, CoversBy}
 use Rattle.pkmachine.proofs.Coverage.CoversBy.{Choose, OutcomeHolds}
 use Rattle.pkmachine.specs.Witnesses.{Answered, new_text}
 use Rattle.pkmachine.specs.Faults.{AsksFor}
-use Rattle.pkmachine.proofs.Coverage.Alike.{SameResult, AlikeTaken, operands_alike, moved_alike}
-use Rattle.pkmachine.proofs.Coverage.Alike.{AlikeTop, top_alike}
+use Rattle.pkmachine.specs.AlikeLaws.{SameResult, AlikeTaken, operands_alike, moved_alike}
+use Rattle.pkmachine.specs.AlikeLaws.{AlikeTop, top_alike}
 use Rattle.pkmachine.proofs.Coverage.AcceptedSteps.{Grows, kept_at, new_at, TrueBy-Says, push_alike}
 use Rattle.pkmachine.proofs.Coverage.RefusedSteps.{operate_asks}
 

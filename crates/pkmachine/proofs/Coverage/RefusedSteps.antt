@@ -26,8 +26,8 @@ use Rattle.pkmachine.proofs.Coverage.CoversBy.{OutcomeHolds, FollowsBy, FollowsI
 use Rattle.pkmachine.proofs.Coverage.CoversBy.{covered_lengths}
 use Rattle.pkmachine.specs.Faults.{WrongReceiver, NonText, HasWrongReceiver, HasNonText, IsOff}
 use Rattle.pkmachine.specs.Faults.{IsPast, AsksFor, LeavesMore}
-use Rattle.pkmachine.proofs.Coverage.Alike.{SameResult, AlikeTaken, operands_alike, moved_alike}
-use Rattle.pkmachine.proofs.Coverage.Alike.{AlikeTop, top_alike}
+use Rattle.pkmachine.specs.AlikeLaws.{SameResult, AlikeTaken, operands_alike, moved_alike}
+use Rattle.pkmachine.specs.AlikeLaws.{AlikeTop, top_alike}
 use Rattle.pkmachine.proofs.Coverage.AcceptedSteps.{TrueBy-Says, Grows, learn_follows}
 use Rattle.pkmachine.proofs.StepParts.Past.{PastBy, past_by}
 

@@ -22,7 +22,7 @@ use Rattle.pkmachine.proofs.Coverage.CoversBy.{FollowsBy, covered_lengths}
 use Rattle.pkmachine.specs.Faults.{IsMade, IsNonText, is_text, WrongReceiver, NonText}
 use Rattle.pkmachine.specs.Faults.{HasWrongReceiver, HasNonText, IsOff, AsksFor, LeavesMore, IsPast}
 use Rattle.pkmachine.specs.Faults.{GoesOnPast, rank, IsRaise}
-use Rattle.pkmachine.proofs.Coverage.Alike.{SameResult, AlikeTaken, operands_alike, Alike-map}
+use Rattle.pkmachine.specs.AlikeLaws.{SameResult, AlikeTaken, operands_alike, Alike-map}
 use Rattle.pkmachine.proofs.Coverage.RefusedSteps.{HasList, IsTooLarge, RaisesAlone}
 use Rattle.pkmachine.proofs.Coverage.OneTextStates.{guess, IsGoing}
 use Rattle.pkmachine.specs.Witnesses.{Answered}

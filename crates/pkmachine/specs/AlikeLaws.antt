@@ -1,4 +1,4 @@
--- Moves and operations keep stacks and memos alike, and fail alike.
+-- Laws of stacks and memos that are alike: moves and operations keep them alike, and fail alike.
 use Rattle.std.proofs.Common.{◌≡◌, ℕ, zero, suc, true, false, cond, not, List, [], ◌∷◌, ◌++◌}
 use Rattle.std.proofs.Common.{length, Option, Some, None, Result, Ok, Err, refl, ap, subst}
 use Rattle.std.specs.Ordering.{nat_cmp, match_ordering, is_eq}
@@ -89,7 +89,10 @@ module _ {A B : Type 0} (R : A → B → Type 0) where
   items_alike (suc k) (Mark ∷ es) (Mark ∷ fs) xs ys h g = refl
   items_alike (suc k) (Item x ∷ es) (Item y ∷ fs) xs ys h g =
       items_alike k es fs (x ∷ xs) (y ∷ ys) h.1 (h.0, g)
-  items_alike (suc k) _ _ xs ys h g = absurd (assumption)
+  items_alike (suc k) [] (f ∷ fs) xs ys h g = absurd h
+  items_alike (suc k) (e ∷ es) [] xs ys h g = absurd h
+  items_alike (suc k) (Mark ∷ es) (Item y ∷ fs) xs ys h g = absurd h.0
+  items_alike (suc k) (Item x ∷ es) (Mark ∷ fs) xs ys h g = absurd h.0
 
   pub slice_alike : (es : List (Entry A)) (fs : List (Entry B)) (xs : List A) (ys : List B)
       → Pointwise (AlikeEntry R) es fs → Pointwise R xs ys
@@ -98,7 +101,10 @@ module _ {A B : Type 0} (R : A → B → Type 0) where
   slice_alike (Mark ∷ es) (Mark ∷ fs) xs ys h g = record { operands = g; below = h.1 }
   slice_alike (Item x ∷ es) (Item y ∷ fs) xs ys h g =
       slice_alike es fs (x ∷ xs) (y ∷ ys) h.1 (h.0, g)
-  slice_alike _ _ xs ys h g = absurd (assumption)
+  slice_alike [] (f ∷ fs) xs ys h g = absurd h
+  slice_alike (e ∷ es) [] xs ys h g = absurd h
+  slice_alike (Mark ∷ es) (Item y ∷ fs) xs ys h g = absurd h.0
+  slice_alike (Item x ∷ es) (Mark ∷ fs) xs ys h g = absurd h.0
 
   is_even_alike : (xs : List A) (ys : List B) → Pointwise R xs ys → is_even xs ≡ is_even ys
   is_even_alike [] [] h = refl
@@ -200,7 +206,10 @@ module _ {A B : Type 0} (R : A → B → Type 0) where
   top_alike [] [] h = refl
   top_alike (Mark ∷ es) (Mark ∷ fs) h = refl
   top_alike (Item x ∷ es) (Item y ∷ fs) h = record { item = h.0; below = h.1 }
-  top_alike _ _ h = absurd (assumption)
+  top_alike [] (f ∷ fs) h = absurd h
+  top_alike (e ∷ es) [] h = absurd h
+  top_alike (Mark ∷ es) (Item y ∷ fs) h = absurd h.0
+  top_alike (Item x ∷ es) (Mark ∷ fs) h = absurd h.0
 
   on_top : (a : Shape A) (b : Shape B) (f : A × List (Entry A) → Shape A)
       (g : B × List (Entry B) → Shape B) → Alike R a b
