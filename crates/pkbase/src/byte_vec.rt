@@ -1,6 +1,7 @@
 //! Bytes that grow at their end.
 
-ghost use Rattle.std.specs.Prelude.{◌≡◌, ◌≤◌, ◌<◌, ◌+◌, ◌++◌, ◌^◌, [], OnErr, OnOk, length, take};
+ghost use Rattle.std.specs.Prelude.{◌≡◌, ◌≤◌, ◌<◌, ◌+◌, ◌++◌, ◌^◌, [], OnErr, OnOk, false, length};
+ghost use Rattle.std.specs.Prelude.{take, true};
 
 use std::alloc::{AllocError, Global};
 use std::marker::Model;
@@ -13,7 +14,7 @@ const STEP: usize = 512;
 const MORE: usize = 1_024;
 
 /// The length up to which a piece is copied without a call.
-pub const SHORT: usize = 64;
+const SHORT: usize = 64;
 
 /// Bytes that grow and shrink at their end. The store never shrinks, and is longer than the bytes
 /// in use, so that a short piece is copied without a call.
@@ -98,6 +99,23 @@ impl ByteVec {
         put(&mut self.store[count..end], piece);
         self.count = end;
         Ok(())
+    }
+
+    /// Appends a piece of at most `SHORT` bytes if the store has room for it, and says whether it
+    /// is appended. It calls nothing, so no register is saved for a call.
+    #[inline(always)]
+    pub fn push_within_capacity(&mut self, piece: &[u8]) -> bool
+        ensures pushed { result ≡ true → self.new ≡ self.old ++ piece.now }
+        ensures kept { result ≡ false → self.new ≡ self.old }
+    {
+        let start = self.count;
+        let end = start + piece.len();
+        if piece.len() > SHORT || end > self.store.len() {
+            return false;
+        }
+        put(&mut self.store[start..end], piece);
+        self.count = end;
+        true
     }
 
     /// `push` of a piece for which the store is too short. A long one is not zeroed first.

@@ -9,6 +9,6 @@ mod byte_vec;
 mod numbered_map;
 mod stack_vec;
 
-pub use byte_vec::{ByteVec, SHORT};
+pub use byte_vec::ByteVec;
 pub use numbered_map::{NotStored, NumberedMap};
 pub use stack_vec::StackVec;

@@ -2,7 +2,7 @@
 
 ghost use Rattle.std.specs.Option.{option_to_list};
 ghost use Rattle.std.specs.Prelude.{◌≡◌, ◌↔◌, [], ◌∷◌, ◌++◌, ◌+◌, ◌^◌, ◌<◌, length, set};
-ghost use Rattle.std.specs.Prelude.{IsSome, OnErr, OnOk, take};
+ghost use Rattle.std.specs.Prelude.{IsSome, OnErr, OnOk, false, take, true};
 
 use std::alloc::{AllocError, Global};
 use std::marker::Model;
@@ -105,6 +105,22 @@ impl<T: Copy + Drop> StackVec<T> {
         self.store[count] = entry;
         self.count = count + 1;
         Ok(())
+    }
+
+    /// Appends an entry if the store has room for it, and says whether it has. It calls nothing, so
+    /// no register is saved for a call.
+    #[inline(always)]
+    pub fn push_within_capacity(&mut self, entry: T) -> bool
+        ensures pushed { result ≡ true → self.new ≡ self.old ++ entry ∷ [] }
+        ensures kept { result ≡ false → self.new ≡ self.old }
+    {
+        let used = self.count;
+        if used >= self.store.len() {
+            return false;
+        }
+        self.store[used] = entry;
+        self.count = used + 1;
+        true
     }
 
     /// Removes the last entry, and returns it.

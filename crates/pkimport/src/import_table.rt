@@ -2,7 +2,7 @@
 //! number.
 ghost use Rattle.std.specs.Prelude.{◌≡◌, ◌<◌, ℕ, List, ◌∷◌, ◌++◌, [], drop, length, take};
 ghost use Rattle.std.specs.Prelude.{get_or, is_some, map, option_map, IfOk, IfErr, IsSome};
-ghost use Rattle.std.specs.Prelude.{OnErr, OnOk};
+ghost use Rattle.std.specs.Prelude.{OnErr, OnOk, false, true};
 ghost use Rattle.pkimport.specs.Import.{AskedPair, asks_more};
 ghost use Rattle.pkimport.specs.Private.Entries.{AreCopies, AreEntries, IsEntry, KeepsCopies};
 ghost use Rattle.pkimport.specs.Private.Entries.{entry_asked};
@@ -113,6 +113,20 @@ impl ImportTable {
         ensures err { OnErr result (self.new ≡ self.old) }
     {
         self.texts.push(text)
+    }
+
+    /// Appends a short text, given as UTF-8, if there is room for it, and says whether it is
+    /// appended.
+    #[inline(always)]
+    pub fn add_text_within_capacity(&mut self, text: &[u8]) -> bool
+        requires { IsUtf8 text.now }
+        ensures added { result ≡ true → self.new ≡ record {
+          texts = self.old.texts ++ text.now ∷ [];
+          asked = self.old.asked;
+        } }
+        ensures kept { result ≡ false → self.new ≡ self.old }
+    {
+        self.texts.push_within_capacity(text)
     }
 
     /// The number of listed imports.

@@ -1,6 +1,6 @@
 //! The table of texts. An import refers to them by number.
 ghost use Rattle.std.specs.Prelude.{◌≡◌, [], ◌∷◌, ◌++◌, ◌<◌, ◌≤◌, ◌-◌, length, take, drop, get_or};
-ghost use Rattle.std.specs.Prelude.{OnErr, OnOk};
+ghost use Rattle.std.specs.Prelude.{OnErr, OnOk, false, true};
 ghost use Rattle.std.specs.Str.{IsUtf8};
 
 use pkbase::{ByteVec, StackVec};
@@ -82,6 +82,25 @@ impl Texts {
             return Err(AllocError);
         };
         Ok(())
+    }
+
+    /// Appends a short text, given as UTF-8, if there is room for it, and says whether it is
+    /// appended.
+    #[inline(always)]
+    pub fn push_within_capacity(&mut self, text: &[u8]) -> bool
+        requires { IsUtf8 text.now }
+        ensures pushed { result ≡ true → self.new ≡ self.old ++ text.now ∷ [] }
+        ensures kept { result ≡ false → self.new ≡ self.old }
+    {
+        let before = self.bytes.len();
+        if !self.bytes.push_within_capacity(text) {
+            return false;
+        }
+        if !self.ends.push_within_capacity(self.bytes.len()) {
+            self.bytes.truncate(before);
+            return false;
+        }
+        true
     }
 
     /// Appends a copy of a text.

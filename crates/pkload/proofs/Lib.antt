@@ -24,5 +24,6 @@ pub mod OneEnd
 -- the machine
 pub mod Slots
 pub mod Lights
+pub mod ShortTexts
 -- worked rows
 mod Rows

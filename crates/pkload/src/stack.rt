@@ -1,6 +1,6 @@
 //! The stack: marks, and what objects cost.
 
-ghost use Rattle.std.specs.Prelude.{◌≡◌, [], ◌∷◌, List, IfOk, IfSome, OnOk};
+ghost use Rattle.std.specs.Prelude.{◌≡◌, [], ◌∷◌, List, IfOk, IfSome, OnOk, false, true};
 ghost use Rattle.pkstack.specs.Shape.{Entry, Item, Mark, items};
 ghost use Rattle.pkload.specs.Heft.{Heft};
 ghost use Rattle.pkload.specs.Private.Billing.{HasItems, HasReplaced, HasSlice};
@@ -85,6 +85,15 @@ impl Stack {
             return Err(Halt::OutOfMemory);
         };
         Ok(())
+    }
+
+    /// Pushes an object if there is room for it, and says whether there is.
+    #[inline(always)]
+    pub fn push_within_capacity(&mut self, heft: PackedHeft) -> bool
+        ensures pushed { result ≡ true → self.new ≡ Item heft ∷ self.old }
+        ensures kept { result ≡ false → self.new ≡ self.old }
+    {
+        self.codes.push_within_capacity(heft.code())
     }
 
     /// The topmost entry, which must be an object.

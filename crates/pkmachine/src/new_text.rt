@@ -1,5 +1,5 @@
 //! Pushes the text that an instruction spells.
-ghost use Rattle.std.specs.Prelude.{◌≡◌, true};
+ghost use Rattle.std.specs.Prelude.{◌≡◌, ◌∷◌, ◌++◌, [], IfErr, OnOk, true};
 ghost use Rattle.std.specs.Str.{IsUtf8};
 ghost use Rattle.pkops.specs.Contents.{IsGood, rule_of};
 ghost use Rattle.pkops.specs.Inst.{instruction_of};
@@ -9,12 +9,12 @@ ghost use Rattle.pkmachine.specs.Private.NamedOperations.{AreSeen};
 ghost use Rattle.pkmachine.specs.Private.NewTexts.{HasPushedText, with_reason};
 ghost use Rattle.pkmachine.specs.Private.Spelled.{IsSpelled};
 ghost use Rattle.pkmachine.specs.Runs.{text};
+ghost use Rattle.pkstack.specs.Places.{below};
 
 use crate::config::MachineConfig;
 use crate::packed::PackedValue;
 use crate::spelled_text::text_spelled;
 use crate::stack::Stack;
-use pkbase::SHORT;
 use pkimport::ImportTable;
 use pkops::laws::{plain_line_is_text, text_is_named};
 use pkops::{Arg, Inst, Limits, Op, Reason, is_ascii, spells_itself};
@@ -43,8 +43,9 @@ impl From<NotPushed> for Reason {
     }
 }
 
-/// Adds a text to the table, and pushes its number. A short one, the most frequent, is copied
-/// without a call, so nothing is kept for one here.
+/// Adds a text to the table, and pushes its number. Where a short one finds room, the most frequent
+/// case, nothing is called. Inlined, it would make the loop too large to become one function with
+/// the meter of `pkload`, and each instruction would cost more.
 #[inline(never)]
 fn name_text(
     stack: &mut Stack,
@@ -58,32 +59,22 @@ fn name_text(
         (record { entries = stack.old; table = table.old })
         (record { entries = stack.new; table = table.new }) (with_reason result) }
 {
-    if text.len() > SHORT {
-        return name_long_text(stack, table, limits, text);
+    let place = stack.len();
+    let Some(value) = PackedValue::text(table.texts()) else {
+        return Err(NotPushed::OutOfMemory);
+    };
+    if !stack.push_within_capacity(limits, value) {
+        return name_any_text(stack, table, limits, text);
     }
-    push_text(stack, table, limits, text)
+    if !table.add_text_within_capacity(text) {
+        return add_pushed_text(stack, table, place, text);
+    }
+    Ok(())
 }
 
-/// `name_text` of a text that may be long.
+/// `name_text` of any text.
 #[inline(never)]
-fn name_long_text(
-    stack: &mut Stack,
-    table: &mut ImportTable,
-    limits: &Limits,
-    text: &[u8],
-) -> Result<(), NotPushed>
-    requires utf8 { IsUtf8 text.now }
-    requires sees { AreSeen (record { entries = stack.old; table = table.old }) }
-    ensures { HasPushedText limits.now.stack text.now
-        (record { entries = stack.old; table = table.old })
-        (record { entries = stack.new; table = table.new }) (with_reason result) }
-{
-    push_text(stack, table, limits, text)
-}
-
-/// `name_text`, inlined.
-#[inline(always)]
-fn push_text(
+fn name_any_text(
     stack: &mut Stack,
     table: &mut ImportTable,
     limits: &Limits,
@@ -100,10 +91,30 @@ fn push_text(
         return Err(NotPushed::OutOfMemory);
     };
     match stack.push(limits, value) {
-        Ok(()) => {}
-        Err(Reason::TooLarge) => return Err(NotPushed::Full),
-        Err(_) => return Err(NotPushed::OutOfMemory),
+        Ok(()) => add_pushed_text(stack, table, place, text),
+        Err(Reason::TooLarge) => Err(NotPushed::Full),
+        Err(_) => Err(NotPushed::OutOfMemory),
     }
+}
+
+/// Adds a text to the table whose number is on the stack already, at this place. The number is
+/// taken back if an allocation is refused.
+#[inline(never)]
+fn add_pushed_text(
+    stack: &mut Stack,
+    table: &mut ImportTable,
+    place: usize,
+    text: &[u8],
+) -> Result<(), NotPushed>
+    requires utf8 { IsUtf8 text.now }
+    ensures pushed { OnOk result (stack.new ≡ stack.old) }
+    ensures added { OnOk result (table.new ≡ record {
+      texts = table.old.texts ++ text.now ∷ [];
+      asked = table.old.asked;
+    }) }
+    ensures err { IfErr result (λ why. (stack.new ≡ below place stack.old)
+        × (table.new ≡ table.old) × (why ≡ NotPushed.OutOfMemory)) }
+{
     let Ok(()) = table.add_text(text) else {
         stack.truncate(place);
         return Err(NotPushed::OutOfMemory);

@@ -191,6 +191,20 @@ impl<V: Copy + Drop> Stack<V> {
         }
     }
 
+    /// Pushes an item, if the limit and the memory at hand leave room, and says whether they do.
+    #[inline(always)]
+    #[tactic(auto, using(crate::proofs::Limited::length_shown, crate::proofs::Shown::shown_append))]
+    pub fn push_within_capacity(&mut self, limits: &Limits, value: V) -> bool
+        ensures pushed { result ≡ true → self.new ≡ Item value ∷ self.old }
+        ensures room { result ≡ true → length self.new ≤ limits.now.stack }
+        ensures kept { result ≡ false → self.new ≡ self.old }
+    {
+        if !self.has_room(limits) {
+            return false;
+        }
+        self.slots.push_within_capacity(Slot::Object(value))
+    }
+
     /// Pushes an item for `replace` when it removes nothing, which is rare. The caller checks the
     /// limit.
     #[inline(always)]

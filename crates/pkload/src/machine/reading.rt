@@ -6,15 +6,40 @@ ghost use Rattle.pkload.specs.Memory.{text_memory};
 ghost use Rattle.pkload.specs.Private.Billing.{light, pushed, reading_memory, string_heft};
 
 use super::Machine;
-use crate::halt::Halt;
+use crate::halt::{Halt, plus};
 use crate::making::{made_long, made_text};
 use crate::memory::{MOST, after_text, line_memory};
 use crate::packed::PackedHeft;
-use pkops::Op;
+use pkops::{Op, is_ascii};
+
+/// A text of fewer bytes weighs one.
+const LONG: u64 = 64;
 
 impl Machine {
-    /// Pushes a text of these bytes. Returns false, as do all here, since none counts a key.
+    /// Pushes a text of these bytes. Returns false, as do all here, since none counts a key. A
+    /// short text in ASCII for which there is room, the most frequent case, calls nothing. Inlined
+    /// it would cost every instruction more, because the loop has no register left.
+    #[inline(never)]
+    #[tactic(auto, using(crate::proofs::ShortTexts::short_text))]
     pub(super) fn read_text(&mut self, bytes: &[u8]) -> Result<bool, Halt>
+        ensures { OnOk result (self.new ≡ pushed (string_heft (length bytes.now))
+            (16 + text_memory bytes.now) self.old) }
+    {
+        let size = bytes.len() as u64;
+        if size >= LONG || !is_ascii(bytes) {
+            return self.read_any_text(bytes);
+        }
+        let memory = plus(self.memory, 80 + size)?;
+        if !self.stack.push_within_capacity(made_text(size)) {
+            return self.read_any_text(bytes);
+        }
+        self.memory = memory;
+        Ok(false)
+    }
+
+    /// `read_text` of any text.
+    #[inline(never)]
+    fn read_any_text(&mut self, bytes: &[u8]) -> Result<bool, Halt>
         ensures { OnOk result (self.new ≡ pushed (string_heft (length bytes.now))
             (16 + text_memory bytes.now) self.old) }
     {
