@@ -15,27 +15,26 @@ struct walk {
     int is_stopped;
 };
 
-/* The argument of each instruction: fixed bytes; or LINE for each line; or COUNT and the width of
-   the count of its payload. */
+/* How the argument of each opcode ends, as `pkguard_layout` numbers it. */
 enum { FIXED = 16, LINE = 16, COUNT = 64, BUILD = 'b', BINPERSID = 'Q', FRAME = 0x95 };
-static const uint8_t arguments[256] = {
-    ['J'] = 4, ['K'] = 1, ['M'] = 2, ['G'] = 8, ['h'] = 1, ['j'] = 4, ['q'] = 1, ['r'] = 4,
-    [0x80] = 1, [0x82] = 1, [0x83] = 2, [0x84] = 4, [FRAME] = 8, ['I'] = LINE, ['L'] = LINE,
-    ['S'] = LINE, ['V'] = LINE, ['F'] = LINE, ['P'] = LINE, ['g'] = LINE, ['p'] = LINE,
-    ['c'] = 2 * LINE, ['i'] = 2 * LINE, ['U'] = COUNT + 1, ['T'] = COUNT + 4, ['C'] = COUNT + 1,
-    ['B'] = COUNT + 4, [0x8e] = COUNT + 8, [0x96] = COUNT + 8, [0x8c] = COUNT + 1,
-    ['X'] = COUNT + 4, [0x8d] = COUNT + 8, [0x8a] = COUNT + 1, [0x8b] = COUNT + 4};
+static uint8_t layouts[256];
+
+/* When the module is loaded, before any call. */
+__attribute__((constructor)) static void fill_layouts(void) {
+    for (unsigned code = 0; code < sizeof layouts; code++)
+        layouts[code] = (uint8_t)pkguard_layout((uint8_t)code);
+}
 
 size_t length_of(const uint8_t *bytes, size_t length) {
-    unsigned kind = arguments[bytes[0]], width = kind % FIXED;
+    unsigned layout = layouts[bytes[0]], width = layout % FIXED;
     size_t at = 1, left = length - 1;
-    if (kind >= COUNT) {
+    if (layout >= COUNT) {
         uint64_t count = 0;
         for (unsigned k = 0; k < width && k < left; k++)
             count |= (uint64_t)bytes[1 + k] << 8 * k;
         return width <= left && count <= left - width ? 1 + width + (size_t)count : 0;
     }
-    for (; kind >= LINE; kind -= LINE) {
+    for (; layout >= LINE; layout -= LINE) {
         const uint8_t *end = memchr(bytes + at, '\n', length - at);
         if (end == NULL)
             return 0;

@@ -35,6 +35,10 @@ PyObject *followed(PyObject *module, PyObject *args);
 PyObject *begin_uses(PyObject *module, PyObject *args);
 PyObject *uses(PyObject *module, PyObject *args);
 
+/* The library's number of the layout of an opcode's argument: its bytes; 16 for each line; or 64 and
+   the bytes of the count before a payload. 0 if no opcode has the code. */
+uint32_t pkguard_layout(uint8_t code);
+
 /* The length of the instruction that begins the bytes, or 0 if it isn't complete. */
 size_t length_of(const uint8_t *bytes, size_t length);
 

@@ -2,6 +2,7 @@ pub mod Codes
 pub mod Settings
 pub mod Encoding
 pub mod Listed
+pub mod Layouts
 pub mod Guard
 pub mod Loading
 -- internal definitions, which need not be trusted

@@ -15,6 +15,7 @@ mod codes;
 mod costing;
 mod costs;
 mod encoding;
+mod layouts;
 mod list;
 mod settings;
 mod verdict;
@@ -29,6 +30,7 @@ ghost use Rattle.pkguard.specs.Settings.{listed_by, loading_by};
 
 pub use costing::{pkguard_check_loading, pkguard_list_costs};
 pub use costs::{Bill, Costs};
+pub use layouts::pkguard_layout;
 use pkcheck::{Loading, OldStrings, Permit, Policy, check_all_loaded, check_with_imports};
 use pklist::Pair;
 use pklist::laws::halving;
