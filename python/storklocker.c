@@ -35,6 +35,9 @@ extern uint32_t pkguard_check_loading(
     const struct storklocker_pair *, size_t, const struct storklocker_settings *,
     const struct costs *, const uint8_t *, size_t, uint8_t *, size_t, struct storklocker_verdict *,
     struct bill *);
+extern uint32_t pkguard_imports_loading(
+    const struct storklocker_settings *, const struct costs *, const uint8_t *, size_t, uint8_t *,
+    size_t, uint64_t *, struct storklocker_verdict *, struct bill *);
 
 /* A valid address in place of null. Its length is 0, so nothing is read or written there. */
 static void *or_nothing(const void *given) {
@@ -69,6 +72,11 @@ static struct storklocker_settings settings_of(const struct storklocker_settings
 static int limit_costs(const struct storklocker_settings *own) {
     return own->levels != UINT32_MAX || own->weight != UINT32_MAX || own->work != UINT64_MAX
         || own->clash != UINT64_MAX || own->memory != UINT64_MAX || own->builds != 1;
+}
+
+static struct costs costs_of(const struct storklocker_settings *own, int all) {
+    return (struct costs){
+        own->levels, own->weight, own->work, own->clash, own->memory, own->builds, (uint32_t)all};
 }
 
 /* Writes the bill to the verdict of a caller whose header has it. */
@@ -120,8 +128,7 @@ static uint32_t check(
     pickles = or_nothing(pickles);
     room = or_nothing(room);
     if (limit_costs(&own)) {
-        struct costs costs = {
-            own.levels, own.weight, own.work, own.clash, own.memory, own.builds, (uint32_t)all};
+        struct costs costs = costs_of(&own, all);
         status = pkguard_check_loading(
             pairs, count, &own, &costs, pickles, length, room, room_length, told, &bill);
     } else if (all)
@@ -251,4 +258,22 @@ uint32_t storklocker_imports(
     return pkguard_imports(
         &own, or_nothing(pickle), pickle_length, or_nothing(room), room_length,
         wanted ? wanted : &unwanted, verdict ? verdict : &untold);
+}
+
+uint32_t storklocker_imports_loading(
+    const struct storklocker_settings *settings, const uint8_t *pickle, size_t pickle_length,
+    uint8_t *room, size_t room_length, uint64_t *wanted, struct storklocker_verdict *verdict) {
+    struct storklocker_settings own = settings_of(settings);
+    if (!limit_costs(&own))
+        return storklocker_imports(
+            settings, pickle, pickle_length, room, room_length, wanted, verdict);
+    struct costs costs = costs_of(&own, 0);
+    struct storklocker_verdict untold;
+    struct bill bill;
+    uint64_t unwanted;
+    uint32_t status = pkguard_imports_loading(
+        &own, &costs, or_nothing(pickle), pickle_length, or_nothing(room), room_length,
+        wanted ? wanted : &unwanted, verdict ? verdict : &untold, &bill);
+    tell(settings, bill, verdict);
+    return status;
 }

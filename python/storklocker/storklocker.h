@@ -221,7 +221,7 @@ uint32_t storklocker_check_row(
     struct storklocker_verdict *verdict);
 
 /*
- * The two calls below write pairs to `room`. A pair is the length of its module as eight
+ * The three calls below write pairs to `room`. A pair is the length of its module as eight
  * little-endian bytes, the module, the length of its name as eight such bytes, and the name.
  * `wanted` receives the number of bytes that all pairs need, at most UINT64_MAX. If `room` is
  * smaller, it stays unchanged: allocate a larger one and call again.
@@ -250,6 +250,16 @@ uint32_t storklocker_read_list(
    times is copied a thousand times. At STORKLOCKER_USAGE, `wanted` is 0. Limits on costs are
    ignored. Never returns STORKLOCKER_NO_LIST. */
 uint32_t storklocker_imports(
+    const struct storklocker_settings *settings,
+    const uint8_t *pickle, size_t pickle_length,
+    uint8_t *room, size_t room_length,
+    uint64_t *wanted,
+    struct storklocker_verdict *verdict);
+
+/* Like storklocker_imports, within the limits on costs of the settings. If loading the pickle
+   exceeds one, the reason is that of storklocker_check_pairs, and `wanted` is 0: its imports aren't
+   told. */
+uint32_t storklocker_imports_loading(
     const struct storklocker_settings *settings,
     const uint8_t *pickle, size_t pickle_length,
     uint8_t *room, size_t room_length,

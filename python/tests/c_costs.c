@@ -157,9 +157,40 @@ static void older(void) {
     free(verdict);
 }
 
+/* Imports within limits on costs: the bill of a yes, and none of what exceeds a limit. */
+static void imports_within(void) {
+    static const struct storklocker_settings limits = LIMITED(9, 9, 9, 9, 9999, 0);
+    struct storklocker_settings given = limits;
+    struct storklocker_verdict verdict;
+    uint64_t wanted = 7;
+    uint8_t room[40] = "rrrrrrrr";
+#define IMPORTS(settings, pickle) \
+    storklocker_imports_loading(settings, BYTES(pickle), room, sizeof room, &wanted, &verdict)
+    IS(IMPORTS(&limits, "cx\ny\n}b.") == STORKLOCKER_NO && verdict.at == 6 && wanted == 0);
+    IS(verdict.reason == STORKLOCKER_BUILDS_IMPORT && verdict.imports == 0 && room[0] == 'r');
+    IS(IMPORTS(&limits, "}K\1cx\ny\ns.N.") == STORKLOCKER_YES && verdict.taken == 10);
+    IS(wanted == 18 && verdict.imports == 1 && verdict.pickles == 1 && verdict.weight == 1);
+    IS(verdict.work == 1 && verdict.clash == 1 && verdict.memory != 0);
+    IS(is_same(room, EIGHT("\1") "x" EIGHT("\1") "y", 18) && room[18] == 0);
+    IS(IMPORTS(&limits, "cos\nabs\n\xff") == STORKLOCKER_NO && verdict.at == 8 && wanted == 21);
+    IS(verdict.reason == STORKLOCKER_UNKNOWN_OPCODE && verdict.imports == 1 && room[8] == 'o');
+    IS(verdict.memory == 0 && verdict.number == 255);
+    IS(IMPORTS(NULL, "cx\ny\n}b.") == STORKLOCKER_YES && wanted == 18 && verdict.memory == 0);
+    given.builds = 2;
+    IS(IMPORTS(&given, "N.") == STORKLOCKER_USAGE && wanted == 0 && verdict.memory == 0);
+    IS(storklocker_imports_loading(&limits, NULL, 0, NULL, 0, NULL, NULL) == STORKLOCKER_NO);
+    for (long count = 0; count < 100; count++) {
+        grant(count);
+        IMPORTS(&limits, "cx\ny\n.");
+        grant(-1);
+        IS(verdict.status == 0 ? wanted == 18 : verdict.reason == STORKLOCKER_OUT_OF_MEMORY);
+    }
+}
+
 int main(void) {
     costs();
     bills();
+    imports_within();
     unkept();
     older();
     listed_costs();

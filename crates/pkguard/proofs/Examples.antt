@@ -2,12 +2,15 @@
 use Rattle.std.proofs.Common.{◌≡◌, [], ◌∷◌, ◌++◌, refl}
 use Rattle.std.specs.Prelude.{codes, replicate, None, Some, false, true}
 use Rattle.toml.specs.Data.{string, array, no_items, item, no_members, member}
+use Rattle.pkops.specs.Spelling.{layout_at}
+use Rattle.pkops.specs.declared.Op.TheVariants as op
 use Rattle.pkimport.specs.Import.{AskedPair, AskedUnknown}
 use Rattle.pkcheck.specs.declared.Extent.TheVariants.{OnePickle, ToTheEnd}
 use Rattle.pkmachine.specs.declared.OldStrings.TheVariants.{Bytes}
 use Rattle.pkload.specs.declared.Excess.TheVariants.{BuildsImport, HeavyKeys, OutOfMemory}
 use Rattle.pkguard.specs.Encoding.{encoded_all, wanted_by}
 use Rattle.pkguard.specs.Guard.{placed}
+use Rattle.pkguard.specs.Layouts.{layout_number}
 use Rattle.pkguard.specs.Listed.{pairs_at}
 use Rattle.pkguard.specs.Loading.{bill_of, extent_by, old_strings_with, tolls_by, verdict_of_excess}
 use Rattle.pkguard.specs.declared.costs.Costs.{Costs}
@@ -121,3 +124,35 @@ billed :
     bill_of (record { levels = 3; weight = 7; work = 9; clash = 8; builds = true }) 560
     ≡ record { levels = 3; weight = 7; work = 9; clash = 8; memory = 560 }
 billed = refl
+
+-- the arguments of NONE, BININT1, BININT, BINFLOAT and FRAME have so many bytes
+none_numbered : layout_number (layout_at op.None) ≡ 0
+none_numbered = refl
+
+small_numbered : layout_number (layout_at op.BinInt1) ≡ 1
+small_numbered = refl
+
+number_numbered : layout_number (layout_at op.BinInt) ≡ 4
+number_numbered = refl
+
+float_numbered : layout_number (layout_at op.BinFloat) ≡ 8
+float_numbered = refl
+
+frame_numbered : layout_number (layout_at op.Frame) ≡ 8
+frame_numbered = refl
+
+-- INT has a line, GLOBAL two, and payloads stand behind a count of one, four or eight bytes
+line_numbered : layout_number (layout_at op.Int) ≡ 16
+line_numbered = refl
+
+lines_numbered : layout_number (layout_at op.Global) ≡ 32
+lines_numbered = refl
+
+short_numbered : layout_number (layout_at op.ShortBinUnicode) ≡ 65
+short_numbered = refl
+
+text_numbered : layout_number (layout_at op.BinUnicode) ≡ 68
+text_numbered = refl
+
+array_numbered : layout_number (layout_at op.ByteArray8) ≡ 72
+array_numbered = refl

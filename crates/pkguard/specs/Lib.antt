@@ -5,5 +5,6 @@ pub mod Listed
 pub mod Layouts
 pub mod Guard
 pub mod Loading
+pub mod Listing
 -- internal definitions, which need not be trusted
 pub mod Private

@@ -17,6 +17,7 @@ mod costs;
 mod encoding;
 mod layouts;
 mod list;
+mod listing;
 mod settings;
 mod verdict;
 
@@ -31,6 +32,7 @@ ghost use Rattle.pkguard.specs.Settings.{listed_by, loading_by};
 pub use costing::{pkguard_check_loading, pkguard_list_costs};
 pub use costs::{Bill, Costs};
 pub use layouts::pkguard_layout;
+pub use listing::pkguard_imports_loading;
 use pkcheck::{Loading, OldStrings, Permit, Policy, check_all_loaded, check_with_imports};
 use pklist::Pair;
 use pklist::laws::halving;
