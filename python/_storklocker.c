@@ -237,7 +237,7 @@ static PyObject *imports(PyObject *module, PyObject *const *given, Py_ssize_t co
         return NULL;
     uint8_t *start = (uint8_t *)PyBytes_AsString(room);
     PyThreadState *thread = lock_released(&r);
-    storklocker_imports(r.settings, r.bytes, r.length, start, (size_t)size, &wanted, &v);
+    storklocker_imports_loading(r.settings, r.bytes, r.length, start, (size_t)size, &wanted, &v);
     take_lock(thread);
     struct state *state = PyModule_GetState(module);
     PyObject *made = verdict_of(state, state->verdict, &v, Py_BuildValue(""));
@@ -283,7 +283,7 @@ static PyMethodDef methods[] = {
     {"bill", AS_C_FUNCTION(bill), METH_FASTCALL,
      "What loading an accepted pickle costs, if the settings limit costs; None if it is refused."},
     {"imports", AS_C_FUNCTION(imports), METH_FASTCALL,
-     "The Verdict with every import permitted, bytes needed, and the imports."},
+     "The Verdict with every import permitted, bytes needed, and the imports if costs allow."},
     {"read_list", read_list, METH_VARARGS, "Fault or 0, limits, costs, bytes needed, the pairs."},
     {NULL, NULL, 0, NULL}};
 

@@ -76,7 +76,7 @@ def imports_of(
     """Checks a pickle, permitting every import. The limits of the list apply. Returns the Verdict
     and the encoded imports; of a refused pickle, those of the instructions before `at`.
     """
-    settings = settings_of(allow, limits, old_strings)
+    settings = without_costs(settings_of(allow, limits, old_strings))
     (verdict,), room = with_room(lambda size: _imports(data, allow, settings, size))
     return verdict, room
 
@@ -85,22 +85,22 @@ def missing_of(
     data: bytes, allow: AllowList, settings: Optional[bytes]
 ) -> Tuple[List[Import], bool]:
     """The imports that the list doesn't permit, each once, and whether some are left out."""
+    own = without_costs(settings or settings_of(allow, None, "unknown"))
     try:
-        _, room = with_room(lambda size: _imports(data, allow, settings, size), MOST_NAMES)
+        _, room = with_room(lambda size: _imports(data, allow, own, size), MOST_NAMES)
     except MemoryError:
-        return imports_in(_first_missing(data, allow, settings)), True
+        return imports_in(_first_missing(data, allow, own)), True
     found = dict.fromkeys(it for it in records(room) if not allow._has(it))
     return imports_in(found), False
 
 
-def _first_missing(data: bytes, allow: AllowList, settings: Optional[bytes]) -> Iterator[Names]:
+def _first_missing(data: bytes, allow: AllowList, settings: bytes) -> Iterator[Names]:
     """The first few imports that the list doesn't permit, within `MOST_NAMES` bytes of names. Each
     takes a check under a longer list.
     """
     listed, room = allow, MOST_NAMES
-    own = without_costs(settings or settings_of(allow, None, "unknown"))
     for _ in range(_FEW):
-        pair = verdict(data, listed, own).pair
+        pair = verdict(data, listed, settings).pair
         room -= 0 if pair is None else len(pair[0]) + len(pair[1])
         if pair is None or room < 0:
             return

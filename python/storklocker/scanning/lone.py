@@ -5,10 +5,10 @@ from __future__ import annotations
 import functools
 from typing import NamedTuple, Optional, Tuple
 
-from .._lists import AllowList, settings_of
+from .._lists import AllowList, settings_of, within
 from .._pairs import records
 from .._storklocker import imports
-from .costs import permitting
+from .costs import with_costs
 from .dangers import import_findings
 from .joblib_files import WRAPPER_NAMES
 from .names import NOTHING, limits_under, pair_of
@@ -29,14 +29,17 @@ class Told(NamedTuple):
 
 
 class Lone:
-    """Tells of such files, under a list or under none, in two calls of the checker. What it tells
-    is what all the readings and a `Row` tell, which take twice as long.
+    """Tells of such files, under a list or under none, in one call of the checker. What it tells is
+    what all the readings and a `Row` tell, which take longer.
     """
 
     def __init__(self, allow: Optional[AllowList]) -> None:
-        self.allow, self._listed = allow, NOTHING if allow is None else allow
-        self._is_limited = limits_costs(self._listed)
-        self._settings = settings_of(self._listed, limits_under(allow, BLOCK), "unknown")
+        self.allow, listed = allow, NOTHING if allow is None else allow
+        self._is_limited = limits_costs(listed)
+        limits = within(limits_under(allow, BLOCK), listed.limits)
+        assert limits is not None
+        # (whatever the list says of BUILD, what an import answers is not to be changed)
+        self._settings = settings_of(NOTHING, with_costs(limits), "unknown")
         # (the files of a scan mostly import the same names)
         self._known = functools.lru_cache(maxsize=256)(self._judged)
 
@@ -47,20 +50,18 @@ class Lone:
             return None
         if len(all_asked()(path, source)) > 1:  # others than that of pickles
             return None
-        verdict, wanted, room = imports(data, self._listed, self._settings, _ROOM)
+        verdict, wanted, room = imports(data, NOTHING, self._settings, _ROOM)
         if verdict.taken != source.size or wanted > _ROOM:
             return None
-        found = self._known(room[:wanted])
-        return None if found is None or found[0]._refusal(data) is not None else found[1]
+        return self._known(room[:wanted])
 
-    def _judged(self, room: bytes) -> Optional[Tuple[AllowList, Told]]:
-        """A list of these encoded imports, with limits on costs, and what is to be told of them;
-        None if one isn't permitted, or is an array of joblib's.
+    def _judged(self, room: bytes) -> Optional[Told]:
+        """What is to be told of these encoded imports; None if one isn't permitted, or is an array
+        of joblib's.
         """
         names = tuple(dict.fromkeys(records(room)))
         is_permitted = may_be_listed if self.allow is None else self.allow._has
         if not all(map(is_permitted, names)) or WRAPPER_NAMES.intersection(names):
             return None
         pairs = tuple(map(pair_of, names))
-        findings = sorted_findings(import_findings(pairs, self.allow))
-        return permitting(names), Told(pairs, findings)
+        return Told(pairs, sorted_findings(import_findings(pairs, self.allow)))

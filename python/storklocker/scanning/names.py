@@ -6,7 +6,7 @@ import functools
 from typing import TYPE_CHECKING, Dict, NamedTuple, Optional, Tuple
 
 from .._answers import Verdict
-from .._limits import NO_COSTS, UNBOUND, Limits
+from .._limits import NO_COSTS, UNBOUND, Limits, without_costs
 from .._lists import STANDARD, AllowList, settings_of
 from .._pairs import records
 from .._reasons import Reason
@@ -71,7 +71,7 @@ class Imports(NamedTuple):
 
 def imports_within(data: bytes, allow: AllowList, limits: Limits = WIDE) -> Imports:
     """The imports of the pickle at the front of the bytes. The limits of the list apply."""
-    settings, size = settings_of(allow, limits, "unknown"), _FIRST
+    settings, size = without_costs(settings_of(allow, limits, "unknown")), _FIRST
     verdict, wanted, room = _imports(data, allow, settings, size)
     if wanted > max(_ROOM, len(data)):
         return Imports(verdict, {}, False)
@@ -85,7 +85,7 @@ def verdict_at(source: Source, at: int, budget: Budget) -> Tuple[Verdict, bool]:
     """The verdict on the pickle at an offset with every import permitted, however long it is, and
     whether it imports anything.
     """
-    settings, size = settings_of(NOTHING, WIDEST, "unknown"), BLOCK
+    settings, size = without_costs(settings_of(NOTHING, WIDEST, "unknown")), BLOCK
     while True:
         # (to list many imports takes longer than to find them)
         verdict, wanted, _ = _imports(source.read(at, size), NOTHING, settings, _FIRST)
