@@ -108,6 +108,10 @@ class Asked(unittest.TestCase):
         names = [name for name, _ in asked("file", source)]
         self.assertEqual(names, ["pickle"])
 
+    def test_a_checksum_that_is_none_is_not_a_tar_file(self):
+        data = b"\x80\4" + b"N" * 146 + b"\0" + b"N" * 400 + b"."
+        self.assertNotIn("tar", dict(asked("file", place_of(data).source)))
+
 
 if __name__ == "__main__":
     unittest.main()

@@ -1,9 +1,7 @@
 //! Lists the imports of a pickle, and bounds what loading it costs.
-ghost use Rattle.std.specs.Prelude.{◌≡◌, ◌≢◌, ◌≤◌, None};
-ghost use Rattle.pkmachine.specs.Policies.{permit_of};
-ghost use Rattle.pkcheck.specs.declared.Extent.{Extent as SpecExtent};
+ghost use Rattle.std.specs.Prelude.{◌≡◌, ◌≢◌, ◌≤◌};
 ghost use Rattle.pkguard.specs.Guard.{Answers};
-ghost use Rattle.pkguard.specs.Listing.{IsImportsWithBill, IsImportsWithin, IsCutShort};
+ghost use Rattle.pkguard.specs.Listing.{IsCutShort, IsImportsWithBill};
 ghost use Rattle.pkguard.specs.Loading.{IsUsageWith, SetsWith, nothing_billed, tolls_by};
 ghost use Rattle.pkguard.specs.Settings.{limits_by, loading_by};
 

@@ -4,7 +4,7 @@ from __future__ import annotations
 
 import functools
 import re
-from typing import Dict, Pattern, Sequence, Tuple
+from typing import Callable, Dict, Pattern, Sequence, Tuple
 
 from .._storklocker import holds
 from .berkeley import BERKELEY_MARK, berkeley_reading
@@ -23,7 +23,7 @@ from .shelves import shelf_reading
 from .source import Source
 from .sqlite_files import sqlite_reading
 from .stores import HDF5_MAGIC, LMDB_MARK, STORES
-from .tars import TAR_MARK, tar_reading
+from .tars import TAR_MARK, may_be_tar, tar_reading
 from .zips import zip_reading
 
 READINGS: Dict[str, Reading] = {
@@ -73,6 +73,9 @@ MARKED: Dict[str, bytes] = {
 }
 """A pattern of the first bytes of all files that a reader takes."""
 
+JUDGED: Dict[str, Callable[[bytes], bool]] = {"tar": may_be_tar}
+"""What judges whether a reader takes a file that has its mark, by the whole of it."""
+
 _ZIP = b"PK"  # (as local headers and end records begin)
 HOLDING: Dict[str, bytes] = {"npy": NPY_MAGIC, "HDF5": HDF5_MAGIC, "zip": _ZIP}
 """What stands somewhere in all files that a reader takes."""
@@ -94,11 +97,14 @@ def asked(path: str, source: Source) -> Sequence[_Item]:
     plain, marks, others = _beginning(front[:1])
     if is_whole and not (holds(front, _HELD) or marks.match(front)):
         return plain
-    return [
-        (name, reading)
-        for name, reading in others
-        if not is_whole or HOLDING.get(name, b"") in front and _mark_of(name).match(front)
-    ]
+    return [it for it in others if not is_whole or _may_take(it[0], front)]
+
+
+def _may_take(name: str, data: bytes) -> bool:
+    """Whether a reader may take the file that is these bytes."""
+    if HOLDING.get(name, b"") not in data or not _mark_of(name).match(data):
+        return False
+    return name not in JUDGED or JUDGED[name](data)
 
 
 @functools.lru_cache(maxsize=None)

@@ -165,6 +165,11 @@ def _entries(
     yield from ((entry, named.get(places_of(entry.name))) for entry in late)
 
 
+def may_be_tar(front: bytes) -> bool:
+    """Whether a file that begins with these bytes, its first block at least, may be a tar file."""
+    return front[:1] == b"\0" or _is_header(front[:_BLOCK])
+
+
 def _is_header(header: bytes) -> bool:
     """Whether a reader takes it for a header. `tarfile` looks at the checksum alone."""
     try:
