@@ -154,6 +154,25 @@ static void compare_imports(const uint8_t *data, size_t size, Verdict strict) {
     }
 }
 
+/* Imports within limits on costs are those without, unless a limit is exceeded. */
+static void compare_costs(const uint8_t *data, size_t size) {
+    struct storklocker_settings settings = STORKLOCKER_STANDARD;
+    Verdict free, within;
+    uint64_t wanted, wanted_within;
+    settings.levels = 3;
+    settings.work = 99;
+    settings.builds = 0;
+    storklocker_imports(&settings, data, size, room, ROOM, &wanted, &free);
+    storklocker_imports_loading(&settings, data, size, room, ROOM, &wanted_within, &within);
+    if (within.reason < STORKLOCKER_DEEP_KEY) {
+        must(is_same(free, within), "limits on costs change no other answer");
+        must(wanted == wanted_within, "and no imports");
+    } else {
+        must(wanted_within == 0, "of what costs too much no import is told");
+        must(free.status == STORKLOCKER_YES || within.at < free.at, "a refusal comes first");
+    }
+}
+
 static void compare_parts(const uint8_t *data, Verdict strict) {
     size_t taken = (size_t)strict.taken;
     uint8_t *copy = malloc(taken);
@@ -192,6 +211,7 @@ int LLVMFuzzerTestOneInput(const uint8_t *data, size_t size) {
     other = checked(data, size, STORKLOCKER_OLD_UNKNOWN, 1);
     must(is_same(strict, other), "sorted pairs are pairs");
     compare_imports(data, size, strict);
+    compare_costs(data, size);
     if (strict.status == STORKLOCKER_YES) {
         for (uint32_t old = STORKLOCKER_OLD_ASCII; old <= STORKLOCKER_OLD_BYTES; old++) {
             other = checked(data, size, old, 0);
