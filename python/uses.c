@@ -26,10 +26,12 @@ struct kept {
 struct uses {
     struct kept *kept;
     const uint8_t *bytes;
-    size_t length, at, next, size; /* `next`: where the instruction ends; `size` of the stack */
+    size_t start, length, at, next; /* `start` of the pickle; `next`: where the instruction ends */
+    size_t size;                    /* of the stack */
     slot *stack;
-    PyObject *number_of, *places;
-    slot fault; /* what is used as a value and can't be */
+    PyObject *number_of, *real; /* `real`: where names become real */
+    struct notes changes;       /* where instructions are that a reader is given in other words */
+    slot fault;                 /* what is used as a value and can't be */
 };
 
 enum { DONE, LOST, FAILED }; /* LOST: a reader gets no further, or needn't */
@@ -67,7 +69,7 @@ static int grown(slot **items, size_t count) {
     return DONE;
 }
 
-static int push(struct uses *u, slot s) {
+static inline int push(struct uses *u, slot s) {
     if (grown(&u->stack, u->size) != DONE)
         return FAILED;
     u->stack[u->size++] = s;
@@ -94,28 +96,45 @@ static size_t last_mark(const struct uses *u) {
     return u->size;
 }
 
-static int is_put(uint8_t code) {
-    return code == 'p' || code == 'q' || code == 'r' || code == 0x94;
-}
+/* What an instruction does: it takes values off the top, none to three, or those above a mark; one
+   more stays below them; and it gives a new one, unless it KEEPS what is there. `made` follows what
+   MAKES, and `moved` what MOVES; a reader is given what CHANGES in other words. (It fails at a byte
+   that is no opcode.) */
+enum { SLICE = 4, STAYS = 8, KEEPS = 16, MAKES = 32, MOVES = 64, CHANGES = 128 };
+enum { IS_TEXT = MOVES | STAYS, IS_PUT = MOVES | KEEPS };
+static const uint8_t effects[256] = {
+    [0x80] = KEEPS, [0x95] = KEEPS | CHANGES, ['.'] = 1 | KEEPS, [0x98] = STAYS | KEEPS,
+    ['Q'] = 1 | CHANGES, ['a'] = 1 | STAYS | KEEPS, ['e'] = SLICE | STAYS | KEEPS,
+    [0x90] = SLICE | STAYS | KEEPS, ['i'] = SLICE, ['l'] = SLICE, ['o'] = SLICE, [0x91] = SLICE,
+    ['t'] = SLICE | MAKES, ['d'] = SLICE | MAKES, ['u'] = SLICE | MAKES, ['}'] = MAKES,
+    [0x85] = 1 | MAKES, [0x86] = 2 | MAKES, [0x87] = 3 | MAKES, ['s'] = 2 | MAKES,
+    ['b'] = 2 | MAKES | CHANGES, ['R'] = 2 | MAKES, [0x81] = 2 | MAKES, [0x92] = 3 | MAKES,
+    ['('] = MOVES, ['0'] = MOVES, ['1'] = SLICE | MOVES, ['2'] = 1 | MOVES, ['c'] = MOVES,
+    [0x93] = 2 | MOVES, ['g'] = MOVES, ['h'] = MOVES, ['j'] = MOVES, ['p'] = IS_PUT,
+    ['q'] = IS_PUT, ['r'] = IS_PUT, [0x94] = IS_PUT, ['S'] = IS_TEXT, ['T'] = IS_TEXT,
+    ['U'] = IS_TEXT, ['V'] = IS_TEXT, ['X'] = IS_TEXT, [0x8c] = IS_TEXT, [0x8d] = IS_TEXT};
 
 /* Has a name become the real object, behind the instruction that pushes it and those that memoize
    it there. */
-static int make_real(struct uses *u, size_t at) {
-    size_t length;
+static int make_real(struct uses *u, slot s) {
+    size_t length, at = place_of(s);
+    if (at < u->start) { /* in another pickle */
+        u->fault = s;
+        return LOST;
+    }
     do {
         length = length_of(u->bytes + at, u->length - at);
         at += length;
-    } while (length > 0 && at < u->length && is_put(u->bytes[at]));
+    } while (length > 0 && at < u->length && effects[u->bytes[at]] == IS_PUT);
     PyObject *place = PyLong_FromSize_t(at);
-    int is_wrong = place == NULL || PyList_Append(u->places, place) < 0;
+    int is_wrong = place == NULL || PyList_Append(u->real, place) < 0;
     Py_XDECREF(place);
     return is_wrong ? FAILED : DONE;
 }
 
-/* An object becomes a value: part of another one, or the result. */
-static int use(struct uses *u, slot s) {
+static int use_known(struct uses *u, slot s) {
     if (role_of(u, s) & BECOMES_REAL && mask_of(s) == 0)
-        return make_real(u, place_of(s));
+        return make_real(u, s);
     if (kind_of(s) == DICT)
         s = u->kept->dicts[place_of(s)];
     if ((kind_of(s) == NAME && !(role_of(u, s) & WRAPS)) || (kind_of(s) == TUPLE && mask_of(s))) {
@@ -123,6 +142,11 @@ static int use(struct uses *u, slot s) {
         return LOST;
     }
     return DONE;
+}
+
+/* An object becomes a value: part of another one, or the result. */
+static inline int use(struct uses *u, slot s) {
+    return kind_of(s) < NAME ? DONE : use_known(u, s);
 }
 
 /* The objects from an index on become values, and are taken off the stack down to another index. */
@@ -282,8 +306,8 @@ static int import(struct uses *u, size_t module, size_t name) {
     return push(u, said == 0 ? OTHER : SLOT(NAME, said % NAMES, u->at));
 }
 
-/* Follows an instruction that moves objects, or pushes a text or a name. */
-static int moved(struct uses *u, uint8_t code, size_t mark, size_t last) {
+/* Follows an instruction that moves objects, or pushes a name. */
+static int moved(struct uses *u, uint8_t code, size_t mark) {
     slot name, module;
     switch (code) {
     case '(':
@@ -303,32 +327,19 @@ static int moved(struct uses *u, uint8_t code, size_t mark, size_t last) {
         name = pop(u), module = pop(u);
         return kind_of(name) == TEXT && kind_of(module) == TEXT
             ? import(u, place_of(module), place_of(name)) : LOST;
-    case 'g':
-    case 'h':
-    case 'j':
-        return get(u);
     }
-    return is_put(code) ? put(u, last) : push(u, SLOT(TEXT, 0, u->at));
+    return get(u);
 }
 
-/* What an instruction does: it takes values off the top, none to three, or those above a mark; one
-   more stays below them; and it gives a new one, unless it KEEPS what is there. `made` follows what
-   MAKES, and `moved` what MOVES. (A reader fails at a byte that is no opcode.) */
-enum { SLICE = 4, STAYS = 8, KEEPS = 16, MAKES = 32, MOVES = 64 };
-static const uint8_t effects[256] = {
-    [0x80] = KEEPS, [0x95] = KEEPS, ['.'] = 1 | KEEPS, [0x98] = STAYS | KEEPS, ['Q'] = 1,
-    ['a'] = 1 | STAYS | KEEPS, ['e'] = SLICE | STAYS | KEEPS, [0x90] = SLICE | STAYS | KEEPS,
-    ['i'] = SLICE, ['l'] = SLICE, ['o'] = SLICE, [0x91] = SLICE, ['t'] = SLICE | MAKES,
-    ['d'] = SLICE | MAKES, ['u'] = SLICE | MAKES, ['}'] = MAKES, [0x85] = 1 | MAKES,
-    [0x86] = 2 | MAKES, [0x87] = 3 | MAKES, ['s'] = 2 | MAKES, ['b'] = 2 | MAKES, ['R'] = 2 | MAKES,
-    [0x81] = 2 | MAKES, [0x92] = 3 | MAKES, ['('] = MOVES, ['0'] = MOVES, ['1'] = SLICE | MOVES,
-    ['2'] = 1 | MOVES, ['c'] = MOVES, [0x93] = 2 | MOVES, ['g'] = MOVES, ['h'] = MOVES,
-    ['j'] = MOVES, ['p'] = MOVES, ['q'] = MOVES, ['r'] = MOVES, [0x94] = MOVES, ['S'] = MOVES,
-    ['T'] = MOVES, ['U'] = MOVES, ['V'] = MOVES, ['X'] = MOVES, [0x8c] = MOVES, [0x8d] = MOVES};
-
 /* Follows an instruction. `last`: the last one before it that isn't a PUT. */
-static int followed_one(struct uses *u, size_t last) {
-    uint8_t code = u->bytes[u->at], effect = effects[code];
+static int followed_one(struct uses *u, uint8_t code, size_t last) {
+    uint8_t effect = effects[code];
+    if (effect == 0)
+        return push(u, OTHER);
+    if (effect == IS_TEXT)
+        return push(u, SLOT(TEXT, 0, u->at));
+    if (effect == IS_PUT)
+        return put(u, last);
     size_t count = effect & 3, below = effect & SLICE ? last_mark(u) : u->size - count;
     size_t index = below + (effect & SLICE ? 1 : 0);
     if (!are_there(u, count) || index > u->size)
@@ -336,7 +347,7 @@ static int followed_one(struct uses *u, size_t last) {
     if (effect & MAKES)
         return made(u, code, index, below);
     if (effect & MOVES)
-        return moved(u, code, below, last);
+        return moved(u, code, below);
     if (code == 'o' && index < u->size) /* a class that OBJ calls isn't to become real */
         u->stack[index] |= kind_of(u->stack[index]) == NAME ? MASK(1) : 0;
     int is = use_from(u, index, below);
@@ -359,29 +370,48 @@ PyObject *begin_uses(PyObject *Py_UNUSED(module), PyObject *Py_UNUSED(args)) {
     return made;
 }
 
+/* Follows the pickle as long as a reader gets on, and notes what changes up to STOP. */
+static int followed_all(struct uses *u) {
+    const uint8_t *bytes = u->bytes;
+    size_t length = u->length, next, last = u->start;
+    int is = DONE, is_stopped = 0;
+    for (size_t at = u->start; at < length && !is_stopped; at = next) {
+        size_t taken = length_of(bytes + at, length - at);
+        uint8_t code = bytes[at];
+        u->at = at, u->next = next = at + taken;
+        if (taken == 0)
+            return LOST;
+        if (effects[code] & CHANGES && !note(&u->changes, at))
+            return FAILED;
+        if (is == DONE && (is = followed_one(u, code, last)) != DONE
+            && (is == FAILED || u->fault != ABSENT))
+            return is;
+        is_stopped = code == '.';
+        last = effects[code] == IS_PUT ? last : at;
+    }
+    return is_stopped ? is : LOST;
+}
+
 PyObject *uses(PyObject *Py_UNUSED(module), PyObject *args) {
-    PyObject *capsule, *data;
+    PyObject *capsule, *data, *pieces = NULL;
     Py_ssize_t start;
     struct uses u = {.fault = ABSENT};
     if (!PyArg_ParseTuple(args, "OSnO", &capsule, &data, &start, &u.number_of)
         || (u.kept = PyCapsule_GetPointer(capsule, NULL)) == NULL
-        || (u.places = PyList_New(0)) == NULL)
+        || (u.real = PyList_New(0)) == NULL)
         return NULL;
     u.bytes = (const uint8_t *)PyBytes_AsString(data);
     u.length = (size_t)PyBytes_Size(data);
-    u.at = start < 0 ? u.length : (size_t)start;
-    int is = DONE, is_stopped = 0;
-    for (size_t last = u.at; is == DONE && !is_stopped && u.at < u.length; u.at = u.next) {
-        size_t length = length_of(u.bytes + u.at, u.length - u.at);
-        u.next = u.at + length;
-        is = length == 0 ? LOST : followed_one(&u, last);
-        is_stopped = is == DONE && u.bytes[u.at] == '.';
-        last = is_put(u.bytes[u.at]) ? last : u.at;
-    }
+    u.start = start < 0 || (size_t)start > u.length ? u.length : (size_t)start;
+    u.next = u.changes.last = u.start;
+    int is = followed_all(&u);
+    if (is != FAILED && !PyErr_Occurred() && PyList_Sort(u.real) == 0)
+        pieces = u.fault == ABSENT ? respelled(data, u.start, u.next, &u.changes, u.real)
+                                   : PyList_New(0);
     PyMem_Free(u.stack);
-    PyObject *found = is == FAILED ? NULL : Py_BuildValue(
-        "OOin", u.places, is_stopped ? Py_True : Py_False, (int)name_of(u.fault),
+    PyMem_Free(u.changes.bytes);
+    Py_DECREF(u.real);
+    return pieces == NULL ? NULL : Py_BuildValue(
+        "NOin", pieces, is == DONE ? Py_True : Py_False, (int)name_of(u.fault),
         u.fault != ABSENT ? (Py_ssize_t)place_of(u.fault) : -1);
-    Py_DECREF(u.places);
-    return found;
 }

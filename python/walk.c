@@ -2,22 +2,10 @@
 
 #include <string.h>
 
-#define LARGE (1 << 20) /* an instruction of more bytes is left where it is */
+#define LENT (1 << 14) /* so many bytes in a row that don't change aren't copied */
+#define FIRST 64       /* the room for the first notes */
 
-#define PLACES 512       /* the number of changes that are found once and not again for writing */
-
-struct walk {
-    const uint8_t *bytes;
-    size_t length, at;
-    size_t size, changed; /* the number of bytes written, and of instructions changed */
-    size_t *places;       /* where the first of these are, or null */
-    size_t most, next;    /* a longer instruction ends the walk; where that one ends, or `at` */
-    int is_stopped;
-};
-
-/* How the argument of each opcode ends, as `pkguard_layout` numbers it. */
-enum { FIXED = 16, LINE = 16, COUNT = 64, BUILD = 'b', BINPERSID = 'Q', FRAME = 0x95 };
-static uint8_t layouts[256];
+uint8_t layouts[256];
 
 /* When the module is loaded, before any call. */
 __attribute__((constructor)) static void fill_layouts(void) {
@@ -25,14 +13,14 @@ __attribute__((constructor)) static void fill_layouts(void) {
         layouts[code] = (uint8_t)pkguard_layout((uint8_t)code);
 }
 
-size_t length_of(const uint8_t *bytes, size_t length) {
-    unsigned layout = layouts[bytes[0]], width = layout % FIXED;
-    size_t at = 1, left = length - 1;
+size_t length_of_long(const uint8_t *bytes, size_t length) {
+    unsigned layout = layouts[bytes[0]], width = layout % LINE;
+    size_t at = 1;
     if (layout >= COUNT) {
         uint64_t count = 0;
-        for (unsigned k = 0; k < width && k < left; k++)
-            count |= (uint64_t)bytes[1 + k] << 8 * k;
-        return width <= left && count <= left - width ? 1 + width + (size_t)count : 0;
+        for (unsigned k = width; k > 0 && width < length; k--)
+            count = count << 8 | bytes[k];
+        return width < length && count < length - width ? 1 + width + (size_t)count : 0;
     }
     for (; layout >= LINE; layout -= LINE) {
         const uint8_t *end = memchr(bytes + at, '\n', length - at);
@@ -40,7 +28,7 @@ size_t length_of(const uint8_t *bytes, size_t length) {
             return 0;
         at = (size_t)(end - bytes) + 1;
     }
-    return width <= left ? at + width : 0;
+    return at;
 }
 
 int parse_number(const uint8_t *bytes, size_t length, uint64_t *number) {
@@ -55,90 +43,135 @@ int parse_number(const uint8_t *bytes, size_t length, uint64_t *number) {
     return !is_line || length > 2;
 }
 
-static void put(struct walk *w, uint8_t *out, const void *bytes, size_t count) {
-    if (out != NULL)
-        memcpy(out + w->size, bytes, count);
+int note(struct notes *notes, size_t place) {
+    size_t left = place - notes->last;
+    do {
+        size_t size = notes->size;
+        if (size == 0 || (size >= FIRST && (size & (size - 1)) == 0)) {
+            uint8_t *more = PyMem_Realloc(notes->bytes, size == 0 ? FIRST : 2 * size);
+            if (more == NULL) {
+                PyErr_NoMemory();
+                return 0;
+            }
+            notes->bytes = more;
+        }
+        notes->bytes[notes->size++] = (uint8_t)(left > 127 ? 128 | (left & 127) : left);
+    } while ((left >>= 7) > 0);
+    notes->last = place;
+    return 1;
+}
+
+/* The place that is noted from an index on, given the one before it. */
+static size_t noted(const struct notes *notes, size_t *index, size_t place) {
+    for (unsigned shift = 0;; shift += 7) {
+        uint8_t byte = notes->bytes[(*index)++];
+        place += (size_t)(byte & 127) << shift;
+        if (byte < 128)
+            return place;
+    }
+}
+
+/* The pieces of a pickle in other words, which are first measured and then written. */
+struct writing {
+    PyObject *data, *made, *pieces;
+    const uint8_t *bytes;     /* of `data` */
+    uint8_t *out;             /* of `made`, what is copied; null as long as that is measured */
+    size_t room, size, begin; /* of what is copied; `begin`: where its last piece begins */
+    int is_wrong;
+};
+
+static void put(struct writing *w, const void *bytes, size_t count) {
+    w->is_wrong |= count > w->room - w->size;
+    if (w->is_wrong)
+        return;
+    if (w->out != NULL)
+        memcpy(w->out + w->size, bytes, count);
     w->size += count;
 }
 
-/* Writes the instructions from `begin` on, and the changed one that follows them. */
-static void put_changed(struct walk *w, uint8_t *out, size_t begin, size_t end) {
-    uint8_t code = w->bytes[end];
-    put(w, out, w->bytes + begin, end - begin);
-    put(w, out, code == BUILD ? "\x86Q" : "\x85Q", code == FRAME ? 0 : 2);
+static void add_piece(struct writing *w, PyObject *of, size_t begin, size_t end) {
+    if (w->out == NULL || begin == end)
+        return;
+    PyObject *piece = Py_BuildValue("Onn", of, (Py_ssize_t)begin, (Py_ssize_t)end);
+    w->is_wrong |= piece == NULL || PyList_Append(w->pieces, piece) < 0;
+    Py_XDECREF(piece);
 }
 
-/* Writes to `out`, if it isn't null. */
-static void walk(struct walk *w, uint8_t *out) {
-    size_t begin = w->at, taken = 0;
-    while (!w->is_stopped && w->at < w->length) {
-        taken = length_of(w->bytes + w->at, w->length - w->at);
-        if (taken == 0 || taken > w->most)
-            break;
-        uint8_t code = w->bytes[w->at];
-        if (code == BUILD || code == BINPERSID || code == FRAME) {
-            put_changed(w, out, begin, w->at);
-            if (w->places != NULL && w->changed < PLACES)
-                w->places[w->changed] = w->at;
-            w->changed++;
-            begin = w->at + taken;
+/* Puts instructions that don't change. */
+static void put_stretch(struct writing *w, size_t begin, size_t end) {
+    w->is_wrong |= begin > end;
+    if (end - begin < LENT) {
+        put(w, w->bytes + begin, end - begin);
+    } else if (!w->is_wrong) {
+        add_piece(w, w->made, w->begin, w->size);
+        add_piece(w, w->data, begin, end);
+        w->begin = w->size;
+    }
+}
+
+static void write_pieces(
+    struct writing *w, size_t at, size_t end, const struct notes *changes, PyObject *real) {
+    Py_ssize_t next = 0, count = PyList_Size(real);
+    size_t index = 0, change = at;
+    do {
+        change = index < changes->size ? noted(changes, &index, change) : end;
+        for (; next < count; next++) {
+            size_t place = PyLong_AsSize_t(PyList_GetItem(real, next));
+            if (place > change)
+                break;
+            put_stretch(w, at, place);
+            put(w, "NN\x87Q", 4);
+            at = place;
         }
-        w->is_stopped = code == '.';
-        w->at += taken;
-    }
-    w->next = w->at + (taken > w->most ? taken : 0);
-    put(w, out, w->bytes + begin, w->at - begin);
+        put_stretch(w, at, change);
+        if (change < end) {
+            int is_frame = w->bytes[change] == 0x95;
+            put(w, w->bytes[change] == 'b' ? "\x86Q" : "\x85Q", is_frame ? 0 : 2);
+            at = change + (is_frame ? 9 : 1);
+        }
+    } while (change < end);
+    add_piece(w, w->made, w->begin, w->size);
+    w->is_wrong |= next < count;
 }
 
-/* Writes what was walked from the same begin, whose first changes are known. */
-static void write_again(struct walk *w, const struct walk *walked, uint8_t *out) {
-    for (size_t k = 0; k < walked->changed && k < PLACES; k++) {
-        size_t place = walked->places[k];
-        put_changed(w, out, w->at, place);
-        w->at = place + length_of(w->bytes + place, w->length - place);
+PyObject *respelled(
+    PyObject *data, size_t begin, size_t end, const struct notes *changes, PyObject *real) {
+    struct writing w = {
+        .data = data, .bytes = (const uint8_t *)PyBytes_AsString(data), .room = SIZE_MAX};
+    write_pieces(&w, begin, end, changes, real);
+    w.room = w.size;
+    w.size = w.begin = 0;
+    w.pieces = PyList_New(0);
+    w.made = PyBytes_FromStringAndSize(NULL, (Py_ssize_t)w.room);
+    w.is_wrong |= w.pieces == NULL || w.made == NULL;
+    if (!w.is_wrong) {
+        w.out = (uint8_t *)PyBytes_AsString(w.made);
+        write_pieces(&w, begin, end, changes, real);
     }
-    if (walked->changed > PLACES)
-        walk(w, out);
-    else
-        put(w, out, w->bytes + w->at, walked->at - w->at);
-}
-
-static int parse_walk(PyObject *args, PyObject **data, size_t most, struct walk *w) {
-    Py_ssize_t start, stop = PY_SSIZE_T_MAX;
-    if (!PyArg_ParseTuple(args, "Sn|n", data, &start, &stop))
-        return 0;
-    Py_ssize_t length = PyBytes_Size(*data);
-    *w = (struct walk){
-        .bytes = (const uint8_t *)PyBytes_AsString(*data),
-        .length = (size_t)(stop < length ? stop : length), .at = (size_t)start, .most = most};
-    if (start >= 0 && stop >= start && w->at <= w->length)
-        return 1;
-    PyErr_SetString(PyExc_ValueError, "the start lies outside of the data");
-    return 0;
+    Py_XDECREF(w.made);
+    if (!w.is_wrong && w.size == w.room)
+        return w.pieces;
+    Py_XDECREF(w.pieces);
+    if (!PyErr_Occurred())
+        PyErr_SetString(PyExc_ValueError, "the places of real objects don't ascend in the pickle");
+    return NULL;
 }
 
 PyObject *walked(PyObject *Py_UNUSED(module), PyObject *args) {
     PyObject *data;
-    struct walk w;
-    if (!parse_walk(args, &data, SIZE_MAX, &w))
+    Py_ssize_t start;
+    if (!PyArg_ParseTuple(args, "Sn", &data, &start))
         return NULL;
-    walk(&w, NULL);
-    return Py_BuildValue("nN", (Py_ssize_t)w.at, PyBool_FromLong(w.is_stopped));
-}
-
-PyObject *respelled(PyObject *Py_UNUSED(module), PyObject *args) {
-    PyObject *data, *made;
-    size_t places[PLACES];
-    struct walk w, again;
-    if (!parse_walk(args, &data, LARGE, &w))
+    const uint8_t *bytes = (const uint8_t *)PyBytes_AsString(data);
+    size_t length = (size_t)PyBytes_Size(data), at = (size_t)start, taken = 1;
+    int is_stopped = 0;
+    if (start < 0 || at > length) {
+        PyErr_SetString(PyExc_ValueError, "the start lies outside of the data");
         return NULL;
-    again = w;
-    w.places = places;
-    walk(&w, NULL);
-    if (w.changed == 0)
-        return Py_BuildValue("Onn", Py_None, (Py_ssize_t)w.at, (Py_ssize_t)w.next);
-    if ((made = PyBytes_FromStringAndSize(NULL, (Py_ssize_t)w.size)) == NULL)
-        return NULL;
-    write_again(&again, &w, (uint8_t *)PyBytes_AsString(made));
-    return Py_BuildValue("Nnn", made, (Py_ssize_t)w.at, (Py_ssize_t)w.next);
+    }
+    while (!is_stopped && at < length && (taken = length_of(bytes + at, length - at)) > 0) {
+        is_stopped = bytes[at] == '.';
+        at += taken;
+    }
+    return Py_BuildValue("nN", (Py_ssize_t)at, PyBool_FromLong(is_stopped));
 }

@@ -9,13 +9,9 @@
 
 #include <stdint.h>
 
-/* Both take bytes, the offset of an instruction, and one to stop at, or no such. `walked` returns
-   where the whole instructions from there on end, at the latest after STOP, and whether the last is
-   STOP. `respelled` goes up to a large instruction, and returns these instructions with BUILD as
-   TUPLE2 BINPERSID and BINPERSID as TUPLE1 BINPERSID, and without frames, or None if it has none of
-   them; where they end; and where the large instruction ends that follows, if there is one. */
+/* Takes bytes and the offset of an instruction. Returns where the whole instructions from there on
+   end, at the latest after STOP, and whether the last is STOP. */
 PyObject *walked(PyObject *module, PyObject *args);
-PyObject *respelled(PyObject *module, PyObject *args);
 
 /* Whether one of the texts in a tuple, bytes that aren't empty, stands in the bytes. */
 PyObject *holds(PyObject *module, PyObject *args);
@@ -30,20 +26,53 @@ PyObject *followed(PyObject *module, PyObject *args);
    `uses` takes what `begin_uses` made for all pickles of a reader, bytes, the offset of the pickle,
    and a function that says of each import, given the instructions that push its module and its
    name, or twice the one that has both: 0, or a number below 1024 plus 1024 times the name's role.
-   Returns where a value becomes the real object, behind the instruction that pushes it; whether it
-   got to STOP; and the number of a name that is a value and can't be real, and its place, or -1. */
+   Returns what the reader is given in place of the pickle; whether it got to STOP; and the number
+   of a name that is a value and can't be real, and its place, or -1.
+
+   The reader is given the whole instructions up to STOP, also those that it can't get to: BUILD as
+   TUPLE2 BINPERSID, BINPERSID as TUPLE1 BINPERSID, no frames, and where a value becomes the real
+   object, behind the instruction that pushes it, NONE NONE TUPLE3 BINPERSID. These are pieces:
+   bytes, and the begin and end of what counts of them. Long ones are the bytes of the pickle. */
 PyObject *begin_uses(PyObject *module, PyObject *args);
 PyObject *uses(PyObject *module, PyObject *args);
 
-/* The library's number of the layout of an opcode's argument: its bytes; 16 for each line; or 64 and
-   the bytes of the count before a payload. 0 if no opcode has the code. */
+/* The library's number of the layout of an opcode's argument: its bytes; 16 for each line; or 64
+   and the bytes of the count before a payload. 0 if no opcode has the code. */
 uint32_t pkguard_layout(uint8_t code);
 
-/* The length of the instruction that begins the bytes, or 0 if it isn't complete. */
-size_t length_of(const uint8_t *bytes, size_t length);
+/* These numbers, and what they are made of. */
+enum { LINE = 16, COUNT = 64 };
+extern uint8_t layouts[256];
+
+/* The length of the instruction that begins the bytes, or 0 if it isn't complete; `length_of_long`
+   if its argument isn't of a fixed length. */
+size_t length_of_long(const uint8_t *bytes, size_t length);
+static inline size_t length_of(const uint8_t *bytes, size_t length) {
+    unsigned layout = layouts[bytes[0]];
+    if (layout < LINE)
+        return layout < length ? 1 + layout : 0;
+    if (layout == COUNT + 1)
+        return length > 1 && bytes[1] < length - 1 ? 2 + (size_t)bytes[1] : 0;
+    return length_of_long(bytes, length);
+}
 
 /* Reads the memo number of a whole GET or PUT. Returns 0 if it isn't one. */
 int parse_number(const uint8_t *bytes, size_t length, uint64_t *number);
+
+/* Places of instructions, which ascend: of each the distance from the one before, seven bits to a
+   byte. So they take no more bytes than the instructions. */
+struct notes {
+    uint8_t *bytes;
+    size_t size, last; /* `last`: the last place, or where the first instruction begins */
+};
+
+/* Notes a place. Returns 0, and sets an error, if there is no memory. */
+int note(struct notes *notes, size_t place);
+
+/* The pieces that `uses` returns, of the instructions from one place to another. Takes the places
+   of BUILD, BINPERSID and FRAME, and those where names become real, in a list that ascends. */
+PyObject *respelled(
+    PyObject *data, size_t begin, size_t end, const struct notes *changes, PyObject *real);
 
 /* A greater memo number than this and the bytes of the pickles is no use. */
 #define SPARE (1 << 20)

@@ -21,7 +21,6 @@ from typing import (
     Callable,
     Dict,
     FrozenSet,
-    Iterable,
     List,
     Optional,
     Tuple,
@@ -32,13 +31,11 @@ from ._answers import Misused
 from ._guard import _later
 from ._lists import AllowList
 from ._objects import found
-from ._storklocker import respelled
 from ._substitute import Substitute
 
 Pair = Tuple[str, str]
 Piece = Tuple[bytes, int, int]
-_REAL = (pickle.NONE + pickle.NONE + pickle.TUPLE3 + pickle.BINPERSID, 0, 4)
-"""The piece that makes the object on the top a real one."""
+"""Bytes, and the begin and the end of what counts of them."""
 
 _DEFAULTS = {"encoding": "ASCII", "errors": "strict", "buffers": None}
 """What a reader takes as if it were given nothing, only slower."""
@@ -54,10 +51,10 @@ class Feed:
         self._data, self._at, self._end = b"", 0, 0
         self._view = memoryview(b"")
 
-    def fill(self, data: bytes, at: int, real_at: Iterable[int]) -> None:
-        """Gives it the pickle at an offset, with names that become real at some."""
-        self._pieces = _pieces_of(data, at, real_at)[::-1]
-        self._begin()
+    def fill(self, pieces: List[Piece]) -> None:
+        """Gives it a pickle."""
+        pieces.reverse()
+        self._pieces, self._at = pieces, self._end
 
     def _begin(self) -> None:
         """Begins the next piece."""
@@ -83,27 +80,6 @@ class Feed:
         begin, end = self._at, self._data.find(b"\n", self._at, self._end)
         self._at = self._end if end < 0 else end + 1
         return self._data[begin : self._at]
-
-
-def _pieces_of(data: bytes, at: int, real_at: Iterable[int]) -> List[Piece]:
-    """The pieces of a respelled pickle: bytes, and the part of them that counts."""
-    pieces: List[Piece] = []
-    for place in real_at:
-        _respell(pieces, data, at, place)
-        pieces.append(_REAL)
-        at = place
-    _respell(pieces, data, at, len(data))
-    return pieces
-
-
-def _respell(pieces: List[Piece], data: bytes, at: int, stop: int) -> None:
-    end = -1
-    while at != end:
-        spelled, end, past = respelled(data, at, stop)
-        pieces.append((data, at, end) if spelled is None else (spelled, 0, len(spelled)))
-        if past > end:
-            pieces.append((data, end, past))
-        at = past
 
 
 class Reader(pickle.Unpickler):
@@ -134,7 +110,7 @@ class Reader(pickle.Unpickler):
         """The object of the accepted pickle at an offset. `is_old`: whether its names are those of
         Python 2.
         """
-        self._feed.fill(data, at, self._uses.real_at(data, at, is_old))
+        self._feed.fill(self._uses.respelled(data, at, is_old))
         made = self.load()
         if not self._uses.is_whole:
             raise Misused("the pickle has instructions that no pickler writes")

@@ -16,7 +16,7 @@ from ._answers import Misused
 from ._guard import _loads
 from ._storklocker import begin_uses, uses
 from ._substitute import IS_WRAPPER, Substitute
-from ._substitutes import substitute_of
+from ._substitutes import Piece, substitute_of
 
 Pair = Tuple[str, str]
 
@@ -66,23 +66,22 @@ class Uses:
         self._numbers = _SHARED if is_shared else _Numbers()
         self._is_old = False
 
-    def real_at(self, data: bytes, at: int, is_old: bool) -> List[int]:
-        """The offsets at which the name on the top of the stack becomes the real object, in the
-        pickle at an offset. Raises Misused if the pickle has another name as a value.
+    def respelled(self, data: bytes, at: int, is_old: bool) -> List[Piece]:
+        """What a reader is given in place of the pickle at an offset. Raises Misused if the pickle
+        has a name as a value that can't be the real object.
         """
         self._is_old = is_old
         number_of = self._number_of
         if self._numbers is _SHARED:
             number_of = _shared_old if is_old else _shared_new
-        places, self.is_whole, number, place = uses(self._kept, data, at, number_of)
+        pieces, self.is_whole, number, place = uses(self._kept, data, at, number_of)
         if place >= 0:
             pair = next(pair for pair, its in self._numbers.of.items() if its == number)
             raise Misused(
                 f"{'.'.join(pair)} is a value at byte {place:,}: it is loaded through a substitute,"
                 " which can be called, but doesn't stay in what is loaded"
             )
-        places.sort()
-        return places
+        return pieces
 
     def _number_of(self, module: bytes, name: bytes) -> int:
         """The number and the role of what an import asks for, given the instructions that push the

@@ -134,6 +134,7 @@ class Sanitized(unittest.TestCase):
             "test_joblib_files.Hastened",
             "test_builds",
             "test_uses",
+            "test_walk",
         )
 
 

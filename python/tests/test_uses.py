@@ -288,10 +288,10 @@ class Follows(unittest.TestCase):
         for _ in range(20_000):
             data = bytes(chance.choices(codes if chance.random() < 0.8 else range(256),
                                         k=chance.randrange(60)))
-            places, is_whole, number, place = uses(
+            pieces, is_whole, number, place = uses(
                 begin_uses(), data, 0, lambda *given: 1 + chance.choice((0, 1, 2, 4, 16)) * 1024
             )
-            self.assertTrue(all(0 < it <= len(data) for it in places))
+            self.assertTrue(all(0 <= begin < end <= len(of) for of, begin, end in pieces))
             self.assertLess(place, len(data))
             self.assertLess(is_whole, 2)
             self.assertLess(number, 2)
@@ -306,6 +306,40 @@ class Follows(unittest.TestCase):
         self.assertEqual(uses(kept_, b"N.", 5, len), ([], False, 0, -1))
         with self.assertRaises(ZeroDivisionError):
             uses(kept_, b"ca\nb\n.", 0, lambda *given: 1 // 0)
+
+    def test_a_value_of_another_pickle_does_not_become_real(self):
+        """Where it was pushed lies outside of these bytes, or isn't what stands there."""
+        first = b"}q\0K\1" + b"N0" * 500 + b"ca\nb\nsN."
+        for second in (b"h\0.", b"N" * 2000 + b"h\0."):
+            kept_ = begin_uses()
+            number_of = lambda *given: 1 + 3 * 1024  # (the two roles that no name has at once)
+            self.assertEqual(uses(kept_, first, 0, number_of)[1:], (True, 0, -1))
+            told = uses(kept_, second, 0, number_of)
+            self.assertEqual(told, ([], False, 1, len(first) - 8))
+            told = uses(kept_, first + second, len(first), number_of)
+            self.assertEqual(told, ([], False, 1, len(first) - 8))
+
+    @unittest.skipIf(sys.implementation.name == "pypy", "PyPy shows no such lists")
+    def test_places_that_are_changed_meanwhile(self):
+        data = b"](" + b"N" * 777 + b"ca\nb\neca\nc\na."
+        real_at = data.index(b"\nec") + 1
+        for places in ([-1], [1 << 70], [len(data) + 1], ["a"], [0] * 9000, [real_at - 1, 5]):
+            told = []
+
+            def number_of(module, name):
+                told.extend(it for it in gc.get_objects() if type(it) is list and it == [real_at])
+                for it in told:
+                    it[:] = places
+                return 1 + 1024
+
+            with self.subTest(places=places[:3]):
+                if len(places) == 1:
+                    with self.assertRaises((ValueError, TypeError, OverflowError)):
+                        uses(begin_uses(), data, 0, number_of)
+                else:
+                    [(of, begin, end)] = uses(begin_uses(), data, 0, number_of)[0]
+                    self.assertEqual(end - begin, len(data) + 4 * (1 + len(places)))
+                self.assertEqual(len(told), 1)
 
 
 if __name__ == "__main__":
