@@ -116,12 +116,8 @@ static const uint8_t effects[256] = {
 
 /* Has a name become the real object, behind the instruction that pushes it and those that memoize
    it there. */
-static int make_real(struct uses *u, slot s) {
-    size_t length, at = place_of(s);
-    if (at < u->start) { /* in another pickle */
-        u->fault = s;
-        return LOST;
-    }
+static int make_real(struct uses *u, size_t at) {
+    size_t length;
     do {
         length = length_of(u->bytes + at, u->length - at);
         at += length;
@@ -134,7 +130,7 @@ static int make_real(struct uses *u, slot s) {
 
 static int use_known(struct uses *u, slot s) {
     if (role_of(u, s) & BECOMES_REAL && mask_of(s) == 0)
-        return make_real(u, s);
+        return make_real(u, place_of(s)); /* in this pickle, as all names on the stack */
     if (kind_of(s) == DICT)
         s = u->kept->dicts[place_of(s)];
     if ((kind_of(s) == NAME && !(role_of(u, s) & WRAPS)) || (kind_of(s) == TUPLE && mask_of(s))) {
@@ -405,7 +401,7 @@ PyObject *uses(PyObject *Py_UNUSED(module), PyObject *args) {
     u.start = start < 0 || (size_t)start > u.length ? u.length : (size_t)start;
     u.next = u.changes.last = u.start;
     int is = followed_all(&u);
-    if (is != FAILED && !PyErr_Occurred() && PyList_Sort(u.real) == 0)
+    if (is != FAILED && PyList_Sort(u.real) == 0)
         pieces = u.fault == ABSENT ? respelled(data, u.start, u.next, &u.changes, u.real)
                                    : PyList_New(0);
     PyMem_Free(u.stack);

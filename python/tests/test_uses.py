@@ -308,11 +308,11 @@ class Follows(unittest.TestCase):
             uses(kept_, b"ca\nb\n.", 0, lambda *given: 1 // 0)
 
     def test_a_value_of_another_pickle_does_not_become_real(self):
-        """Where it was pushed lies outside of these bytes, or isn't what stands there."""
+        """In these bytes something else stands where it was pushed, or they end before."""
         first = b"}q\0K\1" + b"N0" * 500 + b"ca\nb\nsN."
         for second in (b"h\0.", b"N" * 2000 + b"h\0."):
             kept_ = begin_uses()
-            number_of = lambda *given: 1 + 3 * 1024  # (the two roles that no name has at once)
+            number_of = lambda *given: 1 + 3 * 1024  # (two roles, which no name has at once)
             self.assertEqual(uses(kept_, first, 0, number_of)[1:], (True, 0, -1))
             told = uses(kept_, second, 0, number_of)
             self.assertEqual(told, ([], False, 1, len(first) - 8))
