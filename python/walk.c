@@ -5,6 +5,7 @@
 #define LENT (1 << 14) /* so many bytes in a row that don't change aren't copied */
 #define FIRST 64       /* the room for the first notes */
 
+enum { BUILD = 'b', FRAME = 0x95 };
 uint8_t layouts[256];
 
 /* When the module is loaded, before any call. */
@@ -81,7 +82,7 @@ struct writing {
 };
 
 static void put(struct writing *w, const void *bytes, size_t count) {
-    w->is_wrong |= count > w->room - w->size;
+    w->is_wrong |= count > w->room - w->size; /* if someone changes the list, which `gc` shows */
     if (w->is_wrong)
         return;
     if (w->out != NULL)
@@ -109,6 +110,7 @@ static void put_stretch(struct writing *w, size_t begin, size_t end) {
     }
 }
 
+/* Writes the instructions between two places. A real object comes before what changes there. */
 static void write_pieces(
     struct writing *w, size_t at, size_t end, const struct notes *changes, PyObject *real) {
     Py_ssize_t next = 0, count = PyList_Size(real);
@@ -125,9 +127,9 @@ static void write_pieces(
         }
         put_stretch(w, at, change);
         if (change < end) {
-            int is_frame = w->bytes[change] == 0x95;
-            put(w, w->bytes[change] == 'b' ? "\x86Q" : "\x85Q", is_frame ? 0 : 2);
-            at = change + (is_frame ? 9 : 1);
+            uint8_t code = w->bytes[change];
+            put(w, code == BUILD ? "\x86Q" : "\x85Q", code == FRAME ? 0 : 2);
+            at = change + (code == FRAME ? 9 : 1);
         }
     } while (change < end);
     add_piece(w, w->made, w->begin, w->size);
