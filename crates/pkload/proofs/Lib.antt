@@ -16,11 +16,19 @@ pub mod Staying
 pub mod Exceeding
 pub mod Costs
 pub mod Ends
+pub mod Billable
 pub mod Refusals
 pub mod Settled
 pub mod SameBytes
 pub mod SameRows
 pub mod OneEnd
+-- a check with a ceiling
+pub mod Few
+pub mod Linear
+pub mod Under
+pub mod Below
+pub mod Estimated
+pub mod Declined
 -- the machine
 pub mod Slots
 pub mod Lights

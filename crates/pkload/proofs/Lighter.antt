@@ -37,7 +37,7 @@ module _ {A B : Type 0} (R : A → B → Type 0) where
   rest_alike (x ∷ xs) (y ∷ ys) h = h.1
   rest_alike _ _ h = absurd h
 
-  keys_alike : (o : Op) (xs : List A) (ys : List B) → Pointwise R xs ys
+  pub keys_alike : (o : Op) (xs : List A) (ys : List B) → Pointwise R xs ys
       → Pointwise R (keys_of o xs) (keys_of o ys)
   keys_alike op.SetItem xs ys h =
       others_alike (behind_first xs) (behind_first ys) (rest_alike xs ys h)

@@ -42,7 +42,7 @@ use Rattle.std.proofs.lemmas.List.{map-append}
 within_below : (tolls : Tolls) (a b : Tally) → IsAtMost a b → IsWithin tolls b → IsWithin tolls a
 within_below tolls a b h w = search (arith, implies_across)
 
-runs_within : (tolls : Tolls) (bill : Bill) (setting : OldStrings) (beginning : Beginning)
+pub runs_within : (tolls : Tolls) (bill : Bill) (setting : OldStrings) (beginning : Beginning)
     (is : List Instruction) → InEachNewRun setting beginning is (EndsBilled bill)
     → IsWithin tolls bill.tally → InEachNewRun setting beginning is (EndsWithin tolls)
 runs_within tolls bill setting beginning is h w =

@@ -72,14 +72,14 @@ module _ (setting : OldStrings) (beginning : Beginning) (from : ℕ) where
       (reports_below (before ++ i ∷ []) is rs h.1))
 
   -- the reports of instructions in two parts
-  record AreParted (before is js : List Instruction) (rs : List Report) : Type 0 where
+  pub record AreParted (before is js : List Instruction) (rs : List Report) : Type 0 where
     pub first : List Report
     pub others : List Report
     pub all : rs ≡ first ++ others
     pub of_first : AreReports before is first
     pub of_others : AreReports (before ++ is) js others
 
-  parted : (before is js : List Instruction) (rs : List Report)
+  pub parted : (before is js : List Instruction) (rs : List Report)
       → AreReports before (is ++ js) rs → AreParted before is js rs
   parted before [] js rs h = record {
     first = [];

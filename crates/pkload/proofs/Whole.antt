@@ -136,7 +136,7 @@ module _ (r : Reading) where
         (along (length s.events) setting p os b s h w.0) w.1 e f
         (λ d t g v q j. row_along ps oss d t g v q j)
 
-  started : Billed r 0 no_bill start
+  pub started : Billed r 0 no_bill start
   started = record {
     shape = record { entries = tt; memo = tt };
     tally = r.none;

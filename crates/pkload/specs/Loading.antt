@@ -115,6 +115,11 @@ module _ (loading : Loading) (policy : Policy) (limits : Bounds) (tolls : Tolls)
         × StaysWithin loading tolls [] right.refused.instructions × (refused.pickle ≡ 0)
 
     -- the answer is that of the check, and what it accepts keeps within the limits
+    abbrev pub IsRightWithin : Extent → Result YesAll RefusedPickle → Type 0
+    IsRightWithin extent answer =
+        MatchResult answer (AcceptedWithin extent) (IsRefused extent)
+
+    -- likewise, with the bill
     abbrev pub IsRightLoading : Extent → Result YesWithBill RefusedPickle → Type 0
     IsRightLoading extent answer =
         MatchResult answer (AcceptedWithBill extent) (IsRefused extent)

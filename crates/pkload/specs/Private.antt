@@ -7,3 +7,4 @@ pub mod Billing
 pub mod Told
 pub mod Meter
 pub mod Settled
+pub mod Ceiling

@@ -2,7 +2,9 @@
 #![tactic(auto)]
 
 mod action;
+mod ceiling;
 mod checking;
+mod estimating;
 mod gathering;
 mod halt;
 pub mod laws;
@@ -19,5 +21,6 @@ mod tally;
 mod tolls;
 
 pub use checking::{Costly, YesWithBill, check_loading};
+pub use estimating::check_estimating;
 pub use tally::Tally;
 pub use tolls::{Excess, Tolls};
