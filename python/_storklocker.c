@@ -178,7 +178,7 @@ static PyObject *answered(const struct request *r, call_of_pairs *call, uint64_t
 static PyObject *verdict(PyObject *module, PyObject *const *given, Py_ssize_t count) {
     struct request r;
     int is_parsed = parse(module, given, count, 3, &r);
-    return is_parsed ? answered(&r, storklocker_check_pairs, NULL) : NULL;
+    return is_parsed ? answered(&r, storklocker_check_within, NULL) : NULL;
 }
 
 static PyObject *row_verdict(PyObject *module, PyObject *const *given, Py_ssize_t count) {
@@ -203,7 +203,7 @@ PyObject *refusal_of(PyObject *pairs, PyObject *data, uint64_t *imports) {
     struct request r = {.data = data, .allow = pairs, .made = Py_None};
     r.list = (const Pairs *)pairs;
     r.settings = &r.list->settings;
-    return parse_bytes(&r) ? answered(&r, storklocker_check_pairs, imports) : NULL;
+    return parse_bytes(&r) ? answered(&r, storklocker_check_within, imports) : NULL;
 }
 
 static PyObject *pairs_of(PyObject *module, PyObject *args) {

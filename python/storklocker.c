@@ -35,6 +35,9 @@ extern uint32_t pkguard_check_loading(
     const struct storklocker_pair *, size_t, const struct storklocker_settings *,
     const struct costs *, const uint8_t *, size_t, uint8_t *, size_t, struct storklocker_verdict *,
     struct bill *);
+extern uint32_t pkguard_check_within(
+    const struct storklocker_pair *, size_t, const struct storklocker_settings *,
+    const struct costs *, const uint8_t *, size_t, uint8_t *, size_t, struct storklocker_verdict *);
 extern uint32_t pkguard_imports_loading(
     const struct storklocker_settings *, const struct costs *, const uint8_t *, size_t, uint8_t *,
     size_t, uint64_t *, struct storklocker_verdict *, struct bill *);
@@ -114,11 +117,14 @@ const char *storklocker_fault_text(uint32_t fault) {
     return texts[fault < sizeof texts / sizeof *texts ? fault : 0];
 }
 
+/* What is checked, and whether the bill is told. */
+enum extent { FIRST, ALL, FIRST_WITHOUT_BILL };
+
 /* Checks the first pickle, or all. */
 static uint32_t check(
     const struct storklocker_pair *pairs, size_t count, const struct storklocker_settings *settings,
     const uint8_t *pickles, size_t length, uint8_t *room, size_t room_length,
-    struct storklocker_verdict *verdict, int all) {
+    struct storklocker_verdict *verdict, enum extent extent) {
     struct storklocker_settings own = settings_of(settings);
     struct storklocker_verdict untold;
     struct storklocker_verdict *told = verdict ? verdict : &untold;
@@ -128,10 +134,13 @@ static uint32_t check(
     pickles = or_nothing(pickles);
     room = or_nothing(room);
     if (limit_costs(&own)) {
-        struct costs costs = costs_of(&own, all);
-        status = pkguard_check_loading(
-            pairs, count, &own, &costs, pickles, length, room, room_length, told, &bill);
-    } else if (all)
+        struct costs costs = costs_of(&own, extent == ALL);
+        status = extent == FIRST_WITHOUT_BILL
+            ? pkguard_check_within(
+                pairs, count, &own, &costs, pickles, length, room, room_length, told)
+            : pkguard_check_loading(
+                pairs, count, &own, &costs, pickles, length, room, room_length, told, &bill);
+    } else if (extent == ALL)
         status = pkguard_check_row(pairs, count, &own, pickles, length, room, room_length, told);
     else
         status = pkguard_check_pairs(pairs, count, &own, pickles, length, room, room_length, told);
@@ -143,7 +152,16 @@ uint32_t storklocker_check_pairs(
     const struct storklocker_pair *pairs, size_t count, const struct storklocker_settings *settings,
     const uint8_t *pickle, size_t pickle_length, uint8_t *room, size_t room_length,
     struct storklocker_verdict *verdict) {
-    return check(pairs, count, settings, pickle, pickle_length, room, room_length, verdict, 0);
+    return check(pairs, count, settings, pickle, pickle_length, room, room_length, verdict, FIRST);
+}
+
+uint32_t storklocker_check_within(
+    const struct storklocker_pair *pairs, size_t count, const struct storklocker_settings *settings,
+    const uint8_t *pickle, size_t pickle_length, uint8_t *room, size_t room_length,
+    struct storklocker_verdict *verdict) {
+    return check(
+        pairs, count, settings, pickle, pickle_length, room, room_length, verdict,
+        FIRST_WITHOUT_BILL);
 }
 
 uint32_t storklocker_check_list(
@@ -164,7 +182,7 @@ uint32_t storklocker_check_row(
     const struct storklocker_pair *pairs, size_t count, const struct storklocker_settings *settings,
     const uint8_t *pickles, size_t pickles_length, uint8_t *room, size_t room_length,
     struct storklocker_verdict *verdict) {
-    return check(pairs, count, settings, pickles, pickles_length, room, room_length, verdict, 1);
+    return check(pairs, count, settings, pickles, pickles_length, room, room_length, verdict, ALL);
 }
 
 /* Writes the limits on costs of a list file that was read. Where it says nothing they stay. Returns

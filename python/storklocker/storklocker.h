@@ -198,6 +198,16 @@ uint32_t storklocker_check_pairs(
     uint8_t *room, size_t room_length,
     struct storklocker_verdict *verdict);
 
+/* Like storklocker_check_pairs, without the bill: in the verdict, `levels` to `memory` are 0. Where
+   costs are limited and the memory isn't, a bound from above suffices for most pickles with few
+   tuples, and the check takes a tenth more than one without limits. */
+uint32_t storklocker_check_within(
+    const struct storklocker_pair *pairs, size_t pair_count,
+    const struct storklocker_settings *settings,
+    const uint8_t *pickle, size_t pickle_length,
+    uint8_t *room, size_t room_length,
+    struct storklocker_verdict *verdict);
+
 /* Like storklocker_check_pairs, with the text of a list file, which is parsed on every call; to
    parse it once, use storklocker_read_list. Each limit is the smaller of the list's and the
    settings'. The `large` and `sorted` of the settings are ignored. A limit on costs, of the list

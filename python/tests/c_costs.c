@@ -34,12 +34,16 @@ static void costs(void) {
         const struct storklocker_settings *limits = &limited[k].settings;
         const uint8_t *pickle = (const uint8_t *)limited[k].pickle;
         size_t length = strlen(limited[k].pickle);
-        struct storklocker_verdict verdict, free;
+        struct storklocker_verdict verdict, within, free;
         IS(storklocker_check_pairs(listed, 2, NULL, pickle, length, NULL, 0, &free) == 0);
         storklocker_check_pairs(listed, 2, limits, pickle, length, NULL, 0, &verdict);
         if (verdict.status != (limited[k].reason != 0) || verdict.reason != limited[k].reason
             || verdict.at != limited[k].at || verdict.taken != (verdict.status ? 0 : free.taken))
             wrong((int)k, "limited");
+        storklocker_check_within(listed, 2, limits, pickle, length, NULL, 0, &within);
+        if (within.status != verdict.status || within.reason != verdict.reason
+            || within.at != verdict.at || within.taken != verdict.taken || within.memory != 0)
+            wrong((int)k, "within limits");
         storklocker_check_row(listed, 2, limits, pickle, length, NULL, 0, &verdict);
         if (verdict.reason != limited[k].reason || verdict.at != limited[k].at)
             wrong((int)k, "limited in a row");
@@ -157,6 +161,38 @@ static void older(void) {
     free(verdict);
 }
 
+/* Within limits on costs, a bound gives the verdict of the bill, which isn't told. */
+static void within(void) {
+    static const struct storklocker_settings limits = LIMITED(9, 9, 99, 99, NONE, 0);
+    static const char *const pickles[] = {
+        "N.", "}K\1)\x85\x85s.", "](N2\x86" "22\x86" "22\x86" "22\x86" "e.", "cx\ny\n}b.",
+        "cx\ny\n)R}b.", "cos\nabs\n.", "](K\1K\2", "NN.", "}\x8c\4" "abcdNs.", "\x8f(NNNN\x90."};
+    struct storklocker_settings given = limits;
+    struct storklocker_verdict verdict, billed;
+    uint8_t room[9] = "rrrrrrrr", same[9] = "rrrrrrrr";
+    for (size_t k = 0; k < sizeof pickles / sizeof *pickles; k++) {
+        const uint8_t *pickle = (const uint8_t *)pickles[k];
+        size_t length = strlen(pickles[k]);
+        storklocker_check_pairs(listed, 2, &limits, pickle, length, same, 8, &billed);
+        storklocker_check_within(listed, 2, &limits, pickle, length, room, 8, &verdict);
+        IS(verdict.weight == 0 && verdict.memory == 0);
+        verdict.levels = billed.levels, verdict.weight = billed.weight;
+        verdict.work = billed.work, verdict.clash = billed.clash, verdict.memory = billed.memory;
+        if (memcmp(&verdict, &billed, sizeof verdict) != 0 || !is_same(room, (char *)same, 8))
+            wrong((int)k, "within");
+    }
+    given.builds = 2;
+    IS(storklocker_check_within(listed, 2, &given, BYTES("N."), NULL, 0, &verdict) == 3);
+    IS(storklocker_check_within(NULL, 0, &limits, NULL, 0, NULL, 0, NULL) == STORKLOCKER_NO);
+    IS(storklocker_check_within(listed, 2, NULL, BYTES("N."), NULL, 0, NULL) == STORKLOCKER_YES);
+    for (long count = 0; count < 100; count++) {
+        grant(count);
+        storklocker_check_within(listed, 2, &limits, BYTES("}K\1Ns."), NULL, 0, &verdict);
+        grant(-1);
+        IS(verdict.status == 0 || verdict.reason == STORKLOCKER_OUT_OF_MEMORY);
+    }
+}
+
 /* Imports within limits on costs: the bill of a yes, and none of what exceeds a limit. */
 static void imports_within(void) {
     static const struct storklocker_settings limits = LIMITED(9, 9, 9, 9, 9999, 0);
@@ -190,6 +226,7 @@ static void imports_within(void) {
 int main(void) {
     costs();
     bills();
+    within();
     imports_within();
     unkept();
     older();

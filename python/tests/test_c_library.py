@@ -15,8 +15,8 @@ SOURCES = [str(PYTHON / "storklocker.c"), str(PYTHON / "heap.c")]
 SANITIZED = "-O1 -g -fno-omit-frame-pointer -fsanitize=address,undefined -fno-sanitize-recover=all"
 WRAPPED = "-Wl,--wrap=malloc,--wrap=realloc,--wrap=free"
 STRICT = "-Wall -Wextra -Wpedantic -Wconversion -Wshadow -Wmissing-prototypes -Werror"
-CALLS = ["check_list", "check_pairs", "check_row", "fault_text", "imports", "imports_loading",
-         "read_list", "reason_text", "version"]
+CALLS = ["check_list", "check_pairs", "check_row", "check_within", "fault_text", "imports",
+         "imports_loading", "read_list", "reason_text", "version"]
 
 
 class Library(unittest.TestCase):

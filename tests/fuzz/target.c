@@ -157,7 +157,7 @@ static void compare_imports(const uint8_t *data, size_t size, Verdict strict) {
 /* Imports within limits on costs are those without, unless a limit is exceeded. */
 static void compare_costs(const uint8_t *data, size_t size) {
     struct storklocker_settings settings = STORKLOCKER_STANDARD;
-    Verdict free, within;
+    Verdict free, within, billed;
     uint64_t wanted, wanted_within;
     settings.levels = 3;
     settings.work = 99;
@@ -171,6 +171,9 @@ static void compare_costs(const uint8_t *data, size_t size) {
         must(wanted_within == 0, "of what costs too much no import is told");
         must(free.status == STORKLOCKER_YES || within.at < free.at, "a refusal comes first");
     }
+    storklocker_check_pairs(LISTED, COUNT, &settings, data, size, room, ROOM, &billed);
+    storklocker_check_within(LISTED, COUNT, &settings, data, size, room, ROOM, &within);
+    must(is_same(billed, within), "a bound gives the answer of the bill");
 }
 
 static void compare_parts(const uint8_t *data, Verdict strict) {

@@ -13,13 +13,14 @@ use Rattle.pkcheck.specs.declared.Loading.{Loading}
 use Rattle.pkmachine.specs.declared.OldStrings.{OldStrings}
 use Rattle.pkcheck.specs.declared.RefusedPickle.{RefusedPickle}
 use Rattle.pkload.specs.Costly.{CostsTooMuch}
-use Rattle.pkload.specs.Loading.{AcceptedWithBill, IsRefused}
+use Rattle.pkload.specs.Loading.{AcceptedWithBill, AcceptedWithin, IsRefused}
 use Rattle.pkload.specs.declared.Costly.{Costly}
 use Rattle.pkload.specs.declared.Excess.{Excess}
 use Rattle.pkload.specs.declared.Excess.TheVariants.{OutOfMemory}
 use Rattle.pkload.specs.declared.Tally.{Tally}
 use Rattle.pkload.specs.declared.Tolls.{Tolls}
 use Rattle.pkload.specs.declared.YesWithBill.{YesWithBill}
+use Rattle.pkcheck.specs.declared.YesAll.{YesAll}
 use Rattle.pkguard.specs.declared.costs.Bill.{Bill}
 use Rattle.pkguard.specs.declared.costs.Costs.{Costs}
 use Rattle.pkguard.specs.declared.settings.Settings.{Settings}
@@ -109,6 +110,15 @@ module _ (loading : Loading) (policy : Policy) (limits : Bounds) (tolls : Tolls)
     pub told : verdict ≡ verdict_of_yes accepted.yes.taken (length accepted.yes.imports)
         accepted.yes.pickles
     pub billed : bill ≡ bill_of accepted.tally accepted.memory
+    pub room : after ≡ before
+
+  -- the pickles are accepted, and what loading each of them costs is within the limits
+  pub record IsYesWithin : Type 0 where
+    pub rest : List ℕ
+    pub accepted : YesAll
+    pub within : AcceptedWithin loading policy limits tolls (memory pickles) (memory rest) extent
+        accepted
+    pub told : verdict ≡ verdict_of_yes accepted.taken (length accepted.imports) accepted.pickles
     pub room : after ≡ before
 
   -- a pickle is refused, and the instructions before that keep within the limits

@@ -29,7 +29,7 @@ ghost use Rattle.pkguard.specs.Guard.{IsYes, IsYesOfRow, Under};
 ghost use Rattle.pkguard.specs.Settings.{PermitsPairs, Sets, limits_by, limits_within};
 ghost use Rattle.pkguard.specs.Settings.{listed_by, loading_by};
 
-pub use costing::{pkguard_check_loading, pkguard_list_costs};
+pub use costing::{pkguard_check_loading, pkguard_check_within, pkguard_list_costs};
 pub use costs::{Bill, Costs};
 pub use layouts::pkguard_layout;
 pub use listing::pkguard_imports_loading;
