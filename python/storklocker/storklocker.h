@@ -190,7 +190,8 @@ const char *storklocker_fault_text(uint32_t fault);
 /* Checks the pickle at the front of the bytes under pairs. Bytes after its STOP are ignored. If the
    pairs are sorted by module and then by name, byte for byte, a listed pair is found in logarithmic
    time; any other order gives the same answer, unless `sorted` is set. A check with limits on costs
-   takes twice as long or more. Never returns STORKLOCKER_NO_LIST. */
+   takes twice as long or more; storklocker_check_within mostly doesn't. Never returns
+   STORKLOCKER_NO_LIST. */
 uint32_t storklocker_check_pairs(
     const struct storklocker_pair *pairs, size_t pair_count,
     const struct storklocker_settings *settings,
@@ -198,9 +199,9 @@ uint32_t storklocker_check_pairs(
     uint8_t *room, size_t room_length,
     struct storklocker_verdict *verdict);
 
-/* Like storklocker_check_pairs, without the bill: in the verdict, `levels` to `memory` are 0. Where
-   costs are limited and the memory isn't, a bound from above suffices for most pickles with few
-   tuples, and the check takes a tenth more than one without limits. */
+/* Like storklocker_check_pairs, without the bill: in the verdict, `levels` to `memory` are 0. If
+   costs are limited, but not the memory, a bound from above suffices for most pickles with few
+   tuples and without BUILD. Such a check takes a tenth to a half more than one without limits. */
 uint32_t storklocker_check_within(
     const struct storklocker_pair *pairs, size_t pair_count,
     const struct storklocker_settings *settings,
