@@ -203,7 +203,7 @@ fn judged_within(alloc: Global, order: &Order<'_>, pickles: &[u8], room: &mut [u
         terms,
         tolls,
     } = order;
-    // Where BUILD comes last and may not take everything, no bound suffices, and only the bill does.
+    // Where BUILD comes last and may not take everything, no bound would suffice.
     if tolls.builds || !pickles.ends_with(BUILD_AND_STOP) {
         let mut source = Memory::new(pickles);
         match check_estimating(alloc, &mut source, permit, terms, tolls) {
