@@ -60,11 +60,11 @@ class Limits(Named):
     are those of dicts and the items of sets. An object weighs 1, an int in digits or bytes an
     eighth of these more, a text or bytes a 64th of its bytes more, and a tuple or frozenset the
     weights of its items more. What a call or an import gives weighs 1, whatever its hash costs. A
-    check with such limits takes a tenth to a half longer if a pickle has few tuples, and twice as
-    long or more if it has many, if it has BUILD and that is limited by `build="made"`, or if memory
-    is limited. `Limits(levels=None, weight=None, work=None)` has none. Say so once, to the list or
-    to the guard: of two such limits, one at its default yields to the other, and otherwise the
-    smaller applies.
+    check with such limits takes a tenth to a half longer if a pickle has at most 64 kB and few
+    tuples, and twice as long or more otherwise, if it has BUILD and that is limited by
+    `build="made"`, or if memory is limited. `Limits(levels=None, weight=None, work=None)` has none.
+    Say so once, to the list or to the guard: of two such limits, one at its default yields to the
+    other, and otherwise the smaller applies.
 
     levels: levels of tuples in a key, each of which hashing descends by calls in C; default 1,000.
         From 1,023 on, a limit is none.
