@@ -98,7 +98,10 @@ fn estimated(rt: &HostRuntime, bytes: &[u8], tolls: &Tolls) -> Option<(bool, u64
 fn bounds(rt: HostRuntime) {
     let standard = Tolls::standard();
     assert_eq!(rt; estimated(&rt, FROZEN, &standard), Some((true, 14)));
-    assert_eq!(rt; estimated(&rt, b"}K\x01K\x02sN.", &standard), Some((false, 7)));
+    assert_eq!(rt;
+        estimated(&rt, b"}K\x01K\x02sN.", &standard),
+        Some((false, 7))
+    );
     assert_eq!(rt; estimated(&rt, DOUBLED, &standard), None);
     assert_eq!(rt; estimated(&rt, b"ca\nb\n)R}b.", &standard), None);
     let mut limited = standard;
