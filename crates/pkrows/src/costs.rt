@@ -97,7 +97,7 @@ fn estimated(rt: &HostRuntime, bytes: &[u8], tolls: &Tolls) -> Option<(bool, u64
 #[test]
 fn bounds(rt: HostRuntime) {
     let standard = Tolls::standard();
-    assert_eq!(rt; estimated(&rt, FROZEN, &standard), Some((true, 14)));
+    assert_eq!(rt; estimated(&rt, FROZEN, &standard), Some((true, 12)));
     assert_eq!(rt;
         estimated(&rt, b"}K\x01K\x02sN.", &standard),
         Some((false, 7))
