@@ -25,19 +25,22 @@ const LISTED: &[u8] = b"(0((K\x01Ndl.";
 type Answer = (Option<YesWithBill>, Option<(u64, Excess)>);
 
 /// How a pickle is checked.
-const TERMS: Terms = Terms {
-    limits: Limits::STANDARD,
-    loading: Loading {
-        memo: Memo::Fresh,
-        old_strings: OldStrings::Unknown,
-    },
-    extent: Extent::OnePickle,
-};
+fn terms() -> Terms {
+    Terms {
+        limits: Limits::STANDARD,
+        loading: Loading {
+            memo: Memo::Fresh,
+            old_strings: OldStrings::Unknown,
+        },
+        extent: Extent::OnePickle,
+    }
+}
 
 fn answer(rt: &HostRuntime, bytes: &[u8], tolls: &Tolls) -> Answer {
     let mut source = Memory::new(bytes);
+    let terms = terms();
     let any = Permit::By(Policy::AnyImport);
-    match check_loading(rt.alloc(), &mut source, &any, &TERMS, tolls) {
+    match check_loading(rt.alloc(), &mut source, &any, &terms, tolls) {
         Ok(Ok(billed)) => (Some(billed), None),
         Ok(Err(_refused)) => (None, None),
         Err(Costly { at, excess, .. }) => (None, Some((at, excess))),
@@ -86,8 +89,9 @@ fn slices(rt: HostRuntime) {
 /// Whether a bound suffices for an answer, and the bytes before its end.
 fn estimated(rt: &HostRuntime, bytes: &[u8], tolls: &Tolls) -> Option<(bool, u64)> {
     let mut source = Memory::new(bytes);
+    let terms = terms();
     let any = Permit::By(Policy::AnyImport);
-    match check_estimating(rt.alloc(), &mut source, &any, &TERMS, tolls) {
+    match check_estimating(rt.alloc(), &mut source, &any, &terms, tolls) {
         Some(Ok(yes)) => Some((true, yes.taken)),
         Some(Err(refused)) => Some((false, refused.no.at)),
         None => None,
