@@ -61,8 +61,8 @@ pub extern "C" fn pkguard_check_loading(
 }
 
 /// Checks pickles as `pkguard_check_loading` does, with the same verdict, and tells no bill. For
-/// one pickle of at most 64 kB, if `costs` doesn't limit the memory, a bound from above mostly
-/// suffices, which takes a third of the time that the bill does.
+/// one pickle, if `costs` doesn't limit the memory, a bound from above mostly suffices, which takes
+/// a fraction of the time that the bill does.
 #[unsafe(no_mangle)]
 pub extern "C" fn pkguard_check_within(
     alloc: Global,
@@ -130,10 +130,6 @@ fn read_costs(alloc: Global, list: &[u8], costs: &mut Costs) -> Verdict
         }
     }
 }
-
-/// So many bytes that all of them in one text, as often as there are bytes, cost less than the
-/// default limit.
-const FEW: usize = 65_536;
 
 /// The last bytes of a pickle whose object has a state.
 const BUILD_AND_STOP: &[u8] = b"b.";
@@ -207,10 +203,10 @@ fn judged_within(alloc: Global, order: &Order<'_>, pickles: &[u8], room: &mut [u
         terms,
         tolls,
     } = order;
-    // In a longer pickle a long text puts the bound above the limits, after all of it was read. So
-    // does a BUILD that may not take everything.
+    // A BUILD that may not take everything puts the bound above the limits, after all of the pickle
+    // was read.
     let has_state = !tolls.builds && pickles.ends_with(BUILD_AND_STOP);
-    if pickles.len() <= FEW && !has_state {
+    if !has_state {
         let mut source = Memory::new(pickles);
         match check_estimating(alloc, &mut source, permit, terms, tolls) {
             Some(Ok(yes)) => return verdict::of_yes(yes.taken, &yes.imports, yes.pickles),

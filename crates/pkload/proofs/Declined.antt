@@ -5,6 +5,7 @@ use Rattle.std.proofs.Common.{ap, subst, ◌∙◌, arith}
 use Rattle.std.proofs.lemmas.Nat.{mul-le}
 use Rattle.std.specs.Prelude.{MatchResult, option_map}
 use Rattle.pkops.specs.Limits.{Bounds}
+use Rattle.pkops.specs.Spelling.{spelling}
 use Rattle.pkread.specs.Rows.{Sight}
 use Rattle.pkread.specs.Sequence.{spellings}
 use Rattle.pkimport.specs.Import.{asked_shown}
@@ -26,9 +27,9 @@ use Rattle.pkload.proofs.Loading.{begins_ready}
 use Rattle.pkload.proofs.Refusals.{parted}
 use Rattle.pkload.proofs.Under.{IsSound, Rises, raised_rises, stays}
 use Rattle.pkload.specs.Bill.{all_billed}
-use Rattle.pkload.specs.Heft.{argument_size}
 use Rattle.pkload.specs.Loading.{IsRefused, IsRightWithin}
-use Rattle.pkload.specs.Private.Ceiling.{FitsUnder, all_raised, bytes_of, lowest, told_raised}
+use Rattle.pkload.specs.Private.Ceiling.{FitsUnder, all_raised, bytes_of, heaviest, lowest}
+use Rattle.pkload.specs.Private.Ceiling.{told_raised}
 use Rattle.pkload.specs.declared.ceiling.Ceiling.{Ceiling}
 use Rattle.pkload.specs.declared.tolls.Tolls.{Tolls}
 
@@ -36,20 +37,21 @@ use Rattle.pkload.specs.declared.tolls.Tolls.{Tolls}
 
 -- a ceiling that is at least as high as a sound one is sound
 sound_higher : (c d : Ceiling) → IsSound c → Rises c d → IsSound d
-sound_higher c d h r = record { some = omega (arith, h.some, r.weight); shallow = r.shallow }
+sound_higher c d h r = record { shallow = r.shallow }
 
 -- what rises twice rises
 rises_twice : (c d e : Ceiling) → Rises c d → Rises d e → Rises c e
 rises_twice c d e h g = record {
   weight = omega (arith, h.weight, g.weight);
   depth = omega (arith, h.depth, g.depth);
+  again = omega (arith, h.again, g.again);
   builds = λ k. h.builds (g.builds k);
   shallow = g.shallow;
 }
 
 -- what is told of an instruction lowers no ceiling
 told_rises : (told : Told) (at : ℕ) (c : Ceiling) → IsSound c → Rises c (told_raised told at c)
-told_rises (Whole i) at c h = raised_rises i.op (argument_size i.arg) at c h
+told_rises (Whole i) at c h = raised_rises i.op (length (spelling i)) at c h
 told_rises (Skipped o count) at c h = raised_rises o count at c h
 
 -- reports lower no ceiling
@@ -72,10 +74,11 @@ more_rise (r ∷ rs) qs c h =
 lower_fits : (tolls : Tolls) (bytes : ℕ) (c d : Ceiling) → Rises c d → FitsUnder tolls bytes d
     → FitsUnder tolls bytes c
 lower_fits tolls bytes c d r f =
-    let all = mul-le bytes c.weight bytes d.weight (omega arith) r.weight in
+    let all = mul-le c.again (heaviest c) d.again (heaviest d) r.again r.weight in
     record {
       levels = omega (arith, r.depth, f.levels);
       weight = omega (arith, r.weight, f.weight);
+      counted = omega (arith, r.again, f.counted);
       work = omega (arith, all, f.work);
       clash = omega (arith, all, f.clash);
       builds = builds_below c.builds d.builds tolls.builds r.builds f.builds;
@@ -84,7 +87,7 @@ lower_fits tolls bytes c d r f =
     }
 
 lowest_sound : IsSound lowest
-lowest_sound = record { some = omega arith; shallow = omega arith }
+lowest_sound = record { shallow = omega arith }
 
 -- ---- refusals
 

@@ -65,7 +65,7 @@ bill_within setting beginning limits tolls is rs bill told allowed e f =
     let good = all_good limits is allowed in
     let memory = memory_fits is bill good e f.few in (
       below_within tolls (length (spellings is)) (all_raised rs lowest) bill.tally
-          (is_below setting beginning is rs bill told good e) f,
+          (is_below setting beginning is rs bill told (omega (arith, f.few)) f.counted e) f,
       omega (arith, memory, f.memory),
     )
 

@@ -15,7 +15,6 @@ use Rattle.pkstack.specs.declared.Takes.TheVariants.{Objects, Slice, SliceAndRec
 use Rattle.pkstack.specs.Shape.{Breach, Entry, Mark, Item, Shape, Taken, and_then, unless, breaks}
 use Rattle.pkstack.specs.Shape.{fetched, items, moved, operands, popped, put, recalled, slice}
 use Rattle.pkstack.specs.Shape.{stored, storing, top}
-use Rattle.pkload.specs.Keys.{behind_first, every_other, keys_of}
 
 -- ---- results
 
@@ -32,7 +31,7 @@ pub ok_then : {X Y : Type 0} (P : X → Type 0) (Q : Y → Type 0) (x : Result X
 ok_then P Q (Ok t) f h on = on t h
 ok_then P Q (Err e) f h on = tt
 
-ok_unless : {X : Type 0} (Q : X → Type 0) (o : Option Breach) (x : Result X Breach) → IfOk x Q
+pub ok_unless : {X : Type 0} (Q : X → Type 0) (o : Option Breach) (x : Result X Breach) → IfOk x Q
     → IfOk (unless o x) Q
 ok_unless Q None x h = h
 ok_unless Q (Some e) x h = tt
@@ -116,26 +115,6 @@ module _ {A : Type 0} where
   put_few (Some x) xs = omega arith
   put_few None [] = omega arith
   put_few None (x ∷ xs) = omega arith
-
-  -- ---- keys
-
-  rest_few : (xs : List A) → length (behind_first xs) ≤ length xs
-  rest_few [] = omega arith
-  rest_few (x ∷ xs) = omega arith
-
-  others_few : (xs : List A) → length (every_other xs) ≤ length xs
-  others_few [] = omega arith
-  others_few (x ∷ []) = omega arith
-  others_few (x ∷ y ∷ xs) = omega (arith, others_few xs)
-
-  -- keys are among the operands
-  pub keys_few : (o : Op) (xs : List A) → length (keys_of o xs) ≤ length xs
-  keys_few op.SetItem xs = omega (arith, others_few (behind_first xs), rest_few xs)
-  keys_few op.SetItems xs = omega (arith, others_few (behind_first xs), rest_few xs)
-  keys_few op.Dict xs = others_few xs
-  keys_few op.AddItems xs = rest_few xs
-  keys_few op.FrozenSet xs = omega arith
-  keys_few _ xs = omega arith
 
   -- ---- moves
 

@@ -25,7 +25,11 @@ pub mod OneEnd
 -- a check with a ceiling
 pub mod Few
 pub mod Linear
+pub mod Flat
 pub mod Under
+pub mod Stock
+pub mod Tops
+pub mod Together
 pub mod Below
 pub mod Estimated
 pub mod Declined

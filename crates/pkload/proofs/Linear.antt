@@ -48,7 +48,7 @@ laid_long _ (Counted payload) = omega arith
 laid_long lay _ = omega arith
 
 -- an instruction spells its code, and at least its line or payload
-spelled_long : (i : Instruction) → 1 + argument_size i.arg ≤ length (spelling i)
+pub spelled_long : (i : Instruction) → 1 + argument_size i.arg ≤ length (spelling i)
 spelled_long i = omega (arith, laid_long (layout_at i.op) i.arg)
 
 -- ---- the tables of memory

@@ -1,27 +1,37 @@
-//! A ceiling of what loading costs, which needs neither stack nor memo.
+//! A ceiling of what loading costs, which follows neither the whole stack nor the memo.
 
-ghost use Rattle.std.specs.Prelude.{◌≡◌, OnOk, true};
-ghost use Rattle.pkops.specs.Inst.{instruction_of};
-ghost use Rattle.pkcheck.specs.Reports.{Whole};
-ghost use Rattle.pkload.specs.Private.Ceiling.{FitsUnder, held, lowest, made, raised, tied};
-ghost use Rattle.pkload.specs.Private.Ceiling.{told_raised};
+ghost use Rattle.std.specs.Prelude.{◌≡◌, ◌≤◌, true};
+ghost use Rattle.pkload.specs.Private.Ceiling.{FitsUnder, blind, heaviest, held, lowest};
+ghost use Rattle.pkload.specs.Private.Ceiling.{exceeded, may_exceed, plain_weight, pushed, raised, repeated, tied};
+ghost use Rattle.pkload.specs.Tally.{Implies};
 
-use crate::memory::argument_bytes;
 use crate::tolls::Tolls;
 use pkcheck::Audience;
 use pkops::{Inst, Op};
 
-/// What bounds the cost of loading a pickle from above. Objects are followed neither on the stack
-/// nor in the memo: each tuple may hold the heaviest and the deepest object that there is.
+/// What bounds the cost of loading a pickle from above. Of the stack only the objects on top are
+/// known that are neither tuples nor frozensets, and of the memo nothing: any other object of a
+/// tuple may be the heaviest and the deepest that there is.
 #[derive(Clone, Copy)]
 pub struct Ceiling {
-    /// No object weighs more.
-    pub weight: u64,
+    /// No tuple or frozenset weighs more.
+    pub tied: u64,
+    /// No other object weighs more than one and so much.
+    pub plain: u64,
     /// No object is deeper.
     pub depth: u64,
+    /// So many entries on top of the stack are objects that are neither tuples nor frozensets.
+    pub flat: u64,
+    /// Whether a mark lies directly below these.
+    pub marked: bool,
+    /// How many objects were pushed again: fetched, doubled, or put into a frozenset.
+    pub again: u64,
     /// Whether there was a BUILD.
     pub builds: bool,
 }
+
+/// So many objects that are pushed again are counted at most.
+const MOST_COUNTED: u64 = 1_073_741_824;
 
 /// So many bytes of a pickle at most: the memory that they take fits 64 bits.
 const MOST_BYTES: u64 = 1_099_511_627_776;
@@ -32,84 +42,203 @@ impl Ceiling {
         ensures { result ≡ lowest }
     {
         Ceiling {
-            weight: 1,
+            tied: 0,
+            plain: 0,
             depth: 0,
+            flat: 0,
+            marked: false,
+            again: 0,
             builds: false,
         }
     }
 
-    /// Makes an object of this weight.
-    fn make(&mut self, weight: u64)
-        ensures { self.new ≡ made weight self.old }
+    /// No object but tuples and frozensets weighs more.
+    fn plain_weight(&self) -> u64
+        ensures { result ≡ plain_weight self.now }
     {
-        self.weight = self.weight.max(weight.min(1_048_575));
+        self.plain.saturating_add(1).min(1_048_575)
     }
 
-    /// Puts at most so many objects into one that weighs one more than they together.
-    fn hold(&mut self, count: u64)
-        ensures { self.new ≡ held count self.old }
+    /// No object weighs more.
+    fn heaviest(&self) -> u64
+        ensures { result ≡ heaviest self.now }
     {
-        self.make(count.saturating_mul(self.weight).saturating_add(1));
+        self.tied.max(self.plain_weight())
     }
 
-    /// Puts at most so many objects into a tuple.
-    fn tie(&mut self, count: u64)
-        ensures { self.new ≡ tied count self.old }
+    /// Knows nothing about the top of the stack.
+    fn blind(&mut self)
+        ensures { self.new ≡ blind self.old }
     {
-        self.hold(count);
-        self.depth = self.depth.saturating_add(1).min(1_023);
+        self.flat = 0;
+        self.marked = false;
     }
 
-    /// Follows an instruction with this opcode at this offset, with a line or payload of so many
-    /// bytes.
-    #[inline(always)]
-    fn raise(&mut self, op: Op, size: u64, at: u64)
-        ensures { self.new ≡ raised op size at self.old }
+    /// Pushes an object that is no tuple or frozenset, and weighs one and so much more.
+    fn push(&mut self, more: u64)
+        ensures { self.new ≡ pushed more self.old }
+    {
+        self.plain = self.plain.max(more);
+        self.flat = self.flat.wrapping_add(1);
+    }
+
+    /// Pushes an object that was counted before.
+    fn repeat(&mut self)
+        ensures { self.new ≡ repeated self.old }
+    {
+        self.blind();
+        if self.again < MOST_COUNTED {
+            self.again += 1;
+        }
+    }
+
+    /// Puts at most so many objects, none heavier than this, into one.
+    fn hold(&mut self, count: u64, weight: u64)
+        ensures { self.new ≡ held count weight self.old }
+    {
+        self.blind();
+        let whole = count.saturating_mul(weight).saturating_add(1);
+        self.tied = self.tied.max(whole.min(1_048_575));
+    }
+
+    /// Puts at most so many objects into a tuple. `is_flat` says that all of them are known to be
+    /// no tuples.
+    fn tie(&mut self, is_flat: bool, count: u64)
+        ensures { self.new ≡ tied is_flat count self.old }
+    {
+        if is_flat {
+            self.hold(count, self.plain_weight());
+            self.depth = self.depth.max(1);
+        } else {
+            self.hold(count, self.heaviest());
+            self.depth = self.depth.saturating_add(1).min(1_023);
+        }
+    }
+
+    /// Puts the objects above the topmost mark into a tuple, by an instruction at this offset.
+    fn tie_slice(&mut self, at: u64)
+        ensures { self.new ≡ raised Op.Tuple 1 at self.old }
+    {
+        if self.marked {
+            self.tie(true, self.flat);
+        } else {
+            self.tie(false, at);
+        }
+    }
+
+    /// Puts the objects above the topmost mark into a frozenset, by an instruction at this offset.
+    fn freeze(&mut self, at: u64)
+        ensures { self.new ≡ raised Op.FrozenSet 1 at self.old }
+    {
+        self.hold(at, self.heaviest());
+        self.repeat();
+    }
+
+    /// Takes a state for an object.
+    fn build(&mut self)
+        ensures { self.new ≡ raised Op.Build 1 0 self.old }
+    {
+        self.blind();
+        self.builds = true;
+    }
+
+    /// Marks the stack.
+    fn mark(&mut self)
+        ensures { self.new ≡ raised Op.Mark 1 0 self.old }
+    {
+        self.flat = 0;
+        self.marked = true;
+    }
+
+    /// Follows an instruction at this offset that may exceed limits, apart from those with a
+    /// payload.
+    fn exceed(&mut self, op: Op, at: u64)
+        ensures { self.new ≡ exceeded op at self.old }
     {
         match op {
-            Op::EmptyTuple => self.depth = self.depth.max(1),
-            Op::Tuple1 => self.tie(1),
-            Op::Tuple2 => self.tie(2),
-            Op::Tuple3 => self.tie(3),
-            Op::Tuple => self.tie(at),
-            Op::FrozenSet => self.hold(at),
-            Op::Build => self.builds = true,
-            Op::Int | Op::Long | Op::Long1 | Op::Long4 => self.make(1 + size / 8),
-            Op::String | Op::BinString | Op::ShortBinString => self.make(1 + size / 64),
-            Op::Unicode | Op::ShortBinUnicode => self.make(1 + size / 64),
-            Op::BinUnicode | Op::BinUnicode8 => self.make(1 + size / 64),
-            Op::BinBytes | Op::ShortBinBytes | Op::BinBytes8 => self.make(1 + size / 64),
+            Op::Tuple1 => self.tie(1 <= self.flat, 1),
+            Op::Tuple2 => self.tie(2 <= self.flat, 2),
+            Op::Tuple3 => self.tie(3 <= self.flat, 3),
+            Op::Tuple => self.tie_slice(at),
+            Op::FrozenSet => self.freeze(at),
+            Op::Build => self.build(),
             _ => {}
         }
+    }
+
+    /// Follows an instruction with this opcode and so many bytes at this offset, and says whether it
+    /// may exceed limits, apart from those with a payload. Each arm knows what it says, so only
+    /// these instructions pay for a test of it.
+    #[inline(always)]
+    fn raise(&mut self, op: Op, size: u64, at: u64) -> bool
+        ensures ceiling { self.new ≡ raised op size at self.old }
+        ensures more { result ≡ may_exceed op }
+    {
+        match op {
+            Op::Tuple1 | Op::Tuple2 | Op::Tuple3 | Op::Tuple | Op::FrozenSet | Op::Build => {
+                self.exceed(op, at);
+                return true;
+            }
+            Op::EmptyTuple => self.tie(true, 0),
+            Op::Memoize | Op::BinPut | Op::LongBinPut | Op::Put => {}
+            Op::Proto | Op::Frame => {}
+            Op::Mark => self.mark(),
+            Op::BinGet | Op::LongBinGet | Op::Get | Op::Dup => self.repeat(),
+            Op::Append | Op::Appends | Op::SetItem | Op::SetItems => self.blind(),
+            Op::AddItems | Op::List | Op::Dict | Op::StackGlobal => self.blind(),
+            Op::Reduce | Op::NewObj | Op::NewObjEx | Op::Obj => self.blind(),
+            Op::Inst | Op::BinPersid | Op::ReadonlyBuffer => self.blind(),
+            Op::Pop | Op::PopMark | Op::Stop => self.blind(),
+            Op::Ext1 | Op::Ext2 | Op::Ext4 => self.blind(),
+            Op::Int | Op::Long | Op::Long1 | Op::Long4 => self.push(size / 8),
+            Op::String | Op::BinString | Op::ShortBinString => self.push(size / 64),
+            Op::Unicode | Op::ShortBinUnicode => self.push(size / 64),
+            Op::BinUnicode | Op::BinUnicode8 => self.push(size / 64),
+            Op::BinBytes | Op::ShortBinBytes | Op::BinBytes8 => self.push(size / 64),
+            _ => self.push(0),
+        }
+        false
+    }
+
+    /// Whether no object is deeper or heavier than the limits allow, and none is built that may not
+    /// be.
+    fn is_within(&self, tolls: &Tolls) -> bool
+        ensures depth { result ≡ true → self.now.depth ≤ tolls.now.levels }
+        ensures weight { result ≡ true → heaviest self.now ≤ tolls.now.weight }
+        ensures builds { result ≡ true → Implies self.now.builds tolls.now.builds }
+    {
+        self.depth <= u64::from(tolls.levels)
+            && self.heaviest() <= u64::from(tolls.weight)
+            && (tolls.builds || !self.builds)
     }
 
     /// Whether a pickle of so many bytes is within the limits, as far as is known.
     pub fn fits_under(&self, tolls: &Tolls, bytes: u64) -> bool
         ensures { result ≡ true → FitsUnder tolls.now bytes self.now }
     {
-        let Some(work) = bytes.checked_mul(self.weight) else {
+        let Some(repeated) = self.again.checked_mul(self.heaviest()) else {
             return false;
         };
-        self.depth <= u64::from(tolls.levels)
-            && self.weight <= u64::from(tolls.weight)
+        let Some(work) = bytes.checked_add(repeated) else {
+            return false;
+        };
+        self.is_within(tolls)
+            && self.again < MOST_COUNTED
             && work <= tolls.work
             && work <= tolls.clash
-            && (tolls.builds || !self.builds)
             && tolls.memory == u64::MAX
             && bytes <= MOST_BYTES
     }
 }
 
-/// The audience of a check that bounds what loading costs. It stops the check behind an instruction
-/// where the ceiling is above the limits, so that little is done twice.
+/// The audience of a check that bounds what loading costs. It stops the check where a tuple, a
+/// frozenset or a BUILD puts the ceiling above the limits, so that little is done twice.
 #[derive(Clone, Copy)]
 pub struct Estimate {
     /// What bounds the cost so far.
     pub ceiling: Ceiling,
     /// The limits.
     pub tolls: Tolls,
-    /// Whether the ceiling is above the limits.
-    pub is_above: bool,
 }
 
 /// The ceiling is above the limits, which says nothing about the pickle.
@@ -124,33 +253,7 @@ impl Estimate {
         Estimate {
             ceiling: Ceiling::lowest(),
             tolls: *tolls,
-            is_above: false,
         }
-    }
-
-    /// Follows an instruction whose object may be above the limits.
-    fn follow(&mut self, op: Op, at: u64)
-        ensures { self.new.ceiling ≡ raised op 0 at self.old.ceiling }
-    {
-        self.ceiling.raise(op, 0, at);
-        let Ceiling {
-            weight,
-            depth,
-            builds,
-        } = self.ceiling;
-        self.is_above = weight > u64::from(self.tolls.weight)
-            || depth > u64::from(self.tolls.levels)
-            || (builds && !self.tolls.builds);
-    }
-
-    /// Follows an instruction whose object weighs more if its line or payload is longer.
-    #[inline(always)]
-    fn weigh(&mut self, inst: &Inst<'_>, at: u64)
-        ensures { self.new.ceiling ≡ told_raised (Whole (instruction_of inst.now)) at
-            self.old.ceiling }
-    {
-        let size = argument_bytes(inst).len() as u64;
-        self.ceiling.raise(inst.op(), size, at);
     }
 }
 
@@ -170,22 +273,10 @@ impl Audience for Estimate {
         false
     }
 
-    // Only a flag leads to an error: a result that another call gives would be tested at every
-    // instruction.
     #[inline(always)]
     fn tell(&mut self, at: u64, inst: &Inst<'_>, _marks: usize) -> Result<(), Above> {
-        if self.is_above {
+        if self.ceiling.raise(inst.op(), inst.len(), at) && !self.ceiling.is_within(&self.tolls) {
             return Err(Above);
-        }
-        match inst.op() {
-            Op::EmptyTuple | Op::Tuple1 | Op::Tuple2 => self.follow(inst.op(), at),
-            Op::Tuple3 | Op::Tuple | Op::FrozenSet | Op::Build => self.follow(inst.op(), at),
-            Op::Int | Op::Long | Op::Long1 | Op::Long4 => self.weigh(inst, at),
-            Op::String | Op::BinString | Op::ShortBinString => self.weigh(inst, at),
-            Op::Unicode | Op::ShortBinUnicode => self.weigh(inst, at),
-            Op::BinUnicode | Op::BinUnicode8 => self.weigh(inst, at),
-            Op::BinBytes | Op::ShortBinBytes | Op::BinBytes8 => self.weigh(inst, at),
-            _ => {}
         }
         Ok(())
     }

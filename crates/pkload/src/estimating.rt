@@ -14,13 +14,14 @@ use pkread::Source;
 use std::alloc::Global;
 
 /// Checks a pickle as [`check_loading`](crate::check_loading) does, without the bill: it bounds
-/// from above what the keys cost, which takes a third of the time that the bill does.
+/// from above what the keys cost, which takes a fraction of the time that the bill does.
 ///
 /// `None` says nothing about the pickle. It is the answer where the bound is above `tolls`, where
-/// these limit the memory, and where more than one pickle is to be checked. An object is taken for
-/// as heavy and as deep as the heaviest and the deepest so far, so the bound is above all limits
-/// behind some twenty tuples of two objects, or three of more, and behind a BUILD that may not take
-/// everything.
+/// these limit the memory, and where more than one pickle is to be checked. What a tuple holds is
+/// taken for as heavy and as deep as the heaviest and the deepest so far, unless the instructions
+/// before it push just these objects, and none of them is a tuple. So the bound is above all limits
+/// behind some twenty tuples of two other objects, or three of more, and behind a BUILD that may
+/// not take everything.
 pub fn check_estimating<R: Source>(
     alloc: Global,
     source: &mut R,
