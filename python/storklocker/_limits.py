@@ -60,9 +60,9 @@ class Limits(Named):
     are those of dicts and the items of sets. An object weighs 1, an int in digits or bytes an
     eighth of these more, a text or bytes a 64th of its bytes more, and a tuple or frozenset the
     weights of its items more. What a call or an import gives weighs 1, whatever its hash costs. A
-    check with such limits takes a tenth to a half longer if a pickle has at most 64 kB and few
-    tuples, and twice as long or more otherwise, if it has BUILD and that is limited by
-    `build="made"`, or if memory is limited. `Limits(levels=None, weight=None, work=None)` has none.
+    check with such limits takes a tenth to a half longer, and twice as long or more if memory is
+    limited, if more than some ten tuples hold other tuples or what was pickled before, or if there
+    is BUILD, limited by `build="made"`. `Limits(levels=None, weight=None, work=None)` has none.
     Say so once, to the list or to the guard: of two such limits, one at its default yields to the
     other, and otherwise the smaller applies.
 

@@ -32,7 +32,7 @@
 extern "C" {
 #endif
 
-#define STORKLOCKER_VERSION "0.3.0.dev17"
+#define STORKLOCKER_VERSION "0.3.0.dev18"
 
 /* The version of the running library; STORKLOCKER_VERSION is the version of this header. */
 const char *storklocker_version(void);
@@ -200,9 +200,9 @@ uint32_t storklocker_check_pairs(
     struct storklocker_verdict *verdict);
 
 /* Like storklocker_check_pairs, without the bill: in the verdict, `levels` to `memory` are 0. If
-   costs are limited, but not the memory, a bound from above suffices for most pickles of at most
-   64 kB with few tuples and without BUILD: their check takes a tenth to a half more than one without
-   limits. */
+   costs are limited, but not the memory, a bound from above suffices for most pickles without BUILD
+   in which at most some ten tuples hold other tuples or what the memo holds: their check takes a
+   tenth to a half more than one without limits. */
 uint32_t storklocker_check_within(
     const struct storklocker_pair *pairs, size_t pair_count,
     const struct storklocker_settings *settings,

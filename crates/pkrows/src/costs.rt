@@ -1,7 +1,7 @@
 //! What the keys of dicts cost, and the limits that refuse it.
 
 use pkcheck::{Extent, Loading, Memo, OldStrings, Permit, Policy, Terms};
-use pkload::{Costly, Excess, Tally, Tolls, YesWithBill, check_loading};
+use pkload::{Costly, Excess, Tally, Tolls, YesWithBill, check_estimating, check_loading};
 use pkops::Limits;
 use pkread::Memory;
 
@@ -24,16 +24,21 @@ const LISTED: &[u8] = b"(0((K\x01Ndl.";
 /// The bill of a yes, or where and why the costs of loading are refused.
 type Answer = (Option<YesWithBill>, Option<(u64, Excess)>);
 
-fn answer(rt: &HostRuntime, bytes: &[u8], tolls: &Tolls) -> Answer {
-    let mut source = Memory::new(bytes);
-    let terms = Terms {
+/// How a pickle is checked.
+fn terms() -> Terms {
+    Terms {
         limits: Limits::STANDARD,
         loading: Loading {
             memo: Memo::Fresh,
             old_strings: OldStrings::Unknown,
         },
         extent: Extent::OnePickle,
-    };
+    }
+}
+
+fn answer(rt: &HostRuntime, bytes: &[u8], tolls: &Tolls) -> Answer {
+    let mut source = Memory::new(bytes);
+    let terms = terms();
     let any = Permit::By(Policy::AnyImport);
     match check_loading(rt.alloc(), &mut source, &any, &terms, tolls) {
         Ok(Ok(billed)) => (Some(billed), None),
@@ -79,4 +84,31 @@ fn slices(rt: HostRuntime) {
     assert_eq!(rt; keys(&rt, MIXED), Some((1, 5, 6, 5)));
     assert_eq!(rt; keys(&rt, FROZEN), Some((0, 3, 6, 6)));
     assert_eq!(rt; keys(&rt, LISTED), Some((0, 1, 1, 1)));
+}
+
+/// Whether a bound suffices for an answer, and the bytes before its end.
+fn estimated(rt: &HostRuntime, bytes: &[u8], tolls: &Tolls) -> Option<(bool, u64)> {
+    let mut source = Memory::new(bytes);
+    let terms = terms();
+    let any = Permit::By(Policy::AnyImport);
+    match check_estimating(rt.alloc(), &mut source, &any, &terms, tolls) {
+        Some(Ok(yes)) => Some((true, yes.taken)),
+        Some(Err(refused)) => Some((false, refused.no.at)),
+        None => None,
+    }
+}
+
+#[test]
+fn bounds(rt: HostRuntime) {
+    let standard = Tolls::standard();
+    assert_eq!(rt; estimated(&rt, FROZEN, &standard), Some((true, 12)));
+    assert_eq!(rt;
+        estimated(&rt, b"}K\x01K\x02sN.", &standard),
+        Some((false, 7))
+    );
+    assert_eq!(rt; estimated(&rt, DOUBLED, &standard), None);
+    assert_eq!(rt; estimated(&rt, b"ca\nb\n)R}b.", &standard), None);
+    let mut limited = standard;
+    limited.memory = 999;
+    assert_eq!(rt; estimated(&rt, FROZEN, &limited), None);
 }
