@@ -9,7 +9,7 @@ import os
 import shlex
 import sys
 from collections import Counter
-from typing import Iterator, Optional, Sequence
+from typing import Callable, Dict, Iterator, Optional, Sequence
 
 from .. import __version__
 from .._lists import has_substitutes
@@ -51,7 +51,8 @@ _LIST = "the list file of permitted names"
 
 def main(words: Optional[Sequence[str]] = None) -> int:
     """Runs the command with these arguments, and returns its status."""
-    asked = command_parser().parse_args(words)
+    words = sys.argv[1:] if words is None else words
+    asked = command_parser(words[0] if words else "").parse_args(words)
     if isinstance(sys.stdout, io.TextIOWrapper):
         # files and pipes get UTF-8; a terminal keeps its encoding
         encoding = None if sys.stdout.isatty() else "utf-8"
@@ -79,8 +80,10 @@ def _end_output() -> None:
         os.dup2(os.open(os.devnull, os.O_WRONLY), sys.stdout.fileno())
 
 
-def command_parser() -> argparse.ArgumentParser:
-    """The parser of the command line, from which `storklocker.pages` is made too."""
+def command_parser(command: str = "") -> argparse.ArgumentParser:
+    """The parser of the command line, from which `storklocker.pages` is made too; for a command,
+    with no other, because each takes as long as some ten files.
+    """
     parser = argparse.ArgumentParser(
         "storklocker",
         description="Lists what pickles would import, before anything loads them.",
@@ -89,12 +92,9 @@ def command_parser() -> argparse.ArgumentParser:
     )
     parser.add_argument("--version", action="version", version=f"storklocker {__version__}")
     commands = parser.add_subparsers(required=True, metavar="COMMAND")
-    _add_scan(commands)
-    _add_check(commands)
-    _add_imports(commands)
-    _add_learn(commands)
-    _add_lint(commands)
-    add_commands(commands)
+    for name, add in _ADDING.items():
+        if name == command or command not in _ADDING:
+            add(commands)
     return parser
 
 
@@ -176,6 +176,17 @@ def _add_lint(commands: "argparse._SubParsersAction[argparse.ArgumentParser]") -
     it = commands.add_parser("lint", help="lists the dangerous names in a list")
     it.add_argument("list", metavar="LIST", help=_LIST)
     it.set_defaults(run=_lint)
+
+
+_ADDING: Dict[str, Callable[["argparse._SubParsersAction[argparse.ArgumentParser]"], None]] = {
+    "scan": _add_scan,
+    "check": _add_check,
+    "imports": _add_imports,
+    "learn": _add_learn,
+    "lint": _add_lint,
+    "list": add_commands,
+}
+"""What adds each command to a parser."""
 
 
 def _jobs(word: str) -> int:

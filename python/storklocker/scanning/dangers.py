@@ -107,11 +107,20 @@ def suspect_heads() -> FrozenSet[bytes]:
 
 def _judged(module: str, name: str) -> Optional[Row]:
     found = [row for row in _rows(module, name) if row is not None]
-    for severity in (DANGER, WARNING, HARMLESS):
-        for row in found:
-            if row.severity == severity:
-                return row
-    return None
+    order = (DANGER, WARNING, HARMLESS)
+    worst = min(found, key=lambda row: order.index(row.severity), default=None)
+    if worst is not None and worst.severity == HARMLESS:
+        return worst  # (to read the shipped lists takes longer than to judge a thousand names)
+    return Row(HARMLESS) if _is_listed(module, name) else worst
+
+
+def _is_listed(module: str, name: str) -> bool:
+    """Whether a shipped list has a name, which isn't dangerous by itself."""
+    module = module.partition("\0")[0]
+    if (module, name) not in _listed():
+        return False
+    row = known().judged(f"{module}.{name}")
+    return row is None or row.severity != DANGER
 
 
 # (the files of a scan mostly import the same names)
@@ -120,11 +129,7 @@ _judged_before = functools.lru_cache(maxsize=4096)(_judged)
 
 def _rows(module: str, name: str) -> Iterator[Optional[Row]]:
     table, module = known(), module.partition("\0")[0]  # as Python finds frozen modules
-    row = table.judged(f"{module}.{name}")
-    if (module, name) in _listed() and (row is None or row.severity != DANGER):
-        yield Row(HARMLESS)
-        return
-    yield row
+    yield table.judged(f"{module}.{name}")
     # a pickle of protocols 0 to 2 may mean another name
     new = renamed((module, name))
     if new != (module, name):

@@ -2,6 +2,7 @@
 
 from __future__ import annotations
 
+import functools
 from typing import Dict, Iterator, List, NamedTuple, Optional, Set, Tuple
 
 HARMLESS = "harmless"
@@ -29,7 +30,7 @@ class Known:
     def __init__(self, text: str) -> None:
         self.rows: Dict[str, Row] = {}
         self._same: Dict[str, str] = {}
-        self._fronts: Set[str] = set()
+        self._led_to: List[str] = []
         self._under: Dict[str, Row] = {}
         self._begun: List[Tuple[str, Row]] = []
         for header, lines in _sections(text):
@@ -42,7 +43,7 @@ class Known:
             for line in lines:
                 name, same = line.split()[:2]
                 self._same[name] = same
-                self._fronts.update(_fronts_of(name))
+                self._led_to.append(name)
         elif kind == "danger":
             for name, example in _examples(lines):
                 self._put(name, Row(kind, why, example))
@@ -51,17 +52,25 @@ class Known:
             if kind == _LEADS:
                 sink = self.judged(why)
                 severity, why = "warning", f"It leads to {why}. {sink.why if sink else ''}".rstrip()
+            row = Row(severity, why)
             for name in " ".join(lines).split():
-                self._put(name, Row(severity, why))
+                self._put(name, row)
 
     def _put(self, name: str, row: Row) -> None:
         self.rows.setdefault(name, row)
         if row.severity != HARMLESS:
-            self._fronts.update(_fronts_of(name))
+            self._led_to.append(name)
+        if not name.endswith("*"):
+            return
         if name.endswith(".*"):
             self._under.setdefault(name[:-2], row)
-        elif name.endswith("*"):
+        else:
             self._begun.append((name[:-1], row))
+
+    @functools.cached_property
+    def _fronts(self) -> Set[str]:
+        """What the harmful names and the aliases are in."""
+        return {front for name in self._led_to for front in _fronts_of(name)}
 
     def judged(self, name: str) -> Optional[Row]:
         """What is known of a dotted name."""
