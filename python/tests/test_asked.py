@@ -13,6 +13,7 @@ import zlib
 from storklocker.scanning.all_readings import READINGS, asked
 from storklocker.scanning.budget import Budget
 from storklocker.scanning.judging import Question, reports_of
+from storklocker.scanning.marks import is_plain
 from storklocker.scanning.names import NOTHING
 from storklocker.scanning.readings import Place
 from storklocker.scanning.source import BLOCK, in_memory
@@ -103,6 +104,14 @@ class Asked(unittest.TestCase):
         for data in (npy("'|O'", b""), npy("'<i4'", b"abcd") + npy("'|O'", b"")):
             found = list(reports_of("file", io.BytesIO(data), Question(NOTHING)))
             self.assertEqual([it.status for it in found], ["refused"], found)
+
+    def test_a_plain_file_is_one_for_a_single_reader(self):
+        for data in files():
+            for path in ("file", "a.dat", "a.DISTCP", "b/.metadata"):
+                names = [name for name, _ in asked(path, place_of(data).source)]
+                if is_plain(path, data):
+                    self.assertEqual(names, ["pickle"], (path, data[:99]))
+        self.assertTrue(is_plain("file", pickle.dumps(["a text"] * 99, 2)))
 
     def test_few_are_asked_about_a_pickle(self):
         source = place_of(pickle.dumps(["a text"] * 99, 2)).source

@@ -93,7 +93,7 @@ class Resuming(unittest.TestCase):
         (self.folder / "f").mkdir()
         self.put("f/a", GOOD)
         words = ("--resume", self.folder / "store")
-        with mock.patch.object(scan, "_opened", side_effect=OSError("no answer")):
+        with mock.patch.object(scan, "_descriptor_of", side_effect=OSError("no answer")):
             self.assertEqual(self.scans(*words)[::2], (2, ["a"]))
         self.assertEqual(self.scans(*words)[::2], (0, ["a"]))
         self.assertEqual(self.scans(*words)[::2], (0, []))

@@ -1,8 +1,10 @@
 """A file that is one small pickle is reported on in a short way, and as in the long one."""
 
 import io
+import os
 import pickle
 import random
+import tempfile
 import unittest
 from unittest import mock
 
@@ -10,9 +12,11 @@ from common import OBJECTS, SEEDS
 from storklocker import AllowList, Limits
 from storklocker.scanning import judging
 from storklocker.scanning.condensing import condensed
+from storklocker.scanning.files import File
 from storklocker.scanning.judging import Question, reports_of
 from storklocker.scanning.lone import Lone
-from storklocker.scanning.source import BLOCK, in_memory
+from storklocker.scanning.scan import scan_file
+from storklocker.scanning.source import BLOCK, whole_of
 from test_asked import files
 
 TIMES = 500
@@ -74,6 +78,33 @@ class Short(unittest.TestCase):
             for allow in LISTS:
                 self.assertEqual(*both(data, allow), (data[:99], allow))
 
+    def test_reports_on_files_are_those_on_their_bytes(self):
+        with tempfile.TemporaryDirectory() as folder:
+            path = os.path.join(folder, "file")
+            for data in (b"", *pickles()):
+                with open(path, "wb") as file:
+                    file.write(data)
+                found = scan_file(File(path), Question(None, True))
+                self.assertEqual(found, both(data, None, path)[1], data[:99])
+
+    def test_what_is_not_whole_is_read_again(self):
+        with tempfile.TemporaryFile() as file:
+            for size in (0, 1, BLOCK - 1, BLOCK, BLOCK + 1, 2 * BLOCK):
+                file.truncate(size)
+                wanted = bytes(size) if size <= BLOCK else b""
+                self.assertEqual(whole_of(file.fileno()), wanted)
+                self.assertEqual(os.lseek(file.fileno(), 0, os.SEEK_CUR), 0)
+            file.truncate(9)
+            for size in (0, 5, 8, 10, BLOCK):  # as if it grew or shrank
+                with mock.patch("os.lseek", side_effect=lambda *_: size):
+                    self.assertEqual(whole_of(file.fileno()), b"")
+        ends = os.pipe()
+        os.write(ends[1], b"N.")
+        os.close(ends[1])
+        self.assertEqual(whole_of(ends[0]), b"")
+        with open(ends[0], "rb") as left:
+            self.assertEqual(left.read(), b"N.")
+
     def test_reports_on_changed_pickles(self):
         chosen, seeds = random.Random(1), [*SEEDS, DEEP, imports(3)]
         for _ in range(TIMES):
@@ -90,14 +121,13 @@ class Short(unittest.TestCase):
         allow = AllowList([*PAIRS, ("collections", "deque"), ("builtins", "set")])
         allow |= AllowList([("collections", "Counter")])
         for value in OBJECTS:
-            source = in_memory(io.BytesIO(pickle.dumps(value, 4)))
             for listed in (None, allow):
-                self.assertIsNotNone(Lone(listed).told("file", source), value)
+                self.assertIsNotNone(Lone(listed).told("file", pickle.dumps(value, 4)), value)
 
     def test_what_is_not_permitted_takes_the_long_way(self):
         allow = AllowList([*PAIRS, ("joblib.numpy_pickle", "NumpyArrayWrapper")])
         for data in (pickle.dumps(pickle.loads, 4), DEEP, HEAVY, ARRAY, imports(100)):
-            self.assertIsNone(Lone(allow).told("file", in_memory(io.BytesIO(data))), data[:99])
+            self.assertIsNone(Lone(allow).told("file", data), data[:99])
 
 
 if __name__ == "__main__":

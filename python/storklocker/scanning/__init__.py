@@ -2,6 +2,7 @@
 
     report.py       the report on a file or a member
     readings.py     what the readers that people use would get to; all_readings.py lists them
+    marks.py        by what a file shows which of them have to be asked
     pickles.py, npys.py, tars.py, packed.py, zips.py, zip_layout.py, checkpoints.py, stores.py and
     shelves.py      the rule of each reader
     trails.py       pickles in stores, from the middle on

@@ -2,22 +2,15 @@
 
 from __future__ import annotations
 
-import re
 import struct
 from typing import Callable, Dict, Iterator, List, Set, Tuple
 
+from .marks import BERKELEY_ORDERS
 from .readings import Found, Piece, Place
 from .source import Source, joined
 from .stores import is_value, searched
 
 KIND = "Berkeley DB"
-_ORDERS = {
-    struct.pack(f"{order}I", number): order
-    for number in (0x53162, 0x61561, 0x42253)
-    for order in "<>"
-}
-"""The order of bytes in numbers, by those behind the first twelve of the file."""
-BERKELEY_MARK = b".{12}(?:%b)" % b"|".join(map(re.escape, _ORDERS))
 _HEADER, _OVERFLOW = 26, 7
 """The length of a page's header, and the kind of page that has a part of a long value."""
 _LEAST, _MOST = 1 << 9, 1 << 16
@@ -27,7 +20,7 @@ _LEAST, _MOST = 1 << 9, 1 << 16
 def berkeley_reading(place: Place) -> Found:
     """What a program gets to that loads a value."""
     source = place.source
-    order = _ORDERS.get(source.read(12, 4))
+    order = BERKELEY_ORDERS.get(source.read(12, 4))
     if order is None:
         return False
     known: List[Tuple[int, int]] = []

@@ -2,22 +2,20 @@
 
 from __future__ import annotations
 
-import re
 import zlib
 
 from .._reasons import Reason
 from .budget import Budget
+from .marks import TIME
 from .names import NOTHING, WIDEST, imports_within, verdict_at
 from .reaching import LENGTHS
 from .readings import Found, Place
 from .source import BLOCK, Source
 from .stores import is_import, is_in_words, is_value
 
-_TIME, _PICKLED = 4, 64
-"""The bytes of cachelib's time, and more than Django's pickle of a time has."""
+_PICKLED = 64
+"""More bytes than Django's pickle of a time has."""
 _LOOKED_AT = 1 << 20
-CACHE_MARK = b".{%d}[%b]" % (_TIME, re.escape(bytes(LENGTHS)))
-"""An instruction stands where the value begins."""
 _NEVER = (b"", b"P", b"Q")
 """No value, or one that cachelib stops at: an object that is kept elsewhere."""
 
@@ -25,13 +23,13 @@ _NEVER = (b"", b"P", b"Q")
 def cachelib_reading(place: Place) -> Found:
     """What cachelib gets to. The bytes in front say nothing: the file may be another one, too."""
     source = place.source
-    value = source.part(_TIME, source.size)
+    value = source.part(TIME, source.size)
     if place.is_raw or value.read(0, 1) in _NEVER:
         return False
     # words may have the letter c there
     is_pickle = is_import(value) if is_in_words(source) else is_value(value)
     if is_pickle and not _is_inside(source):
-        yield place.piece("cachelib", _TIME, True, 1)
+        yield place.piece("cachelib", TIME, True, 1)
     return False
 
 
@@ -39,16 +37,16 @@ def _is_inside(source: Source) -> bool:
     """Whether the value is the rest of a pickle at the first byte, or another one behind it, and
     imports nothing that isn't seen from there.
     """
-    front, at = source.read(0, _TIME), 0
-    while at < _TIME:
+    front, at = source.read(0, TIME), 0
+    while at < TIME:
         length = LENGTHS.get(front[at], -1)
         if length < 0:
             return False
         at += 1 + length
     data = source.read(0, _LOOKED_AT)
-    whole, inner = (imports_within(it, NOTHING, WIDEST) for it in (data, data[_TIME:]))
-    is_behind = whole.verdict.taken == _TIME
-    return at == _TIME and (is_behind or inner.names.keys() <= whole.names.keys())
+    whole, inner = (imports_within(it, NOTHING, WIDEST) for it in (data, data[TIME:]))
+    is_behind = whole.verdict.taken == TIME
+    return at == TIME and (is_behind or inner.names.keys() <= whole.names.keys())
 
 
 def packed_behind(source: Source, budget: Budget) -> int:

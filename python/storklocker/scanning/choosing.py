@@ -23,6 +23,8 @@ class Choice:
 
     def takes(self, path: str, is_folder: bool = False) -> bool:
         """Whether to scan a file, or to enter a folder. Counts those that are left out."""
+        if not (self._exclude or self._include):
+            return True
         taken = not _matches(self._exclude, path)
         if taken and not is_folder and self._include:
             taken = _matches(self._include, path)

@@ -48,7 +48,7 @@ class _Rest:
         """Whether there is room for a report. Counts it otherwise."""
         if self._first is None:
             self._first = report
-            if _is_small(report):
+            if is_small(report):
                 return True  # most files have no other
         elif not self._is_weighed:
             self._quiet -= _weight(self._first)
@@ -89,7 +89,7 @@ class _Rest:
         )
 
 
-def _is_small(report: Report) -> bool:
+def is_small(report: Report) -> bool:
     """Whether there is room for it, if no other is in front of it."""
     if report.is_finding or report.listing or len(report.imports) > 7:
         return False

@@ -3,6 +3,7 @@
 from __future__ import annotations
 
 import itertools
+import operator
 import os
 from typing import Callable, Iterable, Iterator, List, NamedTuple, Optional, Tuple
 
@@ -51,7 +52,9 @@ class Files:
         self._paths, self.recursive, self.choice = list(paths), recursive, choice or Choice()
         self._roots = {os.path.realpath(path) for path in self._paths if os.path.isdir(path)}
         self._left = {above for root in self._roots for above in _parents(root)} | _SYSTEM
-        self._file: Callable[[str], File] = _measured if is_measured else _unmeasured
+        self._file: Callable[[str], File] = File
+        if is_measured:
+            self._file = _measured
         self.left_out = 0
 
     def __iter__(self) -> Iterator[File]:
@@ -75,11 +78,14 @@ class Files:
     def _entered(self, found: Iterator["os.DirEntry[str]"]) -> Iterator[File]:
         below = []
         for entry in _sorted(found):
-            if not self.choice.takes(entry.path, _is(entry.is_dir)):
-                continue
             if _is(entry.is_file):
-                yield self._file(entry.path)
-            elif not _is(entry.is_dir):
+                if self.choice.takes(entry.path):
+                    yield self._file(entry.path)
+                continue
+            is_folder = _is(entry.is_dir)
+            if not self.choice.takes(entry.path, is_folder):
+                continue
+            if not is_folder:
                 yield File(entry.path, False)
             elif not self.recursive:
                 self.left_out += 1
@@ -136,10 +142,6 @@ def is_url(path: str) -> bool:
     return "://" in path
 
 
-def _unmeasured(path: str) -> File:
-    return File(path)
-
-
 def _measured(path: str) -> File:
     try:
         found = os.stat(path)
@@ -164,7 +166,7 @@ def _stamp_beside(path: str) -> str:
 def _sorted(found: Iterator["os.DirEntry[str]"]) -> Iterator["os.DirEntry[str]"]:
     """The entries in the order of their names, in blocks: a folder may hold a million."""
     while True:
-        block = sorted(itertools.islice(found, _BLOCK), key=lambda entry: entry.name)
+        block = sorted(itertools.islice(found, _BLOCK), key=operator.attrgetter("name"))
         if not block:
             return
         yield from block

@@ -2,8 +2,8 @@
 
 from __future__ import annotations
 
-import json
-from typing import Dict, Iterable, Iterator
+import functools
+from typing import Dict, Iterable, Iterator, List
 
 from .report import NO_PICKLE, UNJUDGED, Finding, Pair, Report, dotted, shown
 from .severity import DANGER, UNREADABLE, WARNING
@@ -14,7 +14,7 @@ _QUIET = 20
 
 
 def table(reports: Iterable[Report], names_all: bool = False) -> Iterator[str]:
-    """Lines for each file or member that is a pickle or a finding, then a line of totals.
+    """Texts of lines for each file or member that is a pickle or a finding, then a line of totals.
 
     names_all: also a line for what has no pickle, and what that is.
     """
@@ -23,7 +23,7 @@ def table(reports: Iterable[Report], names_all: bool = False) -> Iterator[str]:
         word = _word(report)
         count = found[word] = found.get(word, 0) + 1
         if report.status != NO_PICKLE or report.findings or names_all and count <= _QUIET:
-            yield from _lines(report, word)
+            yield "\n".join(_lines(report, word))
     if names_all and found.get(NO_PICKLE, 0) > _QUIET:
         yield f"{_INDENT}{found[NO_PICKLE] - _QUIET} more without a pickle"
     yield ", ".join(f"{count} {status}" for status, count in sorted(found.items())) or "no files"
@@ -39,15 +39,15 @@ def _word(report: Report) -> str:
     return report.status
 
 
-def _lines(report: Report, word: str) -> Iterator[str]:
+def _lines(report: Report, word: str) -> List[str]:
     line = f"{word:10}  {shown(report.path)}  {report.kind}  {shown(report.why)}"
-    yield line.rstrip()
-    missing = set(report.missing)
+    lines, missing = [line.rstrip()], set(report.missing)
     for pair in report.imports:
-        yield f"{_INDENT}{'off the list' if pair in missing else 'imports'}: {_named(pair)}"
+        lines.append(f"{_INDENT}{'off the list' if pair in missing else 'imports'}: {_named(pair)}")
     for finding in report.findings:
         if finding.why != report.why:
-            yield f"{_INDENT}{told(finding)}"
+            lines.append(f"{_INDENT}{told(finding)}")
+    return lines
 
 
 def told(finding: Finding) -> str:
@@ -57,12 +57,16 @@ def told(finding: Finding) -> str:
     return f"{word}: {name}{shown(finding.why)}"
 
 
+# (the files of a scan mostly import the same names)
+@functools.lru_cache(maxsize=1024)
 def _named(pair: Pair) -> str:
     return shown(dotted(pair), 256)
 
 
 def as_json(reports: Iterable[Report]) -> Iterator[str]:
     """An array of objects, one for each report."""
+    import json  # a table has no need of it
+
     front = "["
     for report in reports:
         yield front + json.dumps(report.as_dict())

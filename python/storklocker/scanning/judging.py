@@ -3,6 +3,7 @@
 from __future__ import annotations
 
 import functools
+import io
 import itertools
 import re
 from typing import TYPE_CHECKING, BinaryIO, Dict, Iterator, List, NamedTuple, Optional, Tuple
@@ -24,7 +25,7 @@ from .report import (
 )
 from .rows import Row, row_of
 from .severity import KINDS, NOTE, REFUSED, UNREADABLE
-from .source import Source, source_of
+from .source import Source, in_memory, source_of
 
 if TYPE_CHECKING:
     from .._pairs import Names
@@ -46,16 +47,23 @@ class Question(NamedTuple):
 def prepare() -> None:
     """Does what is done with the first file."""
     all_asked()
-    import_findings([("builtins", "list")])
+    import_findings([("nowhere", "unknown")])  # which is looked for in all tables
 
 
 def reports_of(
-    path: str, file: BinaryIO, question: Question, beside: Beside = nothing
+    path: str,
+    file: BinaryIO,
+    question: Question,
+    beside: Beside = nothing,
+    may_be_lone: bool = True,
 ) -> Iterator[Report]:
-    """The reports on a file: one for each piece that is a pickle, and one for each finding."""
+    """The reports on a file: one for each piece that is a pickle, and one for each finding. It may
+    not be lone if `lone_report` has been asked.
+    """
     try:
         source = source_of(file)
-        lone = _lone_report(path, source, question)
+        may_be_lone &= len(source.front()) == source.size
+        lone = lone_report(path, source.front(), question) if may_be_lone else None
         if lone is not None:
             yield lone
             return
@@ -69,20 +77,22 @@ _lone = Lone(None)
 """Tells of lone pickles under the list of the last file."""
 
 
-def _lone_report(path: str, source: Source, question: Question) -> Optional[Report]:
-    """The report on a file that is one small pickle, as most are; None if it isn't known to be."""
+def lone_report(path: str, data: bytes, question: Question) -> Optional[Report]:
+    """The report on a file that is these bytes, one small pickle, as most are; None if it isn't
+    known to be.
+    """
     global _lone
     lone = _lone
     if lone.allow is not question.allow:
         lone = _lone = Lone(question.allow)
-    told = lone.told(path, source)
+    told = lone.told(path, data)
     if told is None:
         return None
-    status, why = _accepted(source.size, len(told.imports), question.allow)
-    sha256 = _sha256(source) if question.with_sha256 else ""
+    size, imports = len(data), told.imports
+    status, why = _accepted(size, len(imports), question.allow)
+    sha256 = _sha256(in_memory(io.BytesIO(data))) if question.with_sha256 else ""
     return Report(
-        *(path, "pickle", status, why, source.size, sha256, 1),
-        *(told.imports, (), told.findings, (), 0, path),
+        path, "pickle", status, why, size, sha256, 1, imports, (), told.findings, (), 0, path
     )
 
 

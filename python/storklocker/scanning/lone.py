@@ -3,6 +3,7 @@
 from __future__ import annotations
 
 import functools
+import io
 from typing import NamedTuple, Optional, Tuple
 
 from .._lists import AllowList, settings_of, within
@@ -11,11 +12,12 @@ from .._storklocker import imports
 from .costs import with_costs
 from .dangers import import_findings
 from .joblib_files import WRAPPER_NAMES
+from .marks import is_plain
 from .names import NOTHING, limits_under, pair_of
 from .readings import all_asked
 from .report import LONGEST, Finding, Pair, sorted_findings
 from .rows import CLAIM, limits_costs, may_be_listed
-from .source import BLOCK, Source
+from .source import BLOCK, in_memory
 
 _ROOM = LONGEST
 """The most bytes of encoded imports that are told of here."""
@@ -43,15 +45,16 @@ class Lone:
         # (the files of a scan mostly import the same names)
         self._known = functools.lru_cache(maxsize=256)(self._judged)
 
-    def told(self, path: str, source: Source) -> Optional[Told]:
-        """What is to be told of a file; None if it isn't known to be such a file."""
-        data = source.front()
+    def told(self, path: str, data: bytes) -> Optional[Told]:
+        """What is to be told of a file that is these bytes, at most `BLOCK`; None if it isn't known
+        to be such a file.
+        """
         if self._is_limited or not CLAIM.match(data):
             return None
-        if len(all_asked()(path, source)) > 1:  # others than that of pickles
-            return None
+        if not is_plain(path, data) and len(all_asked()(path, in_memory(io.BytesIO(data)))) > 1:
+            return None  # others than that of pickles
         verdict, wanted, room = imports(data, NOTHING, self._settings, _ROOM)
-        if verdict.taken != source.size or wanted > _ROOM:
+        if verdict.taken != len(data) or wanted > _ROOM:
             return None
         return self._known(room[:wanted])
 

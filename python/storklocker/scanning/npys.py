@@ -6,11 +6,11 @@ import ast
 import re
 from typing import Any, NamedTuple, Optional
 
+from .marks import NPY
 from .names import length_at
 from .readings import Found, Piece, Place, examine
 from .source import BLOCK, Source
 
-MAGIC = b"\x93NUMPY"
 _LONGEST = 1 << 16
 """The most bytes of a header. NumPy takes longer ones only from a caller who trusts the file."""
 _MOST = 1 << 62
@@ -35,7 +35,7 @@ def npy_reading(place: Place) -> Found:
     """What `numpy.load` gets to, as often as it is called. It loads pickles between arrays too."""
     source = place.source
     at = 0 if source.read(0, 1) == b"\x80" else _behind_pickles(place, 0)
-    while source.read(at, len(MAGIC)) == MAGIC:
+    while source.read(at, len(NPY)) == NPY:
         if at:
             place.budget.spend_member()
         try:
@@ -68,7 +68,7 @@ def npy_reading(place: Place) -> Found:
 def _behind_pickles(place: Place, at: int) -> int:
     """Where the next array is, behind pickles at an offset; the offset itself if there is none."""
     source, start = place.source, at
-    while source.read(at, len(MAGIC)) != MAGIC:
+    while source.read(at, len(NPY)) != NPY:
         taken = length_at(source, at, place.budget)
         if not taken or at == start and not _has_magic(source, at):
             return start
@@ -80,7 +80,7 @@ def _behind_pickles(place: Place, at: int) -> int:
 def _has_magic(source: Source, at: int) -> bool:
     """Whether an array may begin behind an offset."""
     return any(
-        MAGIC in source.read(start, BLOCK + len(MAGIC)) for start in range(at, source.size, BLOCK)
+        NPY in source.read(start, BLOCK + len(NPY)) for start in range(at, source.size, BLOCK)
     )
 
 

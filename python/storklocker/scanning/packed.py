@@ -248,8 +248,6 @@ def _zlib(kind: int) -> Callable[[bytes], _Begun]:
 
 
 _LZMA_HEADER = 14
-LZMA_MARK = rb"[\0-\xe0](?:.{4}\xff{8}.|.{11}\0.|.{12}\0)"
-"""The first bytes of LZMA alone."""
 _BZIP2 = re.compile(rb"BZh[1-9](1AY&SY|\x17rE8P\x90)")
 GZIP, ZLIB = 31, 15
 """What zlib calls its formats."""

@@ -12,10 +12,11 @@ from typing import (
 )
 
 from .beside import beside
-from .condensing import condensed
+from .condensing import condensed, is_small
 from .files import File, is_url
-from .judging import Question, reports_of
+from .judging import Question, lone_report, reports_of
 from .report import NO_PICKLE, Finding, Report, unreadable
+from .source import whole_of
 from .summary import Progress
 
 _NOTHING = (errno.ENOENT, errno.ENOTDIR, errno.ELOOP)
@@ -23,16 +24,17 @@ _NOTHING = (errno.ENOENT, errno.ENOTDIR, errno.ELOOP)
 
 def scan_file(file: File, question: Question) -> List[Report]:
     """The reports on a file; `-` is standard input."""
-    name = "standard input" if file.path == "-" else file.path
+    name = _name_of(file)
     if not file.is_opened and _is_dangling(name):
         finding = Finding("dangling-link", "a link to nothing")
         return [Report(name, "link", NO_PICKLE, finding.why, findings=(finding,), file=name)]
     reports: List[Report] = []
     try:
-        with _opened(file) as opened:
-            found = reports_of(name, opened, question, lambda: beside(file))
-            for report in condensed(found):
-                reports.append(report)
+        if file.path == "-" or is_url(file.path) and not file.held:
+            with _opened(file.path) as opened:
+                _examine(opened, file, question, reports)
+        else:
+            _examine_local(file, question, reports)
         return reports
     except MemoryError:
         why = "out of memory"
@@ -41,6 +43,10 @@ def scan_file(file: File, question: Question) -> List[Report]:
     except Exception as error:  # one file must not stop the scan of the others
         why = f"cannot read it: {type(error).__name__}: {error}"
     return [*reports, unreadable(name, "file", Finding("unreadable", why), name)]
+
+
+def _name_of(file: File) -> str:
+    return "standard input" if file.path == "-" else file.path
 
 
 def reports_on(file: File, question: Question) -> List[Report]:
@@ -57,16 +63,47 @@ def _is_dangling(path: str) -> bool:
     return False
 
 
-def _opened(file: File) -> ContextManager[BinaryIO]:
-    if file.path == "-":
+def _opened(path: str) -> ContextManager[BinaryIO]:
+    if path == "-":
         return contextlib.nullcontext(sys.stdin.buffer)
-    if is_url(file.path) and not file.held:
-        from .remote import opened
+    from .remote import opened
 
-        return opened(file.path)
+    return opened(path)
+
+
+def _examine_local(file: File, question: Question, reports: List[Report]) -> None:
+    """Adds the reports on a file of this machine, which is opened once: a pipe has one reader."""
+    descriptor = _descriptor_of(file)
+    try:
+        lone = lone_report(file.path, whole_of(descriptor), question)
+        if lone is None:
+            # (buffered if it isn't small; or else it asks for a terminal)
+            with open(descriptor, "rb", 0, closefd=False) as opened:
+                _examine(opened, file, question, reports, False)
+        elif is_small(lone):
+            reports.append(lone)
+        else:
+            reports.extend(condensed([lone]))
+    finally:
+        os.close(descriptor)
+
+
+def _examine(
+    opened: BinaryIO,
+    file: File,
+    question: Question,
+    reports: List[Report],
+    may_be_lone: bool = True,
+) -> None:
+    """Adds the reports on an opened file, one after another: what is told stays, if it fails."""
+    found = reports_of(_name_of(file), opened, question, lambda: beside(file), may_be_lone)
+    for report in condensed(found):
+        reports.append(report)
+
+
+def _descriptor_of(file: File) -> int:
     if file.is_opened:
-        # or else it asks for a terminal
-        return open(file.held or file.path, "rb", 0)  # (buffered if it isn't small)
+        return os.open(file.held or file.path, os.O_RDONLY)
     if stat.S_ISDIR(os.stat(file.path).st_mode):
         raise OSError("a folder of devices, or a link to one or to a folder around it: not entered")
     raise OSError("not a regular file")  # a pipe could block forever

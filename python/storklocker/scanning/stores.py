@@ -18,6 +18,7 @@ from typing import (
 from .._reasons import Reason
 from .budget import Budget
 from .dangers import is_harmful, is_suspect, suspect_heads
+from .marks import HDF5, LMDB
 from .names import NOTHING, Imports, imports_within
 from .reaching import LENGTHS, is_module, reached, without_frames
 from .readings import Found, Piece, Place, Reading, is_text
@@ -52,17 +53,15 @@ _LONGEST = 1024
 _NEAR = 64
 """How many bytes in front of a trail are tried as the beginning of its pickle."""
 _STEP, _FIRST, _MOST, _FOOTER = 1 << 16, 1 << 12, 1 << 20, 1 << 20
-HDF5_MAGIC, _LMDB = b"\x89HDF\r\n\x1a\n", b"\xde\xc0\xef\xbe"
-LMDB_MARK = b".{16}" + _LMDB
 _GDBM = tuple(
     struct.pack(f"{order}I", number)
     for number in (0x13579ACD, 0x13579ACE, 0x13579ACF, 0x13579AD0, 0x13579AD1)
     for order in "<>"
 )
 _MAGICS: Dict[str, List[Tuple[int, Tuple[bytes, ...]]]] = {
-    "HDF5": [(at, (HDF5_MAGIC,)) for at in (0, *(512 << power for power in range(48)))],
+    "HDF5": [(at, (HDF5,)) for at in (0, *(512 << power for power in range(48)))],
     "GDBM": [(0, _GDBM)],
-    "LMDB": [(16, (_LMDB,))],
+    "LMDB": [(16, (LMDB,))],
     "Arrow": [(0, (b"ARROW1", b"FEA1"))],
     "Parquet": [(0, (b"PAR1",))],
 }

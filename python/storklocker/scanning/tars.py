@@ -20,12 +20,6 @@ _TIME = slice(136, 148)
 _OCTAL = re.compile(rb" *[0-7]*[ \0]*")
 _BINARY = re.compile(rb"[\x80\xff].*", re.DOTALL)
 """Two's complement, for numbers that octal digits have no room for."""
-TAR_MARK = rb"\0|.{148}(?:[\x80\xff]|[%b]{8}|[%b]{0,7}\0)|.{257}ustar" % (
-    (rb"\t-\r\x1c-\x20+\-_0-7oO",) * 2
-)
-"""The first block of a file may be zeros. Or its checksum is what `tarfile` reads as a number, or
-more than that.
-"""
 _ENDS = tuple(
     error
     for error in (getattr(tarfile, name, None) for name in ("EOFHeaderError", "EmptyHeaderError"))
