@@ -150,8 +150,8 @@ impl Ceiling {
         self.marked = true;
     }
 
-    /// Follows an instruction at this offset that may exceed limits, apart from those with a
-    /// payload.
+    /// Follows an instruction at this offset that may exceed limits, apart from those with a payload
+    /// or a memo number.
     fn exceed(&mut self, op: Op, at: u64)
         ensures { self.new ≡ exceeded op at self.old }
     {
@@ -162,20 +162,25 @@ impl Ceiling {
             Op::Tuple => self.tie_slice(at),
             Op::FrozenSet => self.freeze(at),
             Op::Build => self.build(),
+            Op::Dup => self.repeat(),
             _ => {}
         }
     }
 
     /// Follows an instruction with this opcode and so many bytes at this offset, and says whether it
-    /// may exceed limits, apart from those with a payload. Each arm knows what it says, so only
-    /// these instructions pay for a test of it.
+    /// may exceed limits, apart from those with a payload or a memo number, whose bytes pay for what
+    /// is done twice. Each arm knows what it says, so only the others pay for a test of it.
     #[inline(always)]
     fn raise(&mut self, op: Op, size: u64, at: u64) -> bool
         ensures ceiling { self.new ≡ raised op size at self.old }
         ensures more { result ≡ may_exceed op }
     {
         match op {
-            Op::Tuple1 | Op::Tuple2 | Op::Tuple3 | Op::Tuple | Op::FrozenSet | Op::Build => {
+            Op::Tuple1 | Op::Tuple2 | Op::Tuple3 | Op::Tuple => {
+                self.exceed(op, at);
+                return true;
+            }
+            Op::FrozenSet | Op::Build | Op::Dup => {
                 self.exceed(op, at);
                 return true;
             }
@@ -183,7 +188,7 @@ impl Ceiling {
             Op::Memoize | Op::BinPut | Op::LongBinPut | Op::Put => {}
             Op::Proto | Op::Frame => {}
             Op::Mark => self.mark(),
-            Op::BinGet | Op::LongBinGet | Op::Get | Op::Dup => self.repeat(),
+            Op::BinGet | Op::LongBinGet | Op::Get => self.repeat(),
             Op::Append | Op::Appends | Op::SetItem | Op::SetItems => self.blind(),
             Op::AddItems | Op::List | Op::Dict | Op::StackGlobal => self.blind(),
             Op::Reduce | Op::NewObj | Op::NewObjEx | Op::Obj => self.blind(),
@@ -200,8 +205,8 @@ impl Ceiling {
         false
     }
 
-    /// Whether no object is deeper or heavier than the limits allow, and none is built that may not
-    /// be.
+    /// Whether no object is deeper or heavier than the limits allow, nor those that were pushed again
+    /// together, and none is built that may not be.
     fn is_within(&self, tolls: &Tolls) -> bool
         ensures depth { result ≡ true → self.now.depth ≤ tolls.now.levels }
         ensures weight { result ≡ true → heaviest self.now ≤ tolls.now.weight }
@@ -209,6 +214,7 @@ impl Ceiling {
     {
         self.depth <= u64::from(tolls.levels)
             && self.heaviest() <= u64::from(tolls.weight)
+            && self.again.saturating_mul(self.heaviest()) <= tolls.work
             && (tolls.builds || !self.builds)
     }
 

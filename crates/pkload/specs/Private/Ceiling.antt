@@ -116,8 +116,8 @@ raised op.Stop size at c = blind c
 -- what pushes an object, and takes none
 raised o size at c = pushed (payload_weight o size) c
 
--- opcodes that may make an object heavier or deeper than any before, apart from those with a
--- payload, or give one a state
+-- opcodes that may make an object heavier or deeper than any before, push one again or give it a
+-- state, apart from those with a payload or a memo number
 abbrev pub may_exceed : Op → Bool
 may_exceed op.Tuple1 = true
 may_exceed op.Tuple2 = true
@@ -125,9 +125,10 @@ may_exceed op.Tuple3 = true
 may_exceed op.Tuple = true
 may_exceed op.FrozenSet = true
 may_exceed op.Build = true
+may_exceed op.Dup = true
 may_exceed _ = false
 
--- after such an instruction at this offset; none else is followed
+-- after such an instruction at this offset; no other one is followed
 abbrev pub exceeded : Op → (at : ℕ) → Ceiling → Ceiling
 exceeded o at c = if may_exceed o then raised o 1 at c else c
 
