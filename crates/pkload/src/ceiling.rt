@@ -2,7 +2,8 @@
 
 ghost use Rattle.std.specs.Prelude.{◌≡◌, ◌≤◌, true};
 ghost use Rattle.pkload.specs.Private.Ceiling.{FitsUnder, blind, heaviest, held, lowest};
-ghost use Rattle.pkload.specs.Private.Ceiling.{exceeded, may_exceed, plain_weight, pushed, raised, repeated, tied};
+ghost use Rattle.pkload.specs.Private.Ceiling.{exceeded, may_exceed, plain_weight, pushed};
+ghost use Rattle.pkload.specs.Private.Ceiling.{raised, repeated, tied};
 ghost use Rattle.pkload.specs.Tally.{Implies};
 
 use crate::tolls::Tolls;
@@ -150,8 +151,8 @@ impl Ceiling {
         self.marked = true;
     }
 
-    /// Follows an instruction at this offset that may exceed limits, apart from those with a payload
-    /// or a memo number.
+    /// Follows an instruction at this offset that may exceed limits, apart from those with a
+    /// payload or a memo number.
     fn exceed(&mut self, op: Op, at: u64)
         ensures { self.new ≡ exceeded op at self.old }
     {
@@ -167,9 +168,9 @@ impl Ceiling {
         }
     }
 
-    /// Follows an instruction with this opcode and so many bytes at this offset, and says whether it
-    /// may exceed limits, apart from those with a payload or a memo number, whose bytes pay for what
-    /// is done twice. Each arm knows what it says, so only the others pay for a test of it.
+    /// Follows an instruction with this opcode and so many bytes at this offset, and says whether
+    /// it may exceed limits, apart from those with a payload or a memo number, whose bytes pay for
+    /// what is done twice. Each arm knows what it says, so only the others pay for a test of it.
     #[inline(always)]
     fn raise(&mut self, op: Op, size: u64, at: u64) -> bool
         ensures ceiling { self.new ≡ raised op size at self.old }
@@ -205,8 +206,8 @@ impl Ceiling {
         false
     }
 
-    /// Whether no object is deeper or heavier than the limits allow, nor those that were pushed again
-    /// together, and none is built that may not be.
+    /// Whether no object is deeper or heavier than the limits allow, nor those that were pushed
+    /// again together, and none is built that may not be.
     fn is_within(&self, tolls: &Tolls) -> bool
         ensures depth { result ≡ true → self.now.depth ≤ tolls.now.levels }
         ensures weight { result ≡ true → heaviest self.now ≤ tolls.now.weight }
