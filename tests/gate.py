@@ -220,7 +220,7 @@ class Groups(Copies):
         ):
             status, lines = self.group("echo what went wrong", f"echo {last}", f"exit {end}")
             self.assertEqual((status, self.counts(lines)), (1, counts), last)
-            self.assertIn("what went wrong", [line.strip() for line in lines])
+            self.assertIn("failed: edits: what went wrong", lines)
 
     def test_one_group_is_shown_whole(self) -> None:
         self.script(self.copy / "tests" / "edits.py", "echo noise", "echo 1 passed, 0 failed")

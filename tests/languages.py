@@ -20,6 +20,8 @@ from typing import Iterator, Tuple
 from worked import ROOT
 
 COMPILERS = {"C": "cc", "Rust": "cargo", "Go": "go"}
+# Of older ones the libraries lack what the programs call.
+OLDEST = {"Rust": (1, 61), "Go": (1, 15)}
 COMMANDS = re.compile(r"(?ms)^```sh\n(.*?)^```$")
 # Pickles on standard input, and what a program says about them.
 ANSWERS = {
@@ -50,6 +52,20 @@ def unpacked(folder: Path) -> Path:
     return folder / archive.name[: -len(".tar.gz")]
 
 
+def lack_of(language: str) -> str:
+    """Why a program can't be compiled here, or an empty text."""
+    compiler = COMPILERS[language]
+    if not shutil.which(compiler):
+        return f"without {compiler}"
+    if language in OLDEST:
+        word = "version" if language == "Go" else "--version"
+        said = subprocess.run([compiler, word], stdout=subprocess.PIPE, text=True).stdout
+        found = re.search(r"(\d+)\.(\d+)", said)
+        if found is None or tuple(map(int, found.groups())) < OLDEST[language]:
+            return f"{compiler} is too old: {said.strip()}"
+    return ""
+
+
 def fault_of(folder: Path, commands: str, library: Path) -> str:
     """What is wrong with the program in a folder, or an empty text."""
     environment = {**os.environ, "STORKLOCKER": str(library), "GOCACHE": str(folder / "cache")}
@@ -75,8 +91,9 @@ def main() -> int:
     with tempfile.TemporaryDirectory() as name:
         library = (given.library or unpacked(Path(name))).resolve()
         for language, commands in programs():
-            if not shutil.which(COMPILERS[language]):
-                print(f"skipped: {language}, without {COMPILERS[language]}")
+            lack = lack_of(language)
+            if lack:
+                print(f"skipped: {language}, {lack}")
                 skipped += 1
                 continue
             folder = Path(name) / language

@@ -33,9 +33,12 @@ def run_alone(name, patterns):
     result = unittest.TextTestRunner(verbosity=2, resultclass=Result).run(suite)
     for test, reason in result.skipped:
         print(f"skipped: {test.id()}: {reason}")
-    failed = len(result.failures) + len(result.errors)
-    print(f"{result.passed} passed, {failed} failed, {len(result.skipped)} skipped")
-    return 0 if failed == 0 else 1
+    failures = result.failures + result.errors
+    for test, trace in failures:
+        # The last line says what went wrong.
+        print(f"failed: {test.id()}: {trace.strip().splitlines()[-1][:500]}")
+    print(f"{result.passed} passed, {len(failures)} failed, {len(result.skipped)} skipped")
+    return 1 if failures else 0
 
 
 def said_of(name, patterns):
@@ -54,7 +57,7 @@ def said_of(name, patterns):
     printed, _, last = ran.stdout.rstrip("\n").rpartition("\n")
     counts = re.fullmatch(r"(\d+) passed, (\d+) failed, (\d+) skipped", last)
     if counts is None:
-        return f"{ran.stdout}{name} ended with status {ran.returncode}", (0, 1, 0)
+        return f"{ran.stdout}\nfailed: {name} ended with status {ran.returncode}", (0, 1, 0)
     return printed, tuple(map(int, counts.groups()))
 
 

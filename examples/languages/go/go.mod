@@ -1,3 +1,3 @@
 module verdict
 
-go 1.19
+go 1.15

@@ -7,8 +7,8 @@ package main
 import "C"
 
 import (
+	"bytes"
 	"fmt"
-	"io"
 	"os"
 	"unsafe"
 )
@@ -28,17 +28,17 @@ func main() {
 		pair("collections", "OrderedDict"),
 		pair("datetime", "datetime"),
 	}
-	pickle, err := io.ReadAll(os.Stdin)
-	if err != nil {
+	var pickle bytes.Buffer
+	if _, err := pickle.ReadFrom(os.Stdin); err != nil {
 		panic(err)
 	}
-	bytes := C.CBytes(pickle)
-	defer C.free(bytes)
+	inC := C.CBytes(pickle.Bytes())
+	defer C.free(inC)
 	var names [1024]byte
 	var verdict C.struct_storklocker_verdict
 	status := C.storklocker_check_pairs(
 		&permitted[0], C.size_t(len(permitted)), nil,
-		(*C.uint8_t)(bytes), C.size_t(len(pickle)),
+		(*C.uint8_t)(inC), C.size_t(pickle.Len()),
 		(*C.uint8_t)(unsafe.Pointer(&names[0])), C.size_t(len(names)), &verdict)
 	if status == C.STORKLOCKER_YES {
 		fmt.Printf("yes: %d bytes, %d imports\n", verdict.taken, verdict.imports)

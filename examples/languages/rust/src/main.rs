@@ -1,5 +1,6 @@
-use std::ffi::{c_char, CStr};
+use std::ffi::CStr;
 use std::io::Read;
+use std::os::raw::c_char;
 use std::process::ExitCode;
 
 #[repr(C)]
@@ -29,7 +30,7 @@ extern "C" {
     fn storklocker_check_pairs(
         pairs: *const Pair,
         pair_count: usize,
-        settings: *const std::ffi::c_void, // null: the standard ones
+        settings: *const std::os::raw::c_void, // null: the standard ones
         pickle: *const u8,
         pickle_length: usize,
         room: *mut u8,
