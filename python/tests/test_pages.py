@@ -1,5 +1,6 @@
 """The manual page and the completions, as `man` and the shells read them."""
 
+import os
 import subprocess
 import tempfile
 import unittest
@@ -17,9 +18,10 @@ def page(name):
     return "\n".join(pages.PAGES[name](COMMAND)) + "\n"
 
 
-def said(text, *words):
-    """What a program prints that reads a text."""
-    ran = subprocess.run(words, input=text, capture_output=True, text=True)
+def said(text, *words, home=None):
+    """What a program prints that reads a text, with a folder for its settings."""
+    environment = {**os.environ, **({"HOME": home, "XDG_CONFIG_HOME": home} if home else {})}
+    ran = subprocess.run(words, input=text, capture_output=True, text=True, env=environment)
     assert (ran.returncode, ran.stderr) == (0, ""), ran
     return ran.stdout
 
@@ -76,13 +78,15 @@ class Pages(unittest.TestCase):
 
     @needs("fish")
     def test_fish(self):
+        home = tempfile.TemporaryDirectory()
+        self.addCleanup(home.cleanup)
         for words, wanted in (
             ("storklocker s", "scan"),
             ("storklocker scan --fo", "--format"),
             ("storklocker scan a --format s", "sarif"),
         ):
             asked = f"source -; complete -C '{words}'"
-            found = said(page("fish"), "fish", "--no-config", "-c", asked)
+            found = said(page("fish"), "fish", "-c", asked, home=home.name)
             self.assertEqual(found.split()[:1], [wanted], words)
 
 
