@@ -18,7 +18,8 @@ from storklocker.scanning.command import command_parser
 from storklocker.scanning.formats import table
 from storklocker.scanning.html import FOUND, page
 from storklocker.scanning.judging import Question, reports_of
-from storklocker.scanning.report import NO_PICKLE, Finding, Report
+from storklocker.scanning.report import Finding, Report
+from storklocker.scanning.words import Word
 from test_scanning import BAD, GOOD, npy, zipped
 
 PARTIAL = b"cfunctools\npartial\n."
@@ -211,7 +212,7 @@ class Sizes(unittest.TestCase):
     def test_a_page_has_a_bound_too(self):
         found = Finding("unknown-import", "w", "a.b")
         reports = [Report("f", "pickle", "unjudged", findings=(found,), file="f")] * (FOUND + 9)
-        rows = "".join(page([*reports, *[Report("g", "file", NO_PICKLE, file="g")] * 9], "0"))
+        rows = "".join(page([*reports, *[Report("g", "file", Word.NO_PICKLE, file="g")] * 9], "0"))
         self.assertEqual(rows.count("<tr data-"), FOUND + 9)
         self.assertIn("9 more are left out", rows)
 
@@ -222,7 +223,7 @@ class Sizes(unittest.TestCase):
                 file="f")
             for _ in range(2000)
         ]
-        quiet = [Report("f!y", "pickle", NO_PICKLE, file="f")] * 2000
+        quiet = [Report("f!y", "pickle", Word.NO_PICKLE, file="f")] * 2000
         kept = list(condensing.condensed([*quiet, *reports]))
         last = kept[-1]
         self.assertLess(len(kept), 2000)

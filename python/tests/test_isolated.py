@@ -40,7 +40,7 @@ class Ending(unittest.TestCase):
             self.addCleanup(scanner.end)
             with mock.patch("storklocker.scanning.isolated._PACKAGE", self.first(str(self.folder))):
                 reports = [scanner.scan(File(path)) for path in paths]
-        self.assertEqual([it.status for [it] in reports], ["unjudged", "unreadable", "unjudged"])
+        self.assertEqual([it.status for [it] in reports], ["unjudged", "unreadable", "dangerous"])
         self.assertIn("ended, 2 times", reports[1][0].why)
         self.assertEqual((self.folder / "ending.times").read_text(), "xx")
         for path, found in zip(paths, reports):

@@ -21,10 +21,11 @@ from .dangers import import_findings, list_findings
 from .files import Files, is_url
 from .judging import Question
 from .lists import add_commands, list_of
-from .report import ACCEPTED, NO_PICKLE, Finding, Report, shown
+from .report import Finding, Report, shown
 from .scan import Means, scan
 from .severity import DANGER, NOTE, REFUSED, WARNING
 from .summary import FAIL_ON, Summary, counted
+from .words import Word
 
 YES, NO, FAULT = 0, 1, 2
 
@@ -274,9 +275,9 @@ def _check(asked: argparse.Namespace) -> int:
                 is_named = len(asked.paths) > 1 or report.path != report.file
                 front = f"{shown(report.path)}: " if is_named else ""
                 costly = [it.why for it in report.findings if it.kind in KINDS.values()]
-                why = f"no: {costly[0]}" if costly and report.status == ACCEPTED else report.why
+                why = f"no: {costly[0]}" if costly and report.status is Word.ACCEPTED else report.why
                 print(front + (shown(why, 1000) or report.status))
-                is_pickle |= report.status != NO_PICKLE
+                is_pickle |= report.status is not Word.NO_PICKLE
                 is_costly |= bool(costly)
         status = status if is_pickle and not is_costly else NO
     return _status(told) or status

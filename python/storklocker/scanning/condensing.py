@@ -6,8 +6,8 @@ import re
 from collections import Counter
 from typing import Iterable, Iterator, Optional
 
-from .report import ACCEPTED, NO_PICKLE, UNJUDGED, Finding, Report, sorted_findings
-from .severity import REFUSED, UNREADABLE
+from .report import Finding, Report, sorted_findings
+from .words import Word
 
 ROOM, QUIET = 500_000, 250_000
 """About the most bytes of the reports on a file, in any format: of those with findings, and of the
@@ -17,7 +17,6 @@ _REPORT, _FINDING, _LINE = 450, 600, 60
 """The bytes that each format puts around a report, a finding, and a name or a line."""
 _MARKUP = re.compile(r"""["&'<>\\]""")
 _OTHER = re.compile("[^ -~]")
-_ORDER = (REFUSED, UNREADABLE, UNJUDGED, ACCEPTED, NO_PICKLE)
 
 
 def condensed(reports: Iterable[Report]) -> Iterator[Report]:
@@ -66,7 +65,7 @@ class _Rest:
     def _count(self, report: Report) -> None:
         if not self.is_any:
             self.is_any = True
-            self._statuses: "Counter[str]" = Counter()
+            self._statuses: "Counter[Word]" = Counter()
             self._kinds: "Counter[str]" = Counter()
         self._file = report.file
         self._statuses[report.status] += 1
@@ -76,7 +75,7 @@ class _Rest:
         """A report on the others, if there are any."""
         if not self.is_any:
             return
-        rest = {it: self._statuses[it] for it in _ORDER if self._statuses[it]}
+        rest = {it: self._statuses[it] for it in Word if self._statuses[it]}
         counts = ", ".join(f"{count:,} {status}" for status, count in rest.items())
         found = [Finding(it, f"{count:,} more of these") for it, count in self._kinds.items()]
         yield Report(

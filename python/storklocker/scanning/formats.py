@@ -5,8 +5,9 @@ from __future__ import annotations
 import functools
 from typing import Dict, Iterable, Iterator, List
 
-from .report import NO_PICKLE, UNJUDGED, Finding, Pair, Report, dotted, shown
-from .severity import DANGER, UNREADABLE, WARNING
+from .report import Finding, Pair, Report, dotted, shown
+from .severity import DANGER
+from .words import Word
 
 _INDENT = " " * 12
 _QUIET = 20
@@ -18,29 +19,18 @@ def table(reports: Iterable[Report], names_all: bool = False) -> Iterator[str]:
 
     names_all: also a line for what has no pickle, and what that is.
     """
-    found: Dict[str, int] = {}
+    found: Dict[Word, int] = {}
     for report in reports:
-        word = _word(report)
-        count = found[word] = found.get(word, 0) + 1
-        if report.status != NO_PICKLE or report.findings or names_all and count <= _QUIET:
-            yield "\n".join(_lines(report, word))
-    if names_all and found.get(NO_PICKLE, 0) > _QUIET:
-        yield f"{_INDENT}{found[NO_PICKLE] - _QUIET} more without a pickle"
+        count = found[report.status] = found.get(report.status, 0) + 1
+        if report.status is not Word.NO_PICKLE or report.findings or names_all and count <= _QUIET:
+            yield "\n".join(_lines(report))
+    if names_all and found.get(Word.NO_PICKLE, 0) > _QUIET:
+        yield f"{_INDENT}{found[Word.NO_PICKLE] - _QUIET} more without a pickle"
     yield ", ".join(f"{count} {status}" for status, count in sorted(found.items())) or "no files"
 
 
-def _word(report: Report) -> str:
-    """The status; without a list, how bad the worst finding is."""
-    worst = report.findings[0].severity if report.findings else ""
-    if worst == DANGER and report.status in (UNJUDGED, UNREADABLE):
-        return "dangerous"
-    if report.status == UNJUDGED and worst in (UNREADABLE, WARNING):
-        return worst
-    return report.status
-
-
-def _lines(report: Report, word: str) -> List[str]:
-    line = f"{word:10}  {shown(report.path)}  {report.kind}  {shown(report.why)}"
+def _lines(report: Report) -> List[str]:
+    line = f"{report.status:10}  {shown(report.path)}  {report.kind}  {shown(report.why)}"
     lines, missing = [line.rstrip()], set(report.missing)
     for pair in report.imports:
         lines.append(f"{_INDENT}{'off the list' if pair in missing else 'imports'}: {_named(pair)}")
@@ -52,7 +42,7 @@ def _lines(report: Report, word: str) -> List[str]:
 
 def told(finding: Finding) -> str:
     """A finding in a line."""
-    word = "dangerous" if finding.severity == DANGER else finding.severity
+    word = Word.DANGEROUS if finding.severity == DANGER else finding.severity
     name = f"{shown(finding.name, 256)}: " if finding.name else ""
     return f"{word}: {name}{shown(finding.why)}"
 

@@ -5,29 +5,18 @@ from __future__ import annotations
 import re
 from collections import Counter
 from html import escape
-from typing import Dict, Iterable, Iterator, List
+from typing import Dict, Iterable, Iterator, List, Set, Tuple
 
 from .page import SCRIPT, STYLE
-from .report import NO_PICKLE, Finding, Report, dotted, shown
-from .severity import DANGER, KINDS, NOTE, REFUSED, SEVERITIES, UNREADABLE, WARNING
+from .report import Finding, Report, dotted, shown
+from .severity import KINDS, SEVERITIES
+from .words import HEADLINES, Word, worst_of
 
 FOUND, OTHERS = 5000, 2000
 """The most rows of files and members with findings, and of others."""
 _SHOWN = 8
 """The most findings of a kind, and imports, of a row that are shown before it is opened."""
-_NONE = "none"
-_WORDS = {
-    REFUSED: "refused", DANGER: "dangerous", UNREADABLE: "unreadable", WARNING: "warnings",
-    NOTE: "notes", _NONE: "nothing found",
-}
-_TITLES = {
-    REFUSED: "Don't load the refused files: the list doesn't permit what they do",
-    DANGER: "Don't load the dangerous files: they run code",
-    UNREADABLE: "Don't load the unreadable files: what is in the rest of them isn't known",
-    WARNING: "Nothing is known to run code, but some names do more than hold data",
-    NOTE: "Nothing is known to run code, but some names have not been judged",
-    _NONE: "Nothing was found",
-}
+_WORDS = tuple(Word)
 
 
 def page(reports: Iterable[Report], version: str) -> Iterator[str]:
@@ -35,13 +24,13 @@ def page(reports: Iterable[Report], version: str) -> Iterator[str]:
     found = _Found()
     for report in reports:
         found.add(report)
-    worst = next((it for it in SEVERITIES if found.counts[it]), _NONE)
+    worst = worst_of(found.severities)
     yield "<!DOCTYPE html><html lang=en><meta charset=utf-8><title>Storklocker</title>"
     yield "<meta name=viewport content='width=device-width,initial-scale=1'>"
     yield "<meta http-equiv=Content-Security-Policy"
     yield " content=\"default-src 'none'; style-src 'unsafe-inline'; script-src 'unsafe-inline'\">"
-    yield f"<style>{STYLE}</style><main><header class={worst}>"
-    yield f"<h1>{_TITLES[worst]}</h1><p>{found.line()} Storklocker {escape(version)}.</p></header>"
+    yield f"<style>{STYLE}</style><main><header class='{worst}'>"
+    yield f"<h1>{HEADLINES[worst]}</h1><p>{found.line()} Storklocker {escape(version)}.</p></header>"
     yield from _advice(found.kinds)
     yield from _buttons(found)
     yield "<table><thead><tr><th>Found<th>File<th>Type<th class=number>Bytes<th>What</thead><tbody>"
@@ -54,18 +43,20 @@ def page(reports: Iterable[Report], version: str) -> Iterator[str]:
 
 
 class _Found:
-    """The rows of the page, and how many there are of each severity and kind."""
+    """The rows of the page, and how many there are of each word and kind."""
 
     def __init__(self) -> None:
         self.rows: List[Report] = []
-        self.counts: "Counter[str]" = Counter()
+        self.counts: "Counter[Word]" = Counter()
+        self.severities: Set[str] = set()
         self.kinds: "Counter[str]" = Counter()
         self.files = self.left_out = 0
         self._file, self._room = "", {True: FOUND, False: OTHERS}
 
     def add(self, report: Report) -> None:
         """Counts a report, and keeps it if there is room."""
-        self.counts[_worst(report)] += 1
+        self.counts[report.status] += 1
+        self.severities.update(finding.severity for finding in report.findings)
         self.kinds.update({finding.kind for finding in report.findings})
         self.files += report.file != self._file
         self._file = report.file
@@ -80,14 +71,10 @@ class _Found:
         return f"{self.files:,} files, {sum(self.counts.values()):,} pickles and members."
 
 
-def _worst(report: Report) -> str:
-    severities = {report.status, *(finding.severity for finding in report.findings)}
-    return next((it for it in SEVERITIES if it in severities), _NONE)
-
-
-def _rank(report: Report) -> int:
-    worst = _worst(report)
-    return SEVERITIES.index(worst) if worst != _NONE else len(SEVERITIES)
+def _rank(report: Report) -> Tuple[int, int]:
+    worst = report.worst
+    rank = SEVERITIES.index(worst) if worst else len(SEVERITIES)
+    return _WORDS.index(report.status), rank
 
 
 def _advice(kinds: "Counter[str]") -> Iterator[str]:
@@ -107,19 +94,16 @@ def _advice(kinds: "Counter[str]") -> Iterator[str]:
 def _buttons(found: _Found) -> Iterator[str]:
     yield "<div class=filter role=group aria-label='Which to show'>"
     yield f"<button data-worst='' aria-pressed=true>all {sum(found.counts.values()):,}</button>"
-    for worst in (*SEVERITIES, _NONE):
-        if found.counts[worst]:
-            text = f"{_WORDS[worst]} {found.counts[worst]:,}"
-            yield f"<button data-worst={worst} aria-pressed=false>{text}</button>"
+    for word in filter(found.counts.get, Word):
+        text = f"{word} {found.counts[word]:,}"
+        yield f"<button data-worst='{word}' aria-pressed=false>{text}</button>"
     yield "<input id=word type=search placeholder='Search names and files' aria-label=Search>"
     yield "<span id=count role=status></span></div>"
 
 
 def _row(report: Report) -> str:
-    worst = _worst(report)
-    word = report.status if worst in (_NONE, REFUSED, UNREADABLE) else _WORDS[worst]
     return (
-        f"<tr data-worst={worst}><td class='verdict {worst}'>{word}"
+        f"<tr data-worst='{report.status}'><td class='verdict {report.worst}'>{report.status}"
         f"<td class=path>{_text(report.path)}<td class=kind>{_text(report.kind)}"
         f"<td class=number data-value={report.size}>{report.size:,}<td>{_what(report)}"
     )
@@ -137,7 +121,7 @@ def _what(report: Report) -> str:
         f"<code class={'refused' if pair in missing else 'name'}>{_text(dotted(pair))}</code>"
         for pair in report.imports
     ]
-    if names and report.status != NO_PICKLE:
+    if names and report.status is not Word.NO_PICKLE:
         is_open = " open" if len(names) <= _SHOWN else ""
         parts.append(f"<details{is_open}><summary>{_imports(len(names))}</summary>")
         parts.append(f"{', '.join(names)}</details>")

@@ -20,12 +20,11 @@ from .names import pair_of
 from .readings import (
     Beside, Nothing, Piece, Place, Unread, all_asked, examine, is_text, nothing
 )
-from .report import (
-    ACCEPTED, LONGEST, NO_PICKLE, UNJUDGED, Finding, Pair, Report, sorted_findings, unreadable
-)
+from .report import LONGEST, Finding, Pair, Report, judged, unreadable
 from .rows import Row, row_of
-from .severity import KINDS, NOTE, REFUSED, UNREADABLE
+from .severity import NOTE
 from .source import Source, in_memory, source_of
+from .words import Word
 
 if TYPE_CHECKING:
     from .._pairs import Names
@@ -91,16 +90,15 @@ def lone_report(path: str, data: bytes, question: Question) -> Optional[Report]:
     size, imports = len(data), told.imports
     status, why = _accepted(size, len(imports), question.allow)
     sha256 = _sha256(in_memory(io.BytesIO(data))) if question.with_sha256 else ""
-    return Report(
-        path, "pickle", status, why, size, sha256, 1, imports, (), told.findings, (), 0, path
-    )
+    report = Report(path, "pickle", status, why, size, sha256, 1, imports, file=path)
+    return judged(report, told.findings) if told.findings else report
 
 
-def _accepted(taken: int, count: int, allow: Optional[AllowList]) -> Tuple[str, str]:
-    """The status and the line of an accepted pickle with so many bytes and names."""
+def _accepted(taken: int, count: int, allow: Optional[AllowList]) -> Tuple[Word, str]:
+    """The word and the line of an accepted pickle with so many bytes and names."""
     if allow is None:
-        return UNJUDGED, f"{taken} bytes, {count} names"
-    return ACCEPTED, f"yes: {taken} bytes, {count} names"
+        return Word.UNJUDGED, f"{taken} bytes, {count} names"
+    return Word.ACCEPTED, f"yes: {taken} bytes, {count} names"
 
 
 def _reports_at(place: Place, question: Question) -> Iterator[Report]:
@@ -112,7 +110,7 @@ def _reports_at(place: Place, question: Question) -> Iterator[Report]:
             return
         answer = None
         if isinstance(it, Nothing):
-            yield Report(it.path, it.kind, NO_PICKLE, it.why, it.size, file=place.path)
+            yield Report(it.path, it.kind, Word.NO_PICKLE, it.why, it.size, file=place.path)
         elif isinstance(it, Unread):
             yield unreadable(it.path, it.kind, it.finding, place.path)
         else:
@@ -152,9 +150,8 @@ def _judged(piece: Piece, row: Row, question: Question, place: Place) -> Report:
         why += bill_of(row.refused[0], row.names) if row.refusal.reason in COUNTED else ""
         if question.allow is not None or not _is_text(piece, row):
             is_refused = question.allow is not None and not (piece.is_cut and not missing)
-            kind = "refused" if is_refused else "broken-pickle"
-            status = KINDS[kind].severity
-            findings.append(Finding(kind, why))
+            status = Word.REFUSED if is_refused else Word.UNREADABLE
+            findings.append(Finding("refused" if is_refused else "broken-pickle", why))
     findings += _cut_findings(row, imports)
     if row.costly is not None:
         findings.append(cost_finding(row.costly, row.costly_at, row.costly_number))
@@ -168,22 +165,20 @@ def _judged(piece: Piece, row: Row, question: Question, place: Place) -> Report:
         row.pickles,
         imports,
         missing,
-        sorted_findings(findings),
+        (),
         listing(row),
         0 if row.refusal is None else row.refusal.at,
         place.path,
     )
-    return _raw(report, row.raw) if row.raw else report
+    return judged(_raw(report, row.raw, findings) if row.raw else report, findings)
 
 
-def _raw(report: Report, why: str) -> Report:
+def _raw(report: Report, why: str, findings: List[Finding]) -> Report:
     """The report on a file with arrays that could not be left out."""
-    return report._replace(
-        kind="joblib",
-        status=REFUSED if report.missing else UNREADABLE,
-        why=f"{why}; what was read: {report.why}",
-        findings=sorted_findings((*report.findings, Finding("raw-arrays", why))),
-    )
+    findings.append(Finding("raw-arrays", why))
+    status = Word.REFUSED if report.missing else Word.UNREADABLE
+    why = f"{why}; what was read: {report.why}"
+    return report._replace(kind="joblib", status=status, why=why)
 
 
 def _kind_of(piece: Piece, row: Row) -> str:

@@ -47,12 +47,12 @@ def _write(
     if word is not None:
         counts[word] += 1
         worst = report.findings[0] if report.findings else Finding("unreadable", report.why)
-        message = _quoted(_line(worst))
+        message = _quoted(f"{report.status}: {_line(worst)}")
         lines = "\n".join(f"{_line(it)} {it.advice}" for it in report.findings)
         held.write(f'<{word} type="{worst.kind}" message="{message}">{_safe(lines)}</{word}>')
     elif report.findings:
         lines = "\n".join(f"{it.severity}: {_line(it)}" for it in report.findings)
-        held.write(f"<system-out>{_safe(lines)}</system-out>")
+        held.write(f"<system-out>{_safe(f'{report.status}: {lines}')}</system-out>")
     held.write("</testcase>\n")
 
 

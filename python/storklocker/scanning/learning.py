@@ -8,8 +8,8 @@ from typing import Dict, Iterable, Iterator, List, Tuple
 from .._learning import LARGEST, Seen, read_log
 from .._writing import quoted
 from .dangers import danger_of
-from .report import ACCEPTED, UNJUDGED, Report, shown
-from .severity import REFUSED, UNREADABLE
+from .report import Report, shown
+from .words import Word
 
 _SHOWN = 5
 Pair = Tuple[str, str]
@@ -28,11 +28,12 @@ class Learned:
     def add(self, reports: Iterable[Report]) -> None:
         """Adds the imports of files. Leaves out unreadable files and unknown imports."""
         for report in reports:
-            if report.status in (ACCEPTED, UNJUDGED):
+            if report.is_whole:
                 for module, name in report.imports:
                     if module is not None and name is not None:
                         self.pairs.setdefault((module, name), []).append(report.path)
-            if report.status in (REFUSED, UNREADABLE) or (None, None) in report.imports:
+            is_known = report.is_whole or report.status is Word.NO_PICKLE
+            if not is_known or (None, None) in report.imports:
                 self.left_out.append(report)
 
     def add_log(self, path: str) -> None:

@@ -2,15 +2,15 @@
 
 from __future__ import annotations
 
-from typing import Any, Dict, Iterable, List, NamedTuple, Optional, Tuple
+from typing import Any, Dict, Iterable, NamedTuple, Optional, Tuple
 
-from .severity import KINDS, REFUSED, SEVERITIES, UNREADABLE
+from .severity import KINDS, SEVERITIES, UNREADABLE
+from .words import Word, word_of, worst_of
 
 Pair = Tuple[Optional[str], Optional[str]]
 
-ACCEPTED = "accepted"
-UNJUDGED = "unjudged"
-NO_PICKLE = "no pickle"
+VERSION = 1
+"""The version of the reports as JSON, which `docs/report.schema.json` describes."""
 
 LONGEST = 256
 """The most characters of a name that a report has."""
@@ -57,10 +57,8 @@ class Report(NamedTuple):
     """The path of the file, and after each `!` the member."""
     kind: str
     """The type, from the content, such as `pickle`."""
-    status: str
-    """`accepted` or `refused` by the list, `unjudged` (without a list), `unreadable` (nothing is
-    known of it, or of its rest) or `no pickle`.
-    """
+    status: Word
+    """What is known of it, in a word that all formats have."""
     why: str = ""
     """The line of the verdict, or what went wrong."""
     size: int = 0
@@ -85,11 +83,22 @@ class Report(NamedTuple):
     @property
     def is_finding(self) -> bool:
         """Whether somebody should look into it."""
-        return self.status in (REFUSED, UNREADABLE) or bool(self.findings)
+        return self.status in (Word.REFUSED, Word.UNREADABLE) or bool(self.findings)
+
+    @property
+    def worst(self) -> str:
+        """The worst severity of its findings; empty if it has none."""
+        return worst_of(finding.severity for finding in self.findings)
+
+    @property
+    def is_whole(self) -> bool:
+        """Whether it is a pickle that was read to its end."""
+        is_read = all(finding.severity != UNREADABLE for finding in self.findings)
+        return is_read and self.status not in (Word.NO_PICKLE, Word.REFUSED, Word.UNREADABLE)
 
     def as_dict(self) -> Dict[str, Any]:
         """The report for JSON."""
-        made = self._asdict()
+        made = {"version": VERSION, **self._asdict(), "status": self.status.value}
         made["imports"] = [list(pair) for pair in self.imports]
         made["missing"] = [list(pair) for pair in self.missing]
         made["findings"] = [finding.as_dict() for finding in self.findings]
@@ -99,7 +108,8 @@ class Report(NamedTuple):
 
 def report_of(made: Dict[str, Any]) -> Report:
     """The report that `as_dict` has made this of."""
-    fields: Dict[str, Any] = dict(made)
+    fields: Dict[str, Any] = {name: made[name] for name in Report._fields}
+    fields["status"] = Word(made["status"])
     for name in ("imports", "missing"):
         fields[name] = tuple((pair[0], pair[1]) for pair in made[name])
     fields["findings"] = tuple(
@@ -111,7 +121,14 @@ def report_of(made: Dict[str, Any]) -> Report:
 
 def unreadable(path: str, kind: str, finding: Finding, file: str) -> Report:
     """The report on a file, or on a member of one, of which nothing more is known."""
-    return Report(path, kind, UNREADABLE, finding.why, findings=(finding,), file=file)
+    return Report(path, kind, Word.UNREADABLE, finding.why, findings=(finding,), file=file)
+
+
+def judged(report: Report, findings: Iterable[Finding]) -> Report:
+    """The report with these findings, and the word that all of it asks for."""
+    found = sorted_findings(findings)
+    word = word_of(report.status, (finding.severity for finding in found))
+    return report._replace(status=word, findings=found)
 
 
 def sorted_findings(findings: Iterable[Finding]) -> Tuple[Finding, ...]:
@@ -138,11 +155,3 @@ def shown(text: str, most: int = 200) -> str:
 def _escaped(character: str) -> str:
     number = ord(character)
     return f"\\x{number:02x}" if number < 256 else f"\\u{number:04x}"
-
-
-def counts(reports: List[Report]) -> Dict[str, int]:
-    """The number of reports with each status."""
-    found: Dict[str, int] = {}
-    for report in reports:
-        found[report.status] = found.get(report.status, 0) + 1
-    return found

@@ -8,11 +8,12 @@ from typing import Any, Dict, Iterable, Iterator
 from urllib.parse import quote
 
 from .report import Finding, Report, dotted, shown
-from .severity import DANGER, KINDS, NOTE, REFUSED, UNREADABLE, WARNING
+from .severity import DANGER, KINDS, NOTE, REFUSED, UNDECIDED, UNREADABLE, WARNING
 
 _SCHEMA = "https://json.schemastore.org/sarif-2.1.0.json"
 _LEVELS = {
-    REFUSED: "error", DANGER: "error", UNREADABLE: "warning", WARNING: "warning", NOTE: "note"
+    REFUSED: "error", DANGER: "error", UNREADABLE: "warning", UNDECIDED: "warning",
+    WARNING: "warning", NOTE: "note",
 }
 _PLAIN = ("pickle", "row of pickles")
 """The kinds of files whose offsets are those of their pickles."""
@@ -62,6 +63,7 @@ def _result(report: Report, finding: Finding) -> Dict[str, Any]:
         # brackets would become links
         "message": {"text": re.sub(r"([\\\[\]])", r"\\\1", shown(text, _TEXT))},
         "locations": [place],
+        "properties": {"verdict": report.status.value},
     }
 
 

@@ -15,9 +15,10 @@ from .beside import beside
 from .condensing import condensed, is_small
 from .files import File, is_url
 from .judging import Question, lone_report, reports_of
-from .report import NO_PICKLE, Finding, Report, unreadable
+from .report import Finding, Report, unreadable
 from .source import whole_of
 from .summary import Progress
+from .words import Word
 
 _NOTHING = (errno.ENOENT, errno.ENOTDIR, errno.ELOOP)
 
@@ -27,7 +28,7 @@ def scan_file(file: File, question: Question) -> List[Report]:
     name = _name_of(file)
     if not file.is_opened and _is_dangling(name):
         finding = Finding("dangling-link", "a link to nothing")
-        return [Report(name, "link", NO_PICKLE, finding.why, findings=(finding,), file=name)]
+        return [Report(name, "link", Word.NO_PICKLE, finding.why, findings=(finding,), file=name)]
     reports: List[Report] = []
     try:
         if file.path == "-" or is_url(file.path) and not file.held:

@@ -10,12 +10,14 @@ DANGER = "danger"
 """It is known to run code that the pickle chooses, or to lead to a name that does."""
 UNREADABLE = "unreadable"
 """It couldn't be read to its end, so that nothing is known of the rest."""
+UNDECIDED = "undecided"
+"""The list permits its names, and leaves it to a load whether it uses them as picklers do."""
 WARNING = "warning"
 """It opens files, reaches the network, changes the process, or permits more than it says."""
 NOTE = "note"
 """It may be harmless, but nobody has looked."""
 
-SEVERITIES = (REFUSED, DANGER, UNREADABLE, WARNING, NOTE)
+SEVERITIES = (REFUSED, DANGER, UNREADABLE, UNDECIDED, WARNING, NOTE)
 """From the worst to the least."""
 
 
@@ -35,6 +37,12 @@ KINDS: Dict[str, Kind] = {
         "The list refuses the pickle",
         "Don't load it. If you trust where it comes from, `storklocker learn` writes the names that"
         " it needs.",
+    ),
+    "undecided": Kind(
+        UNDECIDED,
+        "The list has names that a guard loads through substitutes",
+        "Load it through a guard with this list, which judges how it uses them; --guarded says that"
+        " one will.",
     ),
     "dangerous-import": Kind(
         DANGER,

@@ -8,8 +8,9 @@ import time
 from collections import Counter
 from typing import FrozenSet, Iterable, Iterator, List, Optional, TextIO
 
-from .report import NO_PICKLE, Report
-from .severity import DANGER, NOTE, REFUSED, SEVERITIES, UNREADABLE, WARNING
+from .report import Report
+from .severity import DANGER, NOTE, REFUSED, SEVERITIES, UNDECIDED, UNREADABLE, WARNING
+from .words import Word
 
 NEVER = "never"
 FAIL_ON = (REFUSED, DANGER, WARNING, NOTE, NEVER)
@@ -17,8 +18,8 @@ FAIL_ON = (REFUSED, DANGER, WARNING, NOTE, NEVER)
 _FOLDERS = 10_000
 """The most folders whose findings are counted."""
 _WORDS = {
-    REFUSED: "refused", DANGER: "dangerous", UNREADABLE: "unreadable", WARNING: "with warnings",
-    NOTE: "with notes",
+    REFUSED: Word.REFUSED, DANGER: Word.DANGEROUS, UNREADABLE: Word.UNREADABLE,
+    UNDECIDED: Word.UNDECIDED, WARNING: "with warnings", NOTE: "with notes",
 }
 _UNKNOWN = "with names that nobody has judged"
 
@@ -109,7 +110,7 @@ class Progress:
         self._files += 1
         self._bytes += sum(report.size for report in reports)
         self._findings += any(report.is_finding for report in reports)
-        if self._is_shared and any(report.status != NO_PICKLE for report in reports):
+        if self._is_shared and any(report.status is not Word.NO_PICKLE for report in reports):
             self._clear()
         elif time.monotonic() - self._told > 0.2:
             self._told = time.monotonic()

@@ -1,0 +1,64 @@
+"""The one word that every format says of a file or a member, and the line above a report."""
+
+from __future__ import annotations
+
+import enum
+from typing import Dict, Iterable
+
+from .severity import DANGER, NOTE, REFUSED, SEVERITIES, UNDECIDED, UNREADABLE, WARNING
+
+
+class Word(str, enum.Enum):
+    """What is known of a file or a member, the worst first."""
+
+    REFUSED = "refused"
+    """A guard with this list refuses it."""
+    DANGEROUS = "dangerous"
+    """It imports a name that runs code or writes files."""
+    UNREADABLE = "unreadable"
+    """Nothing is known of it, or of its rest."""
+    UNDECIDED = "undecided"
+    """The list permits its names, and only a guard that loads it judges what they are given."""
+    WARNING = "warning"
+    """The worst finding is a warning."""
+    UNJUDGED = "unjudged"
+    """There is no list, and nothing worse was found."""
+    ACCEPTED = "accepted"
+    """A guard with this list loads it."""
+    NO_PICKLE = "no pickle"
+    """No reader gets to a pickle in it."""
+
+    def __str__(self) -> str:
+        return str(self.value)
+
+    def __format__(self, form: str) -> str:
+        return str.__format__(self.value, form)
+
+
+HEADLINES: Dict[str, str] = {
+    REFUSED: "Don't load the refused files: the list doesn't permit what they do",
+    DANGER: "Don't load the dangerous files: they run code",
+    UNREADABLE: "Don't load the unreadable files: what is in the rest of them isn't known",
+    UNDECIDED: "Load the undecided files through a guard alone: the list leaves it to a load",
+    WARNING: "Nothing is known to run code, but some names do more than hold data",
+    NOTE: "Nothing is known to run code, but some names have not been judged",
+    "": "Nothing was found",
+}
+"""What to do, by the worst severity of all findings."""
+
+
+def worst_of(severities: Iterable[str]) -> str:
+    """The worst of these severities; empty if there is none."""
+    return min(severities, key=SEVERITIES.index, default="")
+
+
+def word_of(status: Word, severities: Iterable[str]) -> Word:
+    """The word for a file with findings of these severities, of which the checker says `status`."""
+    worst = worst_of(severities)
+    if worst == DANGER and status in (Word.UNJUDGED, Word.UNREADABLE):
+        return Word.DANGEROUS
+    if worst == UNREADABLE and status in (Word.UNJUDGED, Word.ACCEPTED, Word.UNDECIDED):
+        return Word.UNREADABLE
+    if worst == WARNING and status is Word.UNJUDGED:
+        return Word.WARNING
+    return status

@@ -1,0 +1,134 @@
+"""One word for a file: every format of `storklocker scan` says the same."""
+
+import contextlib
+import html
+import io
+import json
+import os
+import pickle
+import re
+import subprocess
+import sys
+import tempfile
+import unittest
+import xml.etree.ElementTree as ET
+from pathlib import Path
+
+from storklocker.scanning.command import main
+from storklocker.scanning.severity import SEVERITIES
+from storklocker.scanning.words import HEADLINES, Word, word_of
+
+ROOT = Path(__file__).resolve().parents[2]
+BAD = b"cposix\nsystem\n(S'touch pwned'\ntR."
+FILES = {
+    "bad": BAD,
+    "bad and cut": b"\x80\x04" + BAD[:-1],
+    "in a row": pickle.dumps([1, 2], 4) + BAD,
+    "partial": b"cfunctools\npartial\n.",
+    "unknown": b"cshop.orders\nOrder\n.",
+    "good": pickle.dumps({"a": [1, 2.5]}, 4),
+    "cut": pickle.dumps({"a": [1, 2.5]}, 4)[:-3],
+    "keys": b"})" + b"2\x86" * 30 + b"Ns.",
+    "text": b"A text.\n",
+}
+WORDS = {
+    "": {
+        "bad": "dangerous", "bad and cut": "dangerous", "in a row": "dangerous",
+        "partial": "warning", "unknown": "unjudged", "good": "unjudged", "cut": "unreadable",
+        "keys": "warning", "text": "no pickle",
+    },
+    'version = 2\n[imports]\n"shop.orders" = ["Order"]\n': {
+        "bad": "refused", "bad and cut": "refused", "in a row": "refused", "partial": "refused",
+        "unknown": "accepted", "good": "accepted", "cut": "refused", "keys": "refused",
+        "text": "no pickle",
+    },
+}
+
+
+class OneWord(unittest.TestCase):
+    def setUp(self):
+        held = tempfile.TemporaryDirectory()
+        self.addCleanup(held.cleanup)
+        self.folder = Path(held.name)
+        (self.folder / "files").mkdir()
+        for name, data in FILES.items():
+            (self.folder / "files" / name).write_bytes(data)
+
+    def out(self, listed, form):
+        words = ["scan", str(self.folder / "files"), "--format", form]
+        if listed:
+            path = self.folder / "list.toml"
+            path.write_text(listed)
+            words += ["--allow", str(path)]
+        out = io.StringIO()
+        with contextlib.redirect_stdout(out):
+            main(words)
+        return out.getvalue()
+
+    def test_the_control_runs(self):
+        """What is called dangerous is: its command runs."""
+        inner = "import pickle, sys; pickle.loads(open(sys.argv[1], 'rb').read())"
+        command = [sys.executable, "-c", inner, str(self.folder / "files" / "bad")]
+        subprocess.run(command, cwd=str(self.folder), check=True, timeout=120)
+        self.assertTrue((self.folder / "pwned").exists())
+
+    def test_json(self):
+        for listed, wanted in WORDS.items():
+            found = json.loads(self.out(listed, "json"))
+            self.assertEqual({os.path.basename(it["path"]): it["status"] for it in found}, wanted)
+
+    def test_table(self):
+        for listed, wanted in WORDS.items():
+            lines = self.out(listed, "table").splitlines()
+            for name, word in wanted.items():
+                if word != "no pickle":
+                    path = re.escape(str(self.folder / "files" / name))
+                    told = [it for it in lines if re.match(f"{word} *{path}  ", it)]
+                    self.assertEqual(len(told), 1, (name, word, lines))
+
+    def test_html(self):
+        for listed, wanted in WORDS.items():
+            page = self.out(listed, "html")
+            rows = re.findall("<tr data-worst='([^']*)'><td class='[^']*'>([^<]*)<td class=path>"
+                              "([^<]*)<", page)
+            found = {os.path.basename(html.unescape(path)): word for _, word, path in rows}
+            self.assertEqual(found, wanted)
+            self.assertEqual([one for one, _, _ in rows], [word for _, word, _ in rows])
+            for word in set(wanted.values()):
+                count = sum(it == word for it in wanted.values())
+                self.assertIn(f"<button data-worst='{word}' aria-pressed=false>{word} {count}<", page)
+
+    def test_sarif_and_junit(self):
+        for listed, wanted in WORDS.items():
+            for it in json.loads(self.out(listed, "sarif"))["runs"][0]["results"]:
+                place = it["locations"][0]["physicalLocation"]["artifactLocation"]["uri"]
+                name = os.path.basename(place).replace("%20", " ")
+                self.assertEqual(it["properties"]["verdict"], wanted[name], it)
+            cases = {os.path.basename(case.get("name")): case
+                     for case in ET.fromstring(self.out(listed, "junit").encode())[0]}
+            for name, word in wanted.items():
+                for told in cases[name]:
+                    text = told.get("message") or told.text
+                    self.assertTrue(text.startswith(f"{word}: "), (name, text))
+
+    def test_each_status_has_each_word(self):
+        """No finding makes a word better, and what is unread is never accepted."""
+        order = list(Word)
+        for status in Word:
+            self.assertIs(word_of(status, ()), status)
+            for severity in SEVERITIES:
+                word = word_of(status, (severity,))
+                self.assertLessEqual(order.index(word), order.index(status), (status, severity))
+        for status in (Word.ACCEPTED, Word.UNJUDGED, Word.UNDECIDED):
+            self.assertIs(word_of(status, ("unreadable",)), Word.UNREADABLE)
+        self.assertEqual(set(HEADLINES), {*SEVERITIES, ""})
+
+    @unittest.skipUnless((ROOT / "docs" / "SCANNING.md").exists(), "there are no documents")
+    def test_the_document_defines_each_word(self):
+        text = (ROOT / "docs" / "SCANNING.md").read_text(encoding="utf-8")
+        defined = re.findall(r"(?m)^\| ([a-z ]+) \| ", text.partition("One word")[2])
+        self.assertEqual(defined, [word.value for word in Word])
+
+
+if __name__ == "__main__":
+    unittest.main()
