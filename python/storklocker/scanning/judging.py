@@ -110,7 +110,7 @@ def _reports_at(place: Place, question: Question) -> Iterator[Report]:
             return
         answer = None
         if isinstance(it, Nothing):
-            yield Report(it.path, it.kind, Word.NO_PICKLE, it.why, it.size, file=place.path)
+            yield _nothing(it, place.path)
         elif isinstance(it, Unread):
             yield unreadable(it.path, it.kind, it.finding, place.path)
         else:
@@ -126,6 +126,14 @@ def _reports_at(place: Place, question: Question) -> Iterator[Report]:
             if row.too_much is not None:
                 raise row.too_much
         budget.reports += 1
+
+
+def _nothing(it: Nothing, file: str) -> Report:
+    """The report on bytes without a pickle, or with what isn't read here."""
+    report = Report(it.path, it.kind, Word.NO_PICKLE, it.why, it.size, file=file)
+    if it.finding is None:
+        return report
+    return judged(report._replace(status=Word.CODE), [it.finding])
 
 
 def _counts(row: Row, allow: Optional[AllowList]) -> bool:

@@ -18,6 +18,7 @@ import re
 from typing import Callable, Generator, List, NamedTuple, Optional, Sequence, Tuple, Union
 
 from .budget import DEPTH, Budget, TooMuch
+from .foreign import Foreign, foreign_of
 from .report import LONGEST, Finding
 from .source import Source
 
@@ -53,6 +54,8 @@ class Nothing(NamedTuple):
     kind: str
     size: int
     why: str = ""
+    finding: Optional[Finding] = None
+    """What else their reader does with them, which isn't read here."""
 
 
 Answer = Optional[int]
@@ -94,6 +97,10 @@ class Place(NamedTuple):
         """A member of this place, or what it unpacks to if there is no name."""
         path = f"{self.path}!{name[:LONGEST]}" if name else self.path
         return Place(path, source, self.budget, self.depth - 1, around, is_cut)
+
+    def foreign(self, it: Foreign) -> Nothing:
+        """What this place is that isn't read here."""
+        return Nothing(self.path, it.kind, self.source.size, it.why, Finding(it.finding, it.why))
 
     def unread(self, container: str, kind: str, why: str) -> Unread:
         """A finding about this place."""
@@ -142,6 +149,8 @@ def examine(place: Place) -> Found:
     for name, reading in all_asked()(place.path, place.source):
         if (yield from reading(place)):
             takers.append(name)
+    for it in foreign_of(place.path, place.source):
+        yield place.foreign(it)
     if len(takers) > 1:
         named = " and as ".join(takers)
         yield place.unread("file", "differing-readings", f"it can be read as {named}")

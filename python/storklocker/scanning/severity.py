@@ -111,6 +111,21 @@ KINDS: Dict[str, Kind] = {
         "Write each name: a list has no wildcards. `storklocker learn` writes the names that"
         " trusted files need.",
     ),
+    "runs-code": Kind(
+        WARNING,
+        "Readers of the file run what is in it, which isn't read here",
+        "Load it only if you trust where it comes from.",
+    ),
+    "holds-code": Kind(
+        NOTE,
+        "The file is code, which isn't read here",
+        "Run it only if you trust where it comes from.",
+    ),
+    "unread-pickles": Kind(
+        UNREADABLE,
+        "The file holds pickles that aren't read here",
+        "Load it only if you trust where it comes from.",
+    ),
     "dangling-link": Kind(
         NOTE,
         "A link leads to nothing",

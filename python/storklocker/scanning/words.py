@@ -25,6 +25,8 @@ class Word(str, enum.Enum):
     """There is no list, and nothing worse was found."""
     ACCEPTED = "accepted"
     """A guard with this list loads it."""
+    CODE = "code"
+    """It is code, or leads to code, which isn't read here."""
     NO_PICKLE = "no pickle"
     """No reader gets to a pickle in it."""
 
@@ -34,6 +36,9 @@ class Word(str, enum.Enum):
     def __format__(self, form: str) -> str:
         return str.__format__(self.value, form)
 
+
+_MILD = (Word.UNJUDGED, Word.ACCEPTED, Word.UNDECIDED, Word.CODE)
+"""What becomes unreadable with a part that is."""
 
 HEADLINES: Dict[str, str] = {
     REFUSED: "Don't load the refused files: the list doesn't permit what they do",
@@ -57,8 +62,8 @@ def word_of(status: Word, severities: Iterable[str]) -> Word:
     worst = worst_of(severities)
     if worst == DANGER and status in (Word.UNJUDGED, Word.UNREADABLE):
         return Word.DANGEROUS
-    if worst == UNREADABLE and status in (Word.UNJUDGED, Word.ACCEPTED, Word.UNDECIDED):
+    if worst == UNREADABLE and status in _MILD:
         return Word.UNREADABLE
-    if worst == WARNING and status is Word.UNJUDGED:
+    if worst == WARNING and status in (Word.UNJUDGED, Word.CODE):
         return Word.WARNING
     return status

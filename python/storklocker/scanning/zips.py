@@ -10,6 +10,7 @@ from typing import Any, Callable, Dict, Iterator, List, NamedTuple, Optional, Se
 
 from .budget import PROBED
 from .checkpoints import checkpoint_reading
+from .foreign import foreign_members
 from .packed import MEMORY, NO_MODULE, bzip2, unpack
 from .readings import Found, Place, examine
 from .places import places_of
@@ -55,6 +56,8 @@ def zip_reading(place: Place) -> Found:
         if not (read.members or is_named):
             continue
         fault, is_read = fault_of(source, read.directory, read.members), True
+        for it in foreign_members(entry.text for entry in read.members):
+            yield place.foreign(it)
         yield from _members(place, read.members, read.shift, seen)
         if not fault:
             place.budget.zips.add(_place_of(source, read))
