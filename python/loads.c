@@ -17,7 +17,7 @@ typedef struct {
     fast_function *function; /* what the reader calls, if it is such a function of C */
     PyObject *receiver;      /* its first argument, borrowed from the reader */
     PyObject *collector;     /* the module `gc` if it collects while a reader reads, or null */
-    int is_substituting;     /* whether names of the list are loaded through substitutes */
+    int is_judging;     /* whether pickles with imports are judged while they are loaded */
 } Loads;
 
 /* The second number of the version, of which the first is 3. */
@@ -73,7 +73,7 @@ static void find_function(Loads *own) {
 #endif
 }
 
-int set_loads(PyObject *guard, PyObject *list, PyObject *reader, int is_substituting) {
+int set_loads(PyObject *guard, PyObject *list, PyObject *reader, int is_judging) {
     Loads *own = (Loads *)guard;
     /* (interned, as the reader's own, which it compares by address first) */
     PyObject *names = Py_BuildValue("(N)", PyUnicode_InternFromString("fix_imports"));
@@ -89,7 +89,7 @@ int set_loads(PyObject *guard, PyObject *list, PyObject *reader, int is_substitu
         Py_DECREF(names);
     Py_XINCREF(list == Py_None ? NULL : list);
     own->list = list == Py_None ? NULL : list;
-    own->is_substituting = is_substituting;
+    own->is_judging = is_judging;
     Py_XDECREF(before);
     return 0;
 }
@@ -154,11 +154,11 @@ static PyObject *loads(PyObject *self, PyObject *const *given, Py_ssize_t count,
         return made;
     }
     Py_INCREF(list); /* the guard may get another one while a long check runs without the GIL */
-    int is_substituting = own->is_substituting;
+    int is_judging = own->is_judging;
     uint64_t imports;
     PyObject *no = refusal_of(list, given[0], &imports), *made = NULL;
     Py_DECREF(list);
-    if (no == Py_None && is_substituting && imports > 0)
+    if (no == Py_None && is_judging && imports > 0)
         made = PyObject_CallMethod(self, "_loads_accepted", "O", given[0]);
     else if (no == Py_None) /* what imports nothing can't call anything */
         made = imports > 0 ? loaded(own, given[0]) : loaded_at_once(own, given[0]);

@@ -23,9 +23,9 @@ PyObject *loads_type(void);
 /* Says what `loads` does, once `guard` is of the class and `list` is Pairs or None: under None it
    leaves everything to the guard's `_loads`. `reader` is `pickle.loads`, which loads what is
    accepted. What takes longer to judge is left to the guard's `_loads_accepted`: a pickle whose
-   BUILD takes an imported object, and with `is_substituting` one that imports something. Returns -1
+   BUILD takes an imported object, and with `is_judging` one that imports something. Returns -1
    after an error. */
-int set_loads(PyObject *guard, PyObject *list, PyObject *reader, int is_substituting);
+int set_loads(PyObject *guard, PyObject *list, PyObject *reader, int is_judging);
 
 /* Adds the class of the audit hook of installed guards to the module. Returns -1 after an error. */
 int add_audit_hook(PyObject *module);

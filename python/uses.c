@@ -4,22 +4,25 @@
 
 /* What is known of an object: its kind, the number of its name, a mask, and the place of the
    instruction that pushed it. For a tuple these are of a class in it, and the mask has a bit for
-   each; for a name it is 1 if it can't become real; a dict has its number for a place. */
+   each; for a name it is 1 if it can't become real; a dict, and what a call has MADE, has its
+   number for a place. GIVEN is what was there before the load, JUDGED a class of which each object
+   is judged when it is made. */
 typedef uint64_t slot;
-enum { ABSENT, MARK, OTHER, TEXT, NAME, TUPLE, DICT, WRAPPER };
+enum { ABSENT, MARK, OTHER, TEXT, GIVEN, MADE, JUDGED, NAME, TUPLE, DICT, WRAPPER };
 #define SLOT(kind, name, place) ((slot)(kind) | (slot)(name) << 4 | (slot)(place) << 24)
 #define MASK(bits) ((slot)(bits) << 16)
 #define NAMES 1024
 #define LONGEST 4096     /* no listed name is longer */
 
 /* What a name is: one that becomes the real object where it is a value; a class that some names
-   take as an argument; joblib's wrapper. The bits from TAKES on are the arguments that it takes. */
-enum { BECOMES_REAL = 1, IS_PASSED = 2, WRAPS = 4, TAKES = 4 };
+   take as an argument; joblib's wrapper; one whose objects are judged. The bits from TAKES on are
+   the arguments that it takes. */
+enum { BECOMES_REAL = 1, IS_PASSED = 2, WRAPS = 4, IS_JUDGED = 8, TAKES = 4 };
 
 /* What the pickles of one reader have in common. */
 struct kept {
     slot *memo, *dicts; /* of each dict the class that it has as a value; OTHER if it is shared */
-    size_t numbers, entries, count;
+    size_t numbers, entries, count, calls; /* `calls` of all pickles before this one */
     uint16_t roles[NAMES];
 };
 
@@ -31,7 +34,9 @@ struct uses {
     slot *stack;
     PyObject *number_of, *real; /* `real`: where names become real */
     struct notes changes;       /* where instructions are that a reader is given in other words */
-    slot fault;                 /* what is used as a value and can't be */
+    int takes_any;              /* whether BUILD may take what no call of the pickle has made */
+    int is_named;               /* whether a name has a substitute */
+    slot fault;                 /* what is used as a value, or is changed, and can't be */
 };
 
 enum { DONE, LOST, FAILED }; /* LOST: a reader gets no further, or needn't */
@@ -105,14 +110,20 @@ enum { IS_TEXT = MOVES | STAYS, IS_PUT = MOVES | KEEPS };
 static const uint8_t effects[256] = {
     [0x80] = KEEPS, [0x95] = KEEPS | CHANGES, ['.'] = 1 | KEEPS, [0x98] = STAYS | KEEPS,
     ['Q'] = 1 | CHANGES, ['a'] = 1 | STAYS | KEEPS, ['e'] = SLICE | STAYS | KEEPS,
-    [0x90] = SLICE | STAYS | KEEPS, ['i'] = SLICE, ['l'] = SLICE, ['o'] = SLICE, [0x91] = SLICE,
-    ['t'] = SLICE | MAKES, ['d'] = SLICE | MAKES, ['u'] = SLICE | MAKES, ['}'] = MAKES,
-    [0x85] = 1 | MAKES, [0x86] = 2 | MAKES, [0x87] = 3 | MAKES, ['s'] = 2 | MAKES,
-    ['b'] = 2 | MAKES | CHANGES, ['R'] = 2 | MAKES, [0x81] = 2 | MAKES, [0x92] = 3 | MAKES,
+    [0x90] = SLICE | STAYS | KEEPS, ['i'] = SLICE | CHANGES, ['l'] = SLICE,
+    ['o'] = SLICE | CHANGES, [0x91] = SLICE, ['t'] = SLICE | MAKES, ['d'] = SLICE | MAKES,
+    ['u'] = SLICE | MAKES, ['}'] = MAKES, [0x85] = 1 | MAKES, [0x86] = 2 | MAKES,
+    [0x87] = 3 | MAKES, ['s'] = 2 | MAKES, ['b'] = 2 | MAKES | CHANGES,
+    ['R'] = 2 | MAKES | CHANGES, [0x81] = 2 | MAKES | CHANGES, [0x92] = 3 | MAKES | CHANGES,
     ['('] = MOVES, ['0'] = MOVES, ['1'] = SLICE | MOVES, ['2'] = 1 | MOVES, ['c'] = MOVES,
     [0x93] = 2 | MOVES, ['g'] = MOVES, ['h'] = MOVES, ['j'] = MOVES, ['p'] = IS_PUT,
     ['q'] = IS_PUT, ['r'] = IS_PUT, [0x94] = IS_PUT, ['S'] = IS_TEXT, ['T'] = IS_TEXT,
     ['U'] = IS_TEXT, ['V'] = IS_TEXT, ['X'] = IS_TEXT, [0x8c] = IS_TEXT, [0x8d] = IS_TEXT};
+
+/* Whether an instruction pushes what the pickle hasn't made: by a persistent id, EXT, NEXT_BUFFER. */
+static int is_given(uint8_t code) {
+    return code == 'P' || code == 'Q' || (code >= 0x82 && code <= 0x84) || code == 0x97;
+}
 
 /* Has a name become the real object, behind the instruction that pushes it and those that memoize
    it there. */
@@ -197,16 +208,43 @@ static int make_dict(struct uses *u, size_t index, size_t below) {
     return is == DONE ? push(u, made) : is;
 }
 
+/* Notes a call, and pushes what it makes. */
+static int push_made(struct uses *u, int is_judged, int is_wrapper) {
+    struct notes *notes = &u->changes;
+    if (!note_call(notes, is_judged ? OF_JUDGED : 0))
+        return FAILED;
+    return push(u, is_wrapper ? WRAPPER : SLOT(MADE, 0, u->kept->calls + notes->count - 1));
+}
+
+/* An object gets a state or items. So may what a call of this pickle has made, but a state only
+   once, and no items after it: then an attribute of its own could take them. */
+static int change(struct uses *u, slot s, uint8_t how) {
+    size_t place = place_of(s), first = u->kept->calls;
+    int is_made = kind_of(s) == MADE && place >= first;
+    uint8_t *call = is_made ? u->changes.calls + (place - first) : NULL;
+    int is_own = how == HAS_ITEMS && (kind_of(s) < GIVEN || kind_of(s) == DICT);
+    if (kind_of(s) == WRAPPER || is_own || u->takes_any)
+        return DONE;
+    if (!is_made || *call & HAS_STATE) {
+        u->fault = SLOT(GIVEN, 0, u->at);
+        return LOST;
+    }
+    *call |= how;
+    u->changes.is_more = 1;
+    return DONE;
+}
+
 /* Calls an object with arguments, or makes an object of a class with them. */
 static int call(struct uses *u, slot called, slot words, int is_new) {
     unsigned role = role_of(u, called);
+    int is_known = kind_of(called) == GIVEN || kind_of(called) == NAME;
     int is_wrapper = is_new ? (role & WRAPS) != 0 : kind_of(words) == WRAPPER;
     int is = mask_of(words) & ~(is_new ? 0 : role >> TAKES) ? use(u, words) : DONE;
     if (kind_of(words) == NAME || kind_of(words) == DICT)
         is = use(u, words);
     if (is == DONE && kind_of(called) != NAME)
         is = use(u, called);
-    return is == DONE ? push(u, is_wrapper ? WRAPPER : OTHER) : is;
+    return is == DONE ? push_made(u, !is_known || role & IS_JUDGED, is_wrapper) : is;
 }
 
 /* Follows an instruction that makes, calls or changes an object, and takes what lies from an index
@@ -220,10 +258,13 @@ static int made(struct uses *u, uint8_t code, size_t index, size_t below) {
         return make_dict(u, index, below);
     case 's':
     case 'u':
-        return below > 0 ? set_items(u, index, below, u->stack[below - 1]) : LOST;
+        is = below > 0 ? set_items(u, index, below, u->stack[below - 1]) : LOST;
+        return is == DONE ? change(u, u->stack[below - 1], HAS_ITEMS) : is;
     case 'b': /* the class in the state of a wrapper is an argument of it */
         top = pop(u);
-        return kind_of(top) == DICT && kind_of(u->stack[below]) == WRAPPER ? DONE : use(u, top);
+        if (kind_of(top) != DICT || kind_of(u->stack[below]) != WRAPPER)
+            is = use(u, top);
+        return is == DONE ? change(u, u->stack[below], HAS_STATE) : is;
     case 0x92:
         is = use(u, pop(u)); /* fall through */
     case 'R':
@@ -290,7 +331,7 @@ static int import(struct uses *u, size_t module, size_t name) {
     size_t first = length_of(u->bytes + module, u->length - module);
     size_t second = length_of(u->bytes + name, u->length - name);
     if (first > LONGEST || second > LONGEST)
-        return push(u, OTHER); /* nothing that is listed */
+        return push(u, GIVEN); /* nothing that is listed */
     PyObject *asked = PyObject_CallFunction(
         u->number_of, "y#y#", (const char *)u->bytes + module, (Py_ssize_t)first,
         (const char *)u->bytes + name, (Py_ssize_t)second);
@@ -298,8 +339,11 @@ static int import(struct uses *u, size_t module, size_t name) {
     Py_XDECREF(asked);
     if (said < 0)
         return FAILED;
+    if (said % NAMES == 0)
+        return push(u, said == 0 ? GIVEN : JUDGED);
+    u->is_named = 1;
     u->kept->roles[said % NAMES] = (uint16_t)(said / NAMES);
-    return push(u, said == 0 ? OTHER : SLOT(NAME, said % NAMES, u->at));
+    return push(u, SLOT(NAME, said % NAMES, u->at));
 }
 
 /* Follows an instruction that moves objects, or pushes a name. */
@@ -331,7 +375,7 @@ static int moved(struct uses *u, uint8_t code, size_t mark) {
 static int followed_one(struct uses *u, uint8_t code, size_t last) {
     uint8_t effect = effects[code];
     if (effect == 0)
-        return push(u, OTHER);
+        return push(u, is_given(code) ? GIVEN : OTHER);
     if (effect == IS_TEXT)
         return push(u, SLOT(TEXT, 0, u->at));
     if (effect == IS_PUT)
@@ -348,7 +392,11 @@ static int followed_one(struct uses *u, uint8_t code, size_t last) {
         u->stack[index] |= kind_of(u->stack[index]) == NAME ? MASK(1) : 0;
     int is = use_from(u, index, below);
     is = is == DONE && effect & STAYS && !are_there(u, 1) ? LOST : is;
-    return is == DONE && !(effect & KEEPS) ? push(u, OTHER) : is;
+    if (is == DONE && (code == 'a' || code == 'e' || code == 0x90))
+        is = change(u, u->stack[u->size - 1], HAS_ITEMS);
+    if (is == DONE && (code == 'i' || code == 'o'))
+        return push_made(u, 1, 0);
+    return is == DONE && !(effect & KEEPS) ? push(u, is_given(code) ? GIVEN : OTHER) : is;
 }
 
 static void freed(PyObject *capsule) {
@@ -379,6 +427,7 @@ static int followed_all(struct uses *u) {
             return LOST;
         if (effects[code] & CHANGES && !note(&u->changes, at))
             return FAILED;
+        u->changes.is_more |= code == 'b';
         if (is == DONE && (is = followed_one(u, code, last)) != DONE
             && (is == FAILED || u->fault != ABSENT))
             return is;
@@ -392,7 +441,7 @@ PyObject *uses(PyObject *Py_UNUSED(module), PyObject *args) {
     PyObject *capsule, *data, *pieces = NULL;
     Py_ssize_t start;
     struct uses u = {.fault = ABSENT};
-    if (!PyArg_ParseTuple(args, "OSnO", &capsule, &data, &start, &u.number_of)
+    if (!PyArg_ParseTuple(args, "OSnOp", &capsule, &data, &start, &u.number_of, &u.takes_any)
         || (u.kept = PyCapsule_GetPointer(capsule, NULL)) == NULL
         || (u.real = PyList_New(0)) == NULL)
         return NULL;
@@ -404,10 +453,13 @@ PyObject *uses(PyObject *Py_UNUSED(module), PyObject *args) {
     if (is != FAILED && PyList_Sort(u.real) == 0)
         pieces = u.fault == ABSENT ? respelled(data, u.start, u.next, &u.changes, u.real)
                                    : PyList_New(0);
+    u.kept->calls += u.changes.count;
     PyMem_Free(u.stack);
     PyMem_Free(u.changes.bytes);
+    PyMem_Free(u.changes.calls);
     Py_DECREF(u.real);
+    int is_changed = is != DONE || u.is_named || u.changes.is_more;
     return pieces == NULL ? NULL : Py_BuildValue(
-        "NOin", pieces, is == DONE ? Py_True : Py_False, (int)name_of(u.fault),
-        u.fault != ABSENT ? (Py_ssize_t)place_of(u.fault) : -1);
+        "NOinO", pieces, is == DONE ? Py_True : Py_False, (int)name_of(u.fault),
+        u.fault != ABSENT ? (Py_ssize_t)place_of(u.fault) : -1, is_changed ? Py_True : Py_False);
 }

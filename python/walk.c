@@ -62,6 +62,21 @@ int note(struct notes *notes, size_t place) {
     return 1;
 }
 
+int note_call(struct notes *notes, uint8_t how) {
+    size_t count = notes->count;
+    if (count == 0 || (count >= FIRST && (count & (count - 1)) == 0)) {
+        uint8_t *more = PyMem_Realloc(notes->calls, count == 0 ? FIRST : 2 * count);
+        if (more == NULL) {
+            PyErr_NoMemory();
+            return 0;
+        }
+        notes->calls = more;
+    }
+    notes->calls[notes->count++] = how;
+    notes->is_more |= how != 0;
+    return 1;
+}
+
 /* The place that is noted from an index on, given the one before it. */
 static size_t noted(const struct notes *notes, size_t *index, size_t place) {
     for (unsigned shift = 0;; shift += 7) {
@@ -110,13 +125,24 @@ static void put_stretch(struct writing *w, size_t begin, size_t end) {
     }
 }
 
+static int is_call(uint8_t code) {
+    return code == 'R' || code == 0x81 || code == 0x92 || code == 'i' || code == 'o';
+}
+
 /* Writes the instructions between two places. A real object comes before what changes there. */
 static void write_pieces(
     struct writing *w, size_t at, size_t end, const struct notes *changes, PyObject *real) {
     Py_ssize_t next = 0, count = PyList_Size(real);
-    size_t index = 0, change = at;
+    size_t index = 0, change = at, calls = 0;
+    uint8_t how = 0;
     do {
         change = index < changes->size ? noted(changes, &index, change) : end;
+        if (change < end && is_call(w->bytes[change])) {
+            how = calls < changes->count ? changes->calls[calls] : 0;
+            calls++;
+            if (how == 0)
+                continue;
+        }
         for (; next < count; next++) {
             size_t place = PyLong_AsSize_t(PyList_GetItem(real, next));
             if (place > change)
@@ -128,8 +154,14 @@ static void write_pieces(
         put_stretch(w, at, change);
         if (change < end) {
             uint8_t code = w->bytes[change];
-            put(w, code == BUILD ? "\x86Q" : "\x85Q", code == FRAME ? 0 : 2);
-            at = change + (code == FRAME ? 9 : 1);
+            at = change + length_of(w->bytes + change, end - change);
+            if (is_call(code)) {
+                uint8_t judged[] = {'N', 'K', how, 0x87, 'Q'};
+                put_stretch(w, change, at);
+                put(w, judged, sizeof judged);
+            } else {
+                put(w, code == BUILD ? "\x86Q" : "\x85Q", code == FRAME ? 0 : 2);
+            }
         }
     } while (change < end);
     add_piece(w, w->made, w->begin, w->size);

@@ -24,14 +24,17 @@ PyObject *followed(PyObject *module, PyObject *args);
 
 /* Follows what the instructions of a pickle do with the names that are loaded through substitutes.
    `uses` takes what `begin_uses` made for all pickles of a reader, bytes, the offset of the pickle,
-   and a function that says of each import, given the instructions that push its module and its
-   name, or twice the one that has both: 0, or a number below 1024 plus 1024 times the name's role.
-   Returns what the reader is given in place of the pickle; whether it got to STOP; and the number
-   of a name that is a value and can't be real, and its place, or -1.
+   a function that says of each import, given the instructions that push its module and its name,
+   or twice the one that has both: 0, or a number below 1024 plus 1024 times the name's role; and
+   whether BUILD may take what the pickle hasn't made. The number is 0 where only what the name
+   makes is judged. Returns what the reader is given in place of the pickle; whether it got to STOP;
+   the number of a name that is a value and can't be real, or 0 of what can't be changed, and its
+   place, or -1; and whether another reader would do something else.
 
    The reader is given the whole instructions up to STOP, also those that it can't get to: BUILD as
-   TUPLE2 BINPERSID, BINPERSID as TUPLE1 BINPERSID, no frames, and where a value becomes the real
-   object, behind the instruction that pushes it, NONE NONE TUPLE3 BINPERSID. These are pieces:
+   TUPLE2 BINPERSID, BINPERSID as TUPLE1 BINPERSID, no frames, where a value becomes the real
+   object, behind the instruction that pushes it, NONE NONE TUPLE3 BINPERSID, and behind a call
+   whose object is judged or changed, NONE BININT1 TUPLE3 BINPERSID. These are pieces:
    bytes, and the begin and end of what counts of them. Long ones are the bytes of the pickle. */
 PyObject *begin_uses(PyObject *module, PyObject *args);
 PyObject *uses(PyObject *module, PyObject *args);
@@ -60,17 +63,23 @@ static inline size_t length_of(const uint8_t *bytes, size_t length) {
 int parse_number(const uint8_t *bytes, size_t length, uint64_t *number);
 
 /* Places of instructions, which ascend: of each the distance from the one before, seven bits to a
-   byte. So they take no more bytes than the instructions. */
+   byte. So they take no more bytes than the instructions. And a byte for each call among them. */
 struct notes {
-    uint8_t *bytes;
-    size_t size, last; /* `last`: the last place, or where the first instruction begins */
+    uint8_t *bytes, *calls;
+    size_t size, last, count; /* `last`: the last place, or where the first instruction begins */
+    int is_more;              /* whether more than a call is noted, or of one that more is done */
 };
 
-/* Notes a place. Returns 0, and sets an error, if there is no memory. */
+/* What happens to the object that a call makes: it gets a state, or items; it is judged. */
+enum { HAS_STATE = 1, HAS_ITEMS = 2, OF_JUDGED = 4 };
+
+/* Notes a place, or a call. Returns 0, and sets an error, if there is no memory. */
 int note(struct notes *notes, size_t place);
+int note_call(struct notes *notes, uint8_t how);
 
 /* The pieces that `uses` returns, of the instructions from one place to another. Takes the places
-   of BUILD, BINPERSID and FRAME, and those where names become real, in a list that ascends. */
+   of BUILD, BINPERSID, FRAME and calls, and those where names become real, in a list that ascends.
+*/
 PyObject *respelled(
     PyObject *data, size_t begin, size_t end, const struct notes *changes, PyObject *real);
 

@@ -6,7 +6,7 @@ import copyreg
 from typing import Any, Dict, Tuple
 
 from ._answers import Misused
-from ._substitute import BECOMES_REAL, Substitute
+from ._substitute import BECOMES_REAL, IS_JUDGED, Substitute
 
 _CODECS = ("latin1", "latin-1", "ascii", "utf-8")
 
@@ -50,5 +50,7 @@ TABLE: Dict[Tuple[str, str], Substitute] = {
     ("builtins", "bytes"): Substitute("builtins.bytes", _bytes, BECOMES_REAL),
     ("builtins", "bytearray"): Substitute("builtins.bytearray", _bytearray, BECOMES_REAL),
     ("_codecs", "encode"): Substitute("_codecs.encode", _encode),
-    ("copyreg", "_reconstructor"): Substitute("copyreg._reconstructor", _reconstructor),
+    ("copyreg", "_reconstructor"): Substitute(
+        "copyreg._reconstructor", _reconstructor, IS_JUDGED
+    ),
 }

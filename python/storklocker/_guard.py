@@ -33,6 +33,16 @@ def _later(module: str) -> "Any":
     return import_module(f"{__package__}.{module}")
 
 
+def plain_loads(data: bytes, is_old: bool, **named: "Any") -> "Any":
+    """`pickle.loads`, which imports each pair of an old pickle under its Python 3 name. `pickle`
+    goes by the current protocol, which another PROTO could change.
+    """
+    if is_old and data.find(b"\x80", 2 if data[:1] == b"\x80" else 0) >= 0:
+        renaming: Any = _later("_unpickler").loads_renaming
+        return renaming(data, fix_imports=False, **named)
+    return _loads(data, fix_imports=is_old, **named)
+
+
 def _view_of(data: "Any") -> memoryview:
     try:
         return memoryview(data)
@@ -128,11 +138,11 @@ class Guard(Loads):
         _later("_meant").require(allow)
         self._has_substitutes = has_substitutes(allow)
         is_plain = not fix_imports and old_strings != "bytes"
-        self._is_plain = is_plain and not self._has_substitutes
+        self._is_plain = is_plain and not len(allow)
         self._new = allow._for_loading()._under(settings)
         self._old = allow._for_old_names()._under(settings) if fix_imports else self._new
         self._unpickler: Optional[Type[GuardedUnpickler]] = None
-        begin_loads(self, self._new if is_plain else None, _loads, self._has_substitutes)
+        begin_loads(self, self._new if is_plain else None, _loads, len(allow) > 0)
 
     @classmethod
     def from_file(
@@ -196,14 +206,14 @@ class Guard(Loads):
                 raise self._told(no, data)  # a variable of it would make a cycle with this frame
             self._told(no, data)
         encoding, errors = self._decoding(encoding, errors)
-        return self._loaded(data, encoding, errors, buffers)
+        return self._loaded(data, encoding, errors, buffers, no is None)
 
     def _loads_refused(self, data: bytes, no: Verdict) -> "Any":
         """`loads` of a pickle that is refused."""
         if self._enforce:
             raise self._told(no, data)
         self._told(no, data)
-        return self._loads_accepted(data)
+        return self._loaded(data, *self._decoding(None, None), None, False)
 
     def _loads_accepted(self, data: bytes) -> "Any":
         """`loads` of a pickle that is accepted, or loaded all the same."""
@@ -251,7 +261,7 @@ class Guard(Loads):
         if self._unpickler is None:
             from ._unpickler import kind_of
 
-            self._unpickler = kind_of(self, self._has_substitutes)
+            self._unpickler = kind_of(self)
         return self._unpickler
 
     @staticmethod
@@ -309,6 +319,11 @@ class Guard(Loads):
         copied: bytes = _later("_reading").copied(self, _view_of(data))
         return copied
 
+    @property
+    def _takes_any(self) -> bool:
+        """Whether BUILD may take what the pickle hasn't made."""
+        return (self._allow._build or self._build) == "any" and not self._has_substitutes
+
     def _like(self, **changed: "Any") -> "Guard":
         """The same guard with other settings."""
         settings = {name: getattr(self, f"_{name}") for name in ("allow", *_SETTINGS)}
@@ -338,7 +353,7 @@ class Guard(Loads):
         if no is not None and not no.accepted:
             self._refuse(no, data, 0)
         encoding, errors = self._decoding(encoding, errors)
-        return self._loaded(data, encoding, errors, buffers)
+        return self._loaded(data, encoding, errors, buffers, no is None or no.accepted)
 
     def _for_children(self) -> "Guard":
         """The guard for another process: without its hook if that can't be pickled."""
@@ -354,20 +369,26 @@ class Guard(Loads):
         return data
 
     def _loaded(
-        self, data: bytes, encoding: str, errors: str, buffers: "Optional[Iterable[Any]]"
+        self,
+        data: bytes,
+        encoding: str,
+        errors: str,
+        buffers: "Optional[Iterable[Any]]",
+        is_accepted: bool = True,
     ) -> "Any":
-        """The object of an accepted pickle, with its imports under the names that were checked."""
-        if self._has_substitutes:
-            loads: Any = _later("_substitutes").loads
-            is_old, own = self._has_old_names(data), self._allow
-            if self._on_refusal is None:
-                return loads(data, own, is_old, encoding=encoding, errors=errors, buffers=buffers)
-            with _later("_telling").Misuses(self, data):
-                return loads(data, own, is_old, encoding=encoding, errors=errors, buffers=buffers)
-        read: Any = _loads
-        if self._has_old_names(data):
-            from ._unpickler import loads_renaming as read
-        return read(data, fix_imports=False, encoding=encoding, errors=errors, buffers=buffers)
+        """The object of a pickle, with its imports under the names that were checked. One that is
+        loaded though it is refused is judged only where names have substitutes.
+        """
+        words: Any = {"encoding": encoding, "errors": errors, "buffers": buffers}
+        is_old = self._has_old_names(data)
+        if not (len(self._allow) if is_accepted else self._has_substitutes):
+            return plain_loads(data, is_old, **words)
+        its: Any = _later("_substitutes")
+        how = its.Judged(is_old, self._takes_any)
+        if self._on_refusal is None:
+            return its.loads(data, self._allow, how, **words)
+        with _later("_telling").Misuses(self, data):
+            return its.loads(data, self._allow, how, **words)
 
 
 _SETTINGS = (

@@ -9,9 +9,9 @@ from typing import Any, Callable
 from ._answers import Misused
 
 
-BECOMES_REAL, IS_PASSED, IS_WRAPPER = 1, 2, 4
+BECOMES_REAL, IS_PASSED, IS_WRAPPER, IS_JUDGED = 1, 2, 4, 8
 """Roles, as `uses.c` knows them: a name that is the real object where it is a value; a class that
-some functions take as an argument; joblib's wrapper of arrays.
+some functions take as an argument; joblib's wrapper of arrays; what makes objects that are judged.
 """
 
 

@@ -11,10 +11,8 @@ has the reader put the real object there.
 
 from __future__ import annotations
 
-import functools
 import pickle
 import sys
-import types
 import weakref
 from typing import (
     Any,
@@ -22,16 +20,22 @@ from typing import (
     Dict,
     FrozenSet,
     List,
+    NamedTuple,
     Optional,
     Tuple,
+    TYPE_CHECKING,
 )
 
 from . import _arrays, _builtins, _names
 from ._answers import Misused
-from ._guard import _later
+from ._guard import _later, plain_loads
 from ._lists import AllowList
 from ._objects import found
+from ._states import build, judge_made
 from ._substitute import Substitute
+
+if TYPE_CHECKING:
+    from ._uses import Uses
 
 Pair = Tuple[str, str]
 Piece = Tuple[bytes, int, int]
@@ -39,6 +43,7 @@ Piece = Tuple[bytes, int, int]
 
 _DEFAULTS = {"encoding": "ASCII", "errors": "strict", "buffers": None}
 """What a reader takes as if it were given nothing, only slower."""
+_UNFOLLOWED = "the pickle has instructions that no pickler writes"
 _IS_LENT = pickle.Unpickler is not getattr(pickle, "_Unpickler", None)
 """Whether the reader takes bytes that are lent: that in C does, that in Python doesn't."""
 
@@ -82,25 +87,40 @@ class Feed:
         return self._data[begin : self._at]
 
 
+class Judged(NamedTuple):
+    """How a pickle is loaded."""
+
+    is_old: bool
+    """Whether its names are those of Python 2."""
+    takes_any: bool
+    """Whether BUILD may take what the pickle hasn't made."""
+
+
+def declared(allow: AllowList) -> Dict[Pair, Substitute]:
+    """The substitutes that a list declares."""
+    return {} if allow._meant is None else allow._meant.substitutes
+
+
 class Reader(pickle.Unpickler):
     """Loads pickles that are accepted and respelled."""
 
     wrappers: FrozenSet[Pair] = frozenset()
     """The names of joblib's wrapper of arrays, if they have a meaning of their own."""
 
-    def __init__(self, allow: AllowList, **named: Any) -> None:
+    def __init__(self, allow: AllowList, uses: Optional[Uses] = None, **named: Any) -> None:
         self._feed = Feed()
         super().__init__(self._feed, fix_imports=False, **named)
-        meant = allow._meant
-        self.own: Dict[Pair, Substitute] = {} if meant is None else meant.substitutes
+        self.own = declared(allow)
         """The substitutes that the list declares."""
-        self._uses = _later("_uses").Uses(self.own, self.wrappers)
+        self._uses: Uses = uses or _later("_uses").Uses(self.own, self.wrappers)
         self.unbuilt: Dict[int, Any] = {}
         """Objects that a substitute made, by id, and whose state the pickle has yet to set."""
         self.types: Dict[int, Any] = {}
         """Types of NumPy's arrays whose state was set, by id, each with its size as a tree."""
         self.states: Dict[int, Callable[[Any], Any]] = {}
         """What judges the state of an object in `unbuilt`, and gives the one to be set."""
+        self.errors: Dict[int, Tuple[BaseException, int]] = {}
+        """The exceptions that were judged, by id, each with its levels."""
         self.looked = 0
         """The number of memo entries that were searched."""
         self.itself = weakref.ref(self)
@@ -110,11 +130,20 @@ class Reader(pickle.Unpickler):
         """The object of the accepted pickle at an offset. `is_old`: whether its names are those of
         Python 2.
         """
-        self._feed.fill(self._uses.respelled(data, at, is_old))
+        return self.read(self._uses.respelled(data, at, is_old))
+
+    def read(self, pieces: List[Piece]) -> Any:
+        """The object of a pickle that its uses have respelled."""
+        self._feed.fill(pieces)
         made = self.load()
         if not self._uses.is_whole:
-            raise Misused("the pickle has instructions that no pickler writes")
+            raise Misused(_UNFOLLOWED)
         return made
+
+    @property
+    def takes_any(self) -> bool:
+        """Whether BUILD may take what the pickle hasn't made."""
+        return self._uses.takes_any
 
     def find_class(self, module: str, name: str, /) -> Any:
         pair = module, name
@@ -131,9 +160,13 @@ class Reader(pickle.Unpickler):
             return self.persistent(asked)
         if len(asked) == 2:
             if "numpy" not in sys.modules or not _arrays.is_built(self, asked):
-                _build(self, asked)
+                if not self._uses.is_whole:
+                    raise Misused(_UNFOLLOWED)
+                build(self, asked[0], asked[1])
         elif len(asked) != 3:
             return self.persistent(asked[0])
+        elif asked[2] is not None:
+            judge_made(self, asked)
         elif isinstance(asked[0], Substitute):
             return asked[0].real()
         return asked[0]
@@ -159,13 +192,16 @@ class _Renaming(Reader):
         return super().find_class(*_names.renamed((module, name)))
 
 
-def loads(data: bytes, allow: AllowList, is_old: bool, **named: Any) -> Any:
-    """The object of a pickle that is accepted under the list. `is_old`: whether its names are those
-    of Python 2.
-    """
+def loads(data: bytes, allow: AllowList, how: Judged, **named: Any) -> Any:
+    """The object of a pickle that is accepted under the list."""
     if named == _DEFAULTS:
         named = {}
-    return (_Renaming if is_old else Reader)(allow, **named).loaded(data, 0, is_old)
+    uses: Uses = _later("_uses").Uses(declared(allow), frozenset())
+    uses.takes_any = how.takes_any
+    pieces = uses.respelled(data, 0, how.is_old)
+    if uses.is_changed:
+        return (_Renaming if how.is_old else Reader)(allow, uses, **named).read(pieces)
+    return plain_loads(data, how.is_old, **named)
 
 
 def named(module: str, name: str, allow: AllowList) -> Any:
@@ -193,45 +229,3 @@ def substitute_of(pair: Pair) -> Optional[Substitute]:
         return TABLE[pair]
     it = found(*pair)  # (may import NumPy)
     return _by_object().get(id(it))
-
-
-_ABSENT = object()
-_IMPORTED = (
-    type,
-    types.ModuleType,
-    types.FunctionType,
-    types.BuiltinFunctionType,
-    types.MethodType,
-    Substitute,
-)
-
-
-def _build(reader: Reader, asked: Tuple[Any, ...]) -> None:
-    """Sets the state of an object as BUILD does, unless it is known to do harm."""
-    receiver, state = asked
-    if isinstance(receiver, functools.partial) and ("functools", "partial") in reader.own:
-        if reader.unbuilt.pop(id(receiver), None) is not receiver:
-            raise Misused("the state of a partial is set a second time")
-        state = reader.states[id(receiver)](state)
-    if isinstance(receiver, _IMPORTED):
-        raise Misused(f"BUILD on {receiver!r:.80}, which is imported")
-    set_state: Any = getattr(receiver, "__setstate__", _ABSENT)
-    if set_state is not _ABSENT:
-        set_state(state)
-        return
-    slots: Any = _ABSENT
-    if isinstance(state, tuple) and len(state) == 2:
-        state, slots = state
-    if state is not None:
-        attributes = receiver.__dict__
-        for name, value in _items_of(state, "state"):
-            attributes[sys.intern(name) if type(name) is str else name] = value
-    if slots is not _ABSENT:
-        for name, value in _items_of(slots, "slot state"):
-            setattr(receiver, name, value)
-
-
-def _items_of(state: Any, name: str) -> List[Tuple[Any, Any]]:
-    if not isinstance(state, dict):
-        raise pickle.UnpicklingError(f"{name} is not a dictionary")
-    return list(dict.items(state))

@@ -266,6 +266,7 @@ class SubstitutingUnpickler(GuardedUnpickler):
         words = ("encoding", "errors")
         encoding, errors = self.guard._decoding(*(named.get(word) for word in words))
         self._reader = _Inner(self, encoding=encoding, errors=errors, buffers=buffers)
+        self._reader._uses.takes_any = self.guard._takes_any
 
     if not _IS_PYTHON:
 
@@ -293,9 +294,9 @@ class OldUnpickler(GuardedUnpickler):
         return super().find_class(module, name)
 
 
-def kind_of(guard: Guard, is_substituting: bool) -> Type[GuardedUnpickler]:
+def kind_of(guard: Guard) -> Type[GuardedUnpickler]:
     """The Unpickler of a guard."""
-    kind = SubstitutingUnpickler if is_substituting else GuardedUnpickler
+    kind = SubstitutingUnpickler if len(guard._allow) else GuardedUnpickler
     kinds = (OldUnpickler, kind) if guard._fix_imports else (kind,)
     words = {"guard": guard, "__module__": "storklocker._guard"}
     return type("Unpickler", kinds, words)

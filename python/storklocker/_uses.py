@@ -9,13 +9,14 @@ from __future__ import annotations
 
 import functools
 import itertools
-from typing import Dict, FrozenSet, List, Mapping, Optional, Tuple
+from typing import Any, Dict, FrozenSet, List, Mapping, Optional, Tuple
 
 from . import _names
 from ._answers import Misused
 from ._guard import _loads
 from ._storklocker import begin_uses, uses
-from ._substitute import IS_WRAPPER, Substitute
+from ._objects import found
+from ._substitute import IS_JUDGED, IS_WRAPPER, Substitute
 from ._substitutes import Piece, substitute_of
 
 Pair = Tuple[str, str]
@@ -34,15 +35,20 @@ class _Numbers:
         self._next = itertools.count(1)
 
     def number(self, pair: Pair, role: Optional[int]) -> int:
-        """The number and the role of a pair; 0 without a role."""
-        if role is None:
-            return 0
+        """The number and the role of a pair; 0 without a role. A class of which each object is
+        judged has no number.
+        """
+        if role is None or role == _UNNAMED:
+            return role or 0
         number = self.of.get(pair) or self.of.setdefault(pair, next(self._next))
         if number >= _MOST:
             raise Misused("the pickle writes the names that have substitutes in too many ways")
         return number + role * _MOST
 
 
+_UNNAMED = IS_JUDGED * _MOST
+"""The role of a class without a substitute, and of what calls one, of which objects are judged."""
+_MAKERS = frozenset((("copyreg", "__newobj__"), ("copyreg", "__newobj_ex__")))
 _SHARED = _Numbers()
 """The numbers of pairs that have the same substitute under all lists."""
 _ROOM = _MOST // 2
@@ -52,11 +58,15 @@ _ROOM = _MOST // 2
 class Uses:
     """Follows the pickles that one reader loads."""
 
-    __slots__ = ("is_whole", "_own", "_kept", "_numbers", "_is_old")
+    __slots__ = ("is_whole", "is_changed", "takes_any", "_own", "_kept", "_numbers", "_is_old")
 
     def __init__(self, own: Mapping[Pair, Substitute], wrappers: FrozenSet[Pair]) -> None:
         self.is_whole = True
         """Whether each instruction of the last pickle was followed."""
+        self.is_changed = True
+        """Whether something of the last pickle is judged while it is loaded."""
+        self.takes_any = False
+        """Whether BUILD may take what the pickle hasn't made."""
         self._own: Dict[Pair, int] = {}
         if own or wrappers:
             self._own = dict.fromkeys(wrappers, IS_WRAPPER)
@@ -74,7 +84,14 @@ class Uses:
         number_of = self._number_of
         if self._numbers is _SHARED:
             number_of = _shared_old if is_old else _shared_new
-        pieces, self.is_whole, number, place = uses(self._kept, data, at, number_of)
+        pieces, self.is_whole, number, place, self.is_changed = uses(
+            self._kept, data, at, number_of, self.takes_any
+        )
+        if place >= 0 and number == 0:
+            raise Misused(
+                f"at byte {place:,} an object gets a state or items that the pickle hasn't made, or"
+                " that has a state"
+            )
         if place >= 0:
             pair = next(pair for pair, its in self._numbers.of.items() if its == number)
             raise Misused(
@@ -112,4 +129,10 @@ def _asked(module: bytes, name: bytes, is_old: bool) -> Tuple[Pair, Optional[int
         first, second = _loads(module + b"."), _loads(name + b".")
     pair = _names.renamed((first, second)) if is_old else (first, second)
     substitute = substitute_of(pair)
-    return pair, None if substitute is None else substitute.role
+    if substitute is not None:
+        return pair, substitute.role
+    return pair, _UNNAMED if pair in _MAKERS or _is_error(found(*pair)) else None
+
+
+def _is_error(it: Any) -> bool:
+    return isinstance(it, type) and issubclass(it, BaseException)

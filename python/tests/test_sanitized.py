@@ -58,7 +58,9 @@ for name, call in CALLS.items():
 
 ROLE = 3 << 10
 NAMED = b"](" + b"NNb0" * 9 + b"}K\1ca\nb\ns0" + b"ca\nb\n" * 5 + b"e."
-CALLS["uses"] = lambda: _storklocker.uses(_storklocker.begin_uses(), NAMED, 0, lambda *it: 1 + ROLE)
+CALLS["uses"] = lambda: _storklocker.uses(
+    _storklocker.begin_uses(), NAMED, 0, lambda *it: 1 + ROLE, True
+)
 assert CALLS["uses"]()[1], "it is followed to its end"
 try:
     from _testcapi import set_nomemory, remove_mem_hooks

@@ -5,6 +5,7 @@ import io
 import pickle
 import pickletools
 import random
+import re
 import sys
 import unittest
 
@@ -76,6 +77,8 @@ class Walk(unittest.TestCase):
 
 REAL = b"NN\x87Q"
 """What has the reader put a real object in place of a name."""
+JUDGED = re.compile(b"NK[\1-\7]\x87Q")
+"""What has the reader judge what a call has made."""
 NEW = {b"b": b"\x86Q", b"Q": b"\x85Q", b"\x95": b""}
 WIDTHS = {
     pickletools.TAKEN_FROM_ARGUMENT1: 1,
@@ -119,7 +122,7 @@ def in_other_words(data, at=0):
 
 def respelled(data, at=0, role=0):
     """What the reader is given, as one piece. Every name has the role."""
-    pieces, _, _, _ = uses(begin_uses(), data, at, lambda *given: role and 1 + 1024 * role)
+    pieces = uses(begin_uses(), data, at, lambda *given: role and 1 + 1024 * role, True)[0]
     for of, begin, end in pieces:
         assert 0 <= begin < end <= len(of), (begin, end)
         assert of is data or end - begin < len(data) * 4
@@ -158,35 +161,38 @@ class Respelled(unittest.TestCase):
         words = [b"N", b"b", b"NNb", b"NQ", b"\x95" + bytes(8), b"\x95bbbbQbb.", b"C\3bQ.", b"h\0",
                  b"\x8c\1b", b"ca\nb\n", b"\x8c\1a\x8c\1b\x93", b"q\0", b"\x94", b"(", b"t", b"}",
                  b"s", b"]", b"a", b"e", b"\x85", b"\x86", b"R", b"\x81", b"0", b"2", b"C\xff"]
-        chosen, real, lost = random.Random(1), 0, 0
+        chosen, real, lost, judged = random.Random(1), 0, 0, 0
         for seed in range(20_000):
             if seed % 2:
                 data = bytes(chosen.choices(range(256), k=chosen.randrange(40)))
             else:
                 data = b"".join(chosen.choices(words, k=chosen.randrange(30))) + b"."
-            for role in (0, 1, 2, 4, 3):
-                told = uses(begin_uses(), data, 0, lambda *given: role and 1 + 1024 * role)
+            for role in (0, 1, 2, 4, 3, 8, 11):
+                told = uses(begin_uses(), data, 0, lambda *given: role and 1 + 1024 * role, True)
                 if told[3] >= 0:  # a name is a value and can't be real: nothing is loaded
                     self.assertEqual(told[0], [])
                     continue
                 spelled = respelled(data, 0, role)
-                self.assertEqual(spelled.replace(REAL, b""), in_other_words(data), data)
+                plain = JUDGED.sub(b"", spelled.replace(REAL, b""))
+                self.assertEqual(plain, JUDGED.sub(b"", in_other_words(data)), data)
                 real += REAL in spelled
                 lost += not told[1] and NEW[b"b"] in spelled
+                judged += JUDGED.search(spelled) is not None
         self.assertGreater(real, 500)
         self.assertGreater(lost, 500)
+        self.assertGreater(judged, 500)
 
     def test_behind_an_instruction_at_which_a_reader_fails(self):
         for fault in (b"R", b"h\5", b"t", b"\x93", b"u"):
             data = b"\x80\x04" + fault + b"NNb" * 3 + b"NQ."
-            told = uses(begin_uses(), data, 0, len)
-            self.assertEqual(told[1:], (False, 0, -1))
+            told = uses(begin_uses(), data, 0, len, False)
+            self.assertEqual(told[1:], (False, 0, -1, True))
             self.assertEqual(respelled(data), b"\x80\x04" + fault + b"NN\x86Q" * 3 + b"N\x85Q.")
 
     def test_long_stretches_are_lent(self):
         for size in (LENT, 1 << 20):
             data = pickle.dumps([Kept(), b"x" * size, Kept()], 4)
-            pieces, is_whole, _, _ = uses(begin_uses(), data, 0, lambda *given: 0)
+            pieces, is_whole, *_ = uses(begin_uses(), data, 0, lambda *given: 0, False)
             self.assertTrue(is_whole)
             lent = [end - begin for of, begin, end in pieces if of is data]
             self.assertEqual(len(lent), 1)
@@ -198,7 +204,7 @@ class Respelled(unittest.TestCase):
         for piece in (b"Nb", b"b", b"Q", b"\x95" + bytes(8), b"b" + b"N" * 130):
             data = b"N" + piece * (400_000 // len(piece)) + b"."
             tracemalloc.start()
-            pieces, _, _, _ = uses(begin_uses(), data, 0, len)
+            pieces = uses(begin_uses(), data, 0, len, True)[0]
             _, most = tracemalloc.get_traced_memory()
             tracemalloc.stop()
             written = sum(end - begin for _, begin, end in pieces)
