@@ -283,6 +283,7 @@ static PyMethodDef methods[] = {
      "What loading an accepted pickle costs, if the settings limit costs; None if it is refused."},
     {"imports", AS_C_FUNCTION(imports), METH_FASTCALL,
      "The Verdict with every import permitted, bytes needed, and the imports if costs allow."},
+    {"stand_in", stand_in, METH_VARARGS, "A function in place of `pickle.load` or `loads`."},
     {"read_list", read_list, METH_VARARGS, "Fault or 0, limits, costs, bytes needed, the pairs."},
     {NULL, NULL, 0, NULL}};
 

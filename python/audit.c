@@ -43,6 +43,48 @@ static PyMethodDef audit_methods[] = {
     {"audit", AS_C_FUNCTION(audit), METH_FASTCALL, "The hook, for sys.addaudithook."},
     {NULL, NULL, 0, NULL}};
 
+/* What is called in place of `pickle.load` and `pickle.loads`. */
+static PyObject *called_instead[2];
+
+static PyObject *load(PyObject *self, PyObject *words, PyObject *named) {
+    (void)self;
+    return PyObject_Call(called_instead[0], words, named);
+}
+
+static PyObject *loads(PyObject *self, PyObject *words, PyObject *named) {
+    (void)self;
+    return PyObject_Call(called_instead[1], words, named);
+}
+
+/* A function of C that looks as one of these readers does, and calls a function of Python: it is
+   pickled by its name, and not bound where a class has it. It lives as long as the process. */
+PyObject *stand_in(PyObject *self, PyObject *words) {
+    static PyMethodDef readers[] = {
+        {"load", (PyCFunction)(void (*)(void))load, METH_VARARGS | METH_KEYWORDS, NULL},
+        {"loads", (PyCFunction)(void (*)(void))loads, METH_VARARGS | METH_KEYWORDS, NULL}};
+    int which;
+    PyObject *function, *owner, *doc;
+    (void)self;
+    if (!PyArg_ParseTuple(words, "pOOS", &which, &function, &owner, &doc))
+        return NULL;
+    if (called_instead[which] != NULL) {
+        PyErr_SetString(PyExc_RuntimeError, "another interpreter of this process has a guard");
+        return NULL;
+    }
+    PyObject *name = PyObject_GetAttrString(owner, "__name__");
+    if (name == NULL)
+        return NULL;
+    readers[which].ml_doc = PyBytes_AsString(doc);
+    PyObject *made = PyCFunction_NewEx(&readers[which], owner, name);
+    Py_DECREF(name);
+    if (made != NULL) {
+        Py_INCREF(doc);
+        Py_INCREF(function);
+        called_instead[which] = function;
+    }
+    return made;
+}
+
 int add_audit_hook(PyObject *module) {
     static PyType_Slot slots[] = {
         {Py_tp_dealloc, audit_dealloc},

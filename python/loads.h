@@ -27,6 +27,10 @@ PyObject *loads_type(void);
    after an error. */
 int set_loads(PyObject *guard, PyObject *list, PyObject *reader, int is_judging);
 
+/* Makes the function that an installed guard has in place of `pickle.load`, or with a true number
+   `pickle.loads`: of the function that it calls, the module `_pickle` and its doc as bytes. */
+PyObject *stand_in(PyObject *self, PyObject *words);
+
 /* Adds the class of the audit hook of installed guards to the module. Returns -1 after an error. */
 int add_audit_hook(PyObject *module);
 

@@ -200,17 +200,17 @@ class OwnProcesses(Quiet):
         """billiard, whose pool runs Celery's tasks, bound its readers before."""
         reading = {"__name__": "billiard.common", "load": BEFORE[0]}
         exec("def pickle_loads(data, load=load):\n    return load(data)", reading)
-        code = "def receive(data):\n    return pickle_loads(data)"
+        code = "def _recv(data):\n    return pickle_loads(data)"
         with storklocker.installed(GUARD):
             for name, wanted in (("billiard.pool", "OrderedDict"), ("shop.jobs", "Unlisted")):
                 calling = {"__name__": name, "pickle_loads": reading["pickle_loads"]}
                 exec(code, calling)
-                self.assertEqual(outcome(calling["receive"]), wanted)
+                self.assertEqual(outcome(calling["_recv"]), wanted)
             direct = {"__name__": "celery.concurrency.asynpool", "pickle_loads": BEFORE[0]}
-            exec(code, direct)
-            self.assertEqual(outcome(direct["receive"]), "OrderedDict")
+            exec(code.replace("_recv", "_recv_message"), direct)
+            self.assertEqual(outcome(direct["_recv_message"]), "OrderedDict")
             with storklocker.installed(GUARD, own=["shop.jobs"]):
-                self.assertEqual(outcome(calling["receive"]), "OrderedDict")
+                self.assertEqual(outcome(calling["_recv"]), "OrderedDict")
 
     def test_a_manager_on_the_network_is_guarded(self):
         with socket.create_server(("127.0.0.1", 0)) as server:
@@ -227,16 +227,16 @@ class OwnProcesses(Quiet):
 
     def _is_read_unchecked(self, connection):
         """Whether `multiprocessing.managers` may load what comes from a connection unchecked."""
-        from storklocker.everywhere import trust
+        from storklocker.everywhere import own
 
         reading = {
             "__name__": "multiprocessing.connection",
-            "judged": lambda: trust.is_own(sys._getframe(1), frozenset()),
+            "judged": lambda: own.is_own(sys._getframe(1), frozenset()),
         }
         exec("def recv(self):\n    return judged()", reading)
         serving = {"__name__": "multiprocessing.managers", "recv": reading["recv"]}
-        exec("def serve(connection):\n    return recv(connection)", serving)
-        return serving["serve"](connection)
+        exec("def serve_client(connection):\n    return recv(connection)", serving)
+        return serving["serve_client"](connection)
 
 
 class Unavailable(Quiet):

@@ -7,7 +7,7 @@ import gc
 import pickle
 import sys
 import types
-from typing import Any, Dict, Iterator, List, NamedTuple, Set, Tuple
+from typing import Any, Container, Dict, Iterator, List, NamedTuple, Set, Tuple
 
 _OURS = __name__.partition(".")[0]
 
@@ -37,8 +37,8 @@ class Change(NamedTuple):
 
 
 def replace_all(instead: Dict[int, Any]) -> List[Change]:
-    """Gives each module, and each class that a module holds, the replacement for each reader that
-    it holds under any name. `instead` has the replacements by the id of the reader.
+    """Gives each module, and each class that a module holds, another reader for each that it holds
+    under any name. `instead` has the others by the id of the reader; the same one stays.
     """
     changes: List[Change] = []
     seen: Set[int] = set()
@@ -63,23 +63,22 @@ def _replace_in(owner: Any, instead: Dict[int, Any], changes: List[Change]) -> N
         new = instead.get(id(plain))
         if new is None:
             continue
-        if isinstance(owner, type) and not isinstance(new, type):
-            new = staticmethod(new)
         try:
-            setattr(owner, name, new)
+            if new is not plain:
+                setattr(owner, name, new if plain is held else staticmethod(new))
         except (AttributeError, TypeError):  # a type in C: `others` finds it
             continue
         changes.append(Change(owner, name, held))
 
 
-def others(changes: List[Change]) -> Iterator[str]:
-    """Where readers are still held: subclasses, default arguments, containers. What is loaded from
-    there is not checked whole.
+def others(changes: List[Change], ours: Container[Any]) -> Iterator[str]:
+    """Where readers are still held: subclasses but `ours`, default arguments, containers. What is
+    loaded from there is not checked whole.
     """
     changed = [change.owner for change in changes if change.name == "load"]
     for name, reader in ORIGINALS.items():
         if isinstance(reader, type):
-            for each in _subclasses(reader):
+            for each in _subclasses(reader, ours):
                 if not _is_ours(each.__module__) and each not in changed:
                     yield f"a subclass of {name}: {each.__module__}.{each.__qualname__}"
     known = {id(ORIGINALS), *map(id, changes)}
@@ -90,10 +89,11 @@ def others(changes: List[Change]) -> Iterator[str]:
                     yield from _described(reader.__name__, holder)
 
 
-def _subclasses(of: Any) -> Iterator[Any]:
+def _subclasses(of: Any, ours: Container[Any]) -> Iterator[Any]:
     for each in type.__subclasses__(of):
-        yield each
-        yield from _subclasses(each)
+        if each not in ours:
+            yield each
+            yield from _subclasses(each, ours)
 
 
 def _described(name: str, holder: Any) -> Iterator[str]:

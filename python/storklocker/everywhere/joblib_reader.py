@@ -7,13 +7,11 @@ joblib reads instructions and arrays in turn, so no check can go in front of its
 from __future__ import annotations
 
 import sys
-from typing import TYPE_CHECKING, Any, Callable, List
+from typing import Any, Callable, List
 
 from .holders import Change
-from .trust import is_own, is_trusted
-
-if TYPE_CHECKING:
-    from .installing import State
+from .state import NOW
+from .trust import unchecked
 
 _MODULE, _CLASS = "joblib.numpy_pickle", "NumpyUnpickler"
 
@@ -23,7 +21,7 @@ def is_joblib(kind: Any) -> bool:
     return (kind.__module__, kind.__qualname__) == (_MODULE, _CLASS)
 
 
-def replace_joblib(state: State, changes: List[Change]) -> List[Change]:
+def replace_joblib(changes: List[Change]) -> List[Change]:
     """Gives joblib's reader, if joblib is imported, a guarded `load`. Its module keeps the class
     that it derives from, because it calls that by its name. Returns all changes.
     """
@@ -34,17 +32,30 @@ def replace_joblib(state: State, changes: List[Change]) -> List[Change]:
     bases = [it for it in changes if it.owner is module and it.before in kind.__mro__]
     for change in bases:
         change.undo()
-    own = Change(kind, "load", getattr(kind, "load"))
-    setattr(kind, "load", load_of(state, own.before))
-    return [*(it for it in changes if it not in bases), own]
+    plain: Any = getattr(kind, "load")
+    if not hasattr(plain, "plain"):
+        setattr(kind, "load", load_of(plain))
+    return [*(it for it in changes if it not in bases), Change(kind, "load", plain)]
 
 
-def load_of(state: State, plain: Callable[[Any], Any]) -> Callable[[Any], Any]:
+def restore_joblib() -> None:
+    """Gives joblib's reader its own `load` again."""
+    kind: Any = getattr(sys.modules.get(_MODULE), _CLASS, None)
+    plain = getattr(vars(kind).get("load"), "plain", None) if isinstance(kind, type) else None
+    if plain is not None:
+        setattr(kind, "load", plain)
+
+
+def load_of(plain: Callable[[Any], Any]) -> Callable[[Any], Any]:
     """The `load` of joblib's reader, which loads files of trusted code as before."""
 
     def load(reader: Any) -> Any:
         """Loads a file of joblib through the guard that is installed."""
-        if not state.is_active or is_trusted() or is_own(sys._getframe(1), state.own):
+        state = NOW.state
+        if state is None or state.frees(sys._getframe(1)):
+            return unchecked(plain, (reader,), {})
+        if not state.guard.enforce:  # each import is reported
+            vars(reader).pop("_storklocker_way", None)
             return plain(reader)
         from ..contrib.joblib import load_joblib
 
@@ -52,4 +63,5 @@ def load_of(state: State, plain: Callable[[Any], Any]) -> Callable[[Any], Any]:
             return load_joblib(reader.file_handle, state.guard)
         return load_joblib(reader.filename, state.guard, mmap_mode=reader.mmap_mode)
 
+    setattr(load, "plain", plain)
     return load

@@ -1,121 +1,163 @@
-"""The readers that take the place of those of `pickle`."""
+"""The functions in place of `pickle.load` and `loads`, for the life of the process. They call the
+plain ones where no guard is installed.
+"""
 
 from __future__ import annotations
 
+import pickle
 import sys
-from types import FrameType
-from typing import TYPE_CHECKING, Any, Dict, Iterable, Optional, Tuple, Type
+from types import BuiltinFunctionType, FrameType
+from typing import Any, Callable, Dict, Iterable, Optional, Tuple
 
-from .checked_file import CheckedFile
+from .._guard import Guard
+from .._storklocker import stand_in
 from .holders import ORIGINALS
-from .joblib_reader import is_joblib, load_of
-from .python_reader import python_unpickler
-from .trust import is_own, is_trusted, trust_now, trusted
+from .looking import Looking
+from .state import NOW
+from .trust import is_any_trusted, reported, unchecked
 
-if TYPE_CHECKING:
-    from .installing import State
-
-_load, _loads = ORIGINALS["load"], ORIGINALS["loads"]
+_loads = ORIGINALS["loads"]
 _SMALL = 1 << 12
 """Checking fewer bytes costs less than finding out who asks for them."""
 
 
-def readers_of(state: State) -> Dict[str, Any]:
-    """The replacements for the readers of `pickle`, by their names."""
-    load, loads = _load_of(state), _loads_of(state)
-    made = {"load": load, "_load": load, "loads": loads, "_loads": loads}
-    made["Unpickler"] = _unpickler_of(state, ORIGINALS["Unpickler"], state.guard.Unpickler)
-    if "_Unpickler" in ORIGINALS:
-        guarded = python_unpickler(state.guard)
-        made["_Unpickler"] = _unpickler_of(state, ORIGINALS["_Unpickler"], guarded)
-    return {name: made[name] for name in ORIGINALS}
+class Words:
+    """The arguments of a call of a reader."""
+
+    __slots__ = ("source", "encoding", "errors", "buffers")
+
+    def __init__(
+        self,
+        source: Any,
+        *,
+        fix_imports: bool = True,
+        encoding: str = "ASCII",
+        errors: str = "strict",
+        buffers: Optional[Iterable[Any]] = None,
+    ) -> None:
+        self.source, self.buffers = source, buffers
+        # The guard decides itself where the caller says nothing.
+        self.encoding = None if encoding == "ASCII" else encoding
+        self.errors = None if errors == "strict" else errors
+
+    @property
+    def named(self) -> Dict[str, Any]:
+        """Those for a guard, but for the first one."""
+        return {"encoding": self.encoding, "errors": self.errors, "buffers": self.buffers}
 
 
-def _loads_of(state: State) -> Any:
-    guard = state.guard
-    is_bound = state.is_lasting and guard._is_plain
-    refusal = guard._new._refusal
+def words_of(given: Tuple[Any, ...], named: Dict[str, Any], first: str) -> Words:
+    """The arguments of a call. The first one may be named."""
+    if not given and first in named:
+        given = (named[first],)
+        named = {name: value for name, value in named.items() if name != first}
+    return Words(*given, **named)
 
-    def loads(data: Any, /, **named: Any) -> Any:
-        """`pickle.loads` through the guard that is installed."""
-        trust = trust_now()
-        if trust is not None and trust.is_open or not state.is_active:
-            return _loads(data, **named) if named else _loads(data)
-        if is_bound and not named and type(data) is bytes and len(data) < _SMALL:
+
+def _loads_front(*given: Any, **named: Any) -> Any:
+    """`pickle.loads` through the guard that is installed."""
+    refusal = NOW.refusal
+    if refusal is not None and len(given) == 1 and not named:
+        data = given[0]
+        if type(data) is bytes and len(data) < _SMALL and not is_any_trusted():
             if refusal(data) is None:  # whoever asks
                 return _loads(data, fix_imports=False)
-        if is_own(sys._getframe(1), state.own):
-            with trusted():
-                return _loads(data, **named)
-        encoding, errors, buffers = _words(**named)
-        return guard._now()._loads_front(data, encoding, errors, buffers)
-
-    return loads
+    return _loaded(_loads, given, named, sys._getframe(1))
 
 
-def _load_of(state: State) -> Any:
-    def load(file: Any, **named: Any) -> Any:
-        """`pickle.load` through the guard that is installed."""
-        if not state.is_active or is_trusted():
-            return _load(file, **named)
-        if is_own(sys._getframe(1), state.own):
-            with trusted():
-                return _load(file, **named)
-        encoding, errors, buffers = _words(**named)
-        return state.guard.load(file, encoding=encoding, errors=errors, buffers=buffers)
+def _loaded(
+    plain: Callable[..., Any], given: Tuple[Any, ...], named: Dict[str, Any], frame: FrameType
+) -> Any:
+    state = NOW.state
+    if state is None or state.frees(frame):
+        return unchecked(plain, given, named)
+    guard = state.guard._now()
+    if not guard.enforce:
+        _look(guard, *given)
+        return reported(plain, given, named)
+    words = words_of(given, named, "data")
+    return guard._loads_front(words.source, words.encoding, words.errors, words.buffers)
 
-    return load
+
+def _look(guard: Guard, data: Any = b"", *_: Any) -> None:
+    """Reports what a guard that enforces nothing would refuse."""
+    try:
+        data = bytes(memoryview(data))
+    except (TypeError, ValueError):  # the reader says what is wrong with it
+        return
+    no = guard._listed_for(data)._refusal(data)
+    if no is not None and not no.accepted:
+        guard._refuse(no, data)
 
 
-def _words(
+def _load_front(*given: Any, **named: Any) -> Any:
+    """`pickle.load` through the guard that is installed."""
+    return _loaded_from(ORIGINALS["load"], given, named, sys._getframe(1))
+
+
+def _loaded_from(
+    plain: Callable[..., Any], given: Tuple[Any, ...], named: Dict[str, Any], frame: FrameType
+) -> Any:
+    state = NOW.state
+    if state is None or state.frees(frame):
+        return unchecked(plain, given, named)
+    if state.guard.enforce:
+        words = words_of(given, named, "file")
+        return state.guard.load(words.source, **words.named)
+    if not given and "file" in named:
+        given = (named.pop("file"),)
+    looking = Looking(state.guard, given[0] if given else None)
+    with looking:
+        return reported(plain, (looking.file, *given[1:]) if given else given, named)
+
+
+def _load_in_python(
+    file: Any,
     *,
     fix_imports: bool = True,
     encoding: str = "ASCII",
     errors: str = "strict",
     buffers: Optional[Iterable[Any]] = None,
-) -> Tuple[Optional[str], Optional[str], Optional[Iterable[Any]]]:
-    """The words of a call for the guard, which decides itself where the caller says nothing."""
-    return (
-        None if encoding == "ASCII" else encoding,
-        None if errors == "strict" else errors,
-        buffers,
-    )
+) -> Any:
+    words: Any = {"encoding": encoding, "errors": errors, "buffers": buffers}
+    words["fix_imports"] = fix_imports
+    return _loaded_from(ORIGINALS["_load"], (file,), words, sys._getframe(1))
 
 
-def _unpickler_of(state: State, plain: Type[Any], guarded: Type[Any]) -> Type[Any]:
-    """The replacement for a class of `pickle`. What is made in trusted code reads as before."""
-
-    class Unpickler(guarded):  # type: ignore[misc]
-        def __init_subclass__(cls, **named: Any) -> None:
-            super().__init_subclass__(**named)
-            if is_joblib(cls):
-                setattr(cls, "load", load_of(state, getattr(cls, "load")))
-
-        def __init__(self, file: Any, **named: Any) -> None:
-            is_free = _is_free(state, sys._getframe(1))
-            if not isinstance(self, Unpickler):  # of a subclass that was made before
-                plain.__init__(self, file if is_free else CheckedFile(state.guard, file), **named)
-                return
-            self._is_plain = is_free
-            if is_free:
-                plain.__init__(self, file, **named)
-                return
-            encoding, errors, buffers = _words(**named)
-            super().__init__(file, encoding=encoding, errors=errors, buffers=buffers)
-
-        def load(self) -> Any:
-            if not isinstance(self, Unpickler) or self._is_plain:
-                return plain.load(self)
-            return super().load()
-
-        def find_class(self, module: str, name: str, /) -> Any:
-            if not isinstance(self, Unpickler) or self._is_plain:
-                return plain.find_class(self, module, name)
-            return super().find_class(module, name)
-
-    Unpickler.__name__ = Unpickler.__qualname__ = plain.__name__
-    return Unpickler
+def _loads_in_python(
+    s: Any,
+    /,
+    *,
+    fix_imports: bool = True,
+    encoding: str = "ASCII",
+    errors: str = "strict",
+    buffers: Optional[Iterable[Any]] = None,
+) -> Any:
+    words: Any = {"encoding": encoding, "errors": errors, "buffers": buffers}
+    words["fix_imports"] = fix_imports
+    return _loaded(ORIGINALS["_loads"], (s,), words, sys._getframe(1))
 
 
-def _is_free(state: State, frame: FrameType) -> bool:
-    return not state.is_active or is_trusted() or is_own(frame, state.own)
+_FRONTS: Dict[str, Callable[..., Any]] = {
+    "load": _load_front,
+    "loads": _loads_front,
+    "_load": _load_in_python,
+    "_loads": _loads_in_python,
+}
+
+
+def functions() -> Dict[str, Any]:
+    """The functions in place of those of `pickle`, by their names. Each looks as the plain one."""
+    return {name: _standing(name, _FRONTS[name]) for name in ORIGINALS if name in _FRONTS}
+
+
+def _standing(name: str, front: Any) -> Any:
+    plain: Any = ORIGINALS[name]
+    if type(ORIGINALS[name]) is BuiltinFunctionType:
+        doc = f"{name}{plain.__text_signature__}\n--\n\n{plain.__doc__}"
+        return stand_in(name == "loads", front, plain.__self__, doc.encode())
+    if plain.__module__ == pickle.__name__ and name in ("load", "loads"):  # as under PyPy
+        front = _FRONTS["_" + name]
+    for each in ("__name__", "__qualname__", "__module__", "__doc__"):
+        setattr(front, each, getattr(plain, each))
+    return front

@@ -1,111 +1,144 @@
-"""Code that may load pickles unchecked: trusted blocks, and the modules of multiprocessing."""
+"""Blocks that load pickles unchecked, and the frames that ask for a load."""
 
 from __future__ import annotations
 
 import contextlib
 import contextvars
 import pickle
-import socket
-import stat
+import sys
+import weakref
 from types import FrameType
-from typing import Any, FrozenSet, Iterator, Optional
-
-OWN = frozenset(
-    (
-        "billiard.pool",
-        "celery.concurrency.asynpool",
-        "concurrent.futures.process",
-        "multiprocessing.forkserver",
-        "multiprocessing.managers",
-        "multiprocessing.pool",
-        "multiprocessing.queues",
-        "multiprocessing.resource_sharer",
-        "multiprocessing.spawn",
-        "joblib.externals.loky.backend.queues",
-        "joblib.externals.loky.process_executor",
-    )
-)
-"""Modules that read what the processes of this program send one another."""
-
-_CONNECTION = "multiprocessing.connection"
-_PASSING = "billiard.common"
-"""A module that reads for others, with pipes to its own processes: its caller is what counts."""
+from typing import Any, Callable, Dict, Iterator, Optional, Tuple
 
 
 class Unlisted(pickle.UnpicklingError):
     """A reader that no guard has checked asked for an import that is not on the list."""
 
 
-class _Trust:
-    """Ends with its block, also for tasks that were started in it."""
+class _Block:
+    """The trusted blocks of a frame that are open."""
 
-    __slots__ = ("is_open",)
+    __slots__ = ("frame", "depth", "task", "__weakref__")
+
+    def __init__(self, frame: FrameType) -> None:
+        self.frame: Optional[FrameType] = frame
+        self.depth, self.task = 0, _task_now()
+
+    def __del__(self) -> None:
+        held = _OPEN.get(id(self.frame))
+        if held is not None and held() in (None, self):
+            del _OPEN[id(self.frame)]
+
+    def awaits(self) -> bool:
+        """Whether the task of this block awaits in it what other tasks or threads do."""
+        task = self.task
+        if self.frame is None or task is None or task.done() or task is _task_now():
+            return False
+        return any(frame is self.frame for frame in _awaiting(task.get_coro()))
+
+
+_OPEN: Dict[int, weakref.ReferenceType[_Block]] = {}
+"""The blocks that are open, by the id of their frame. A block that never ends goes with its frame.
+"""
+_BEGUN: contextvars.ContextVar[Tuple[_Block, ...]] = contextvars.ContextVar(
+    "storklocker.trusted", default=()
+)
+"""Those of tasks, so that the tasks that they start in a block are known."""
+
+
+def _task_now() -> Any:
+    asyncio: Any = sys.modules.get("asyncio")
+    try:
+        return asyncio.current_task()
+    except (AttributeError, RuntimeError):  # there is no loop
+        return None
+
+
+def _awaiting(running: Any) -> Iterator[Any]:
+    """The frames of a coroutine and of those that it awaits."""
+    while running is not None:
+        yield getattr(running, "cr_frame", None) or getattr(running, "gi_frame", None)
+        running = getattr(running, "cr_await", None) or getattr(running, "gi_yieldfrom", None)
+
+
+def _block_of(frame: FrameType) -> Optional[_Block]:
+    held = _OPEN.get(id(frame))
+    block = None if held is None else held()
+    return block if block is not None and block.frame is frame else None
+
+
+class _Trusted(contextlib.ContextDecorator):
+    """A trusted block."""
 
     def __init__(self) -> None:
-        self.is_open = True
+        self._blocks: Tuple[_Block, ...] = ()
+
+    def _recreate_cm(self) -> _Trusted:
+        return _Trusted()
+
+    def __enter__(self) -> None:
+        frame = sys._getframe(1)
+        while frame.f_back is not None and frame.f_globals.get("__name__") == "contextlib":
+            frame = frame.f_back  # (an ExitStack enters for another frame)
+        block = _block_of(frame) or _Block(frame)
+        block.depth += 1
+        _OPEN[id(frame)] = weakref.ref(block)
+        if block.task is not None:
+            _BEGUN.set((*_BEGUN.get(), block))
+        self._blocks += (block,)
+
+    def __exit__(self, *raised: Any) -> None:
+        block, self._blocks = self._blocks[-1], self._blocks[:-1]
+        block.depth -= 1
+        if block.depth == 0:
+            _OPEN.pop(id(block.frame), None)
+            block.frame = None  # (tasks that were started in it may go on for long)
+            if block.task is not None:
+                _BEGUN.set(tuple(each for each in _BEGUN.get() if each is not block))
 
 
-_TRUST: contextvars.ContextVar[Optional[_Trust]] = contextvars.ContextVar(
-    "storklocker.trusted", default=None
-)
-trust_now = _TRUST.get
-"""The trust of this thread or task, which may have ended, or None."""
-
-
-@contextlib.contextmanager
-def trusted() -> Iterator[None]:
-    """Loads pickles unchecked within the block. Other threads and tasks stay guarded; a task that
-    is started in the block is trusted until the block ends.
+def trusted() -> _Trusted:
+    """Loads pickles unchecked within the block: what the frame that begins it calls, and what tasks
+    do that it starts and awaits there. Who resumes a generator that is in the block, and other
+    threads and tasks, stay guarded.
     """
-    trust = _Trust()
-    token = _TRUST.set(trust)
-    try:
-        yield
-    finally:
-        trust.is_open = False
-        _TRUST.reset(token)
+    return _Trusted()
 
 
-def is_trusted() -> bool:
-    """Whether this code runs in a trusted block."""
-    trust = trust_now()
-    return trust is not None and trust.is_open
-
-
-def is_own(frame: FrameType, more: FrozenSet[str]) -> bool:
-    """Whether a frame reads what another process of this program sent: it belongs to one of the
-    modules in `OWN` or `more`, and reads from no network.
-    """
-    module = frame.f_globals.get("__name__")
-    if module == _PASSING and frame.f_back is not None:
-        module = frame.f_back.f_globals.get("__name__")
-    if module != _CONNECTION:
-        return module in OWN or module in more
-    # `recv` is called by the module that decides what is received.
-    caller = frame.f_back
-    if caller is None:
+def is_trusted(frame: FrameType) -> bool:
+    """Whether a frame runs in a trusted block."""
+    if not _OPEN:
         return False
-    module = caller.f_globals.get("__name__")
-    return (module in OWN or module in more) and _is_local(frame.f_locals.get("self"))
+    back: Optional[FrameType] = frame
+    while back is not None:
+        if _block_of(back) is not None:
+            return True
+        back = back.f_back
+    return any(block.awaits() for block in _BEGUN.get())
 
 
-def _is_local(connection: Any) -> bool:
-    """Whether a connection of multiprocessing is a pipe or a socket of this machine alone. A
-    manager may listen on the network.
-    """
-    from multiprocessing import connection as module
+def is_any_trusted() -> bool:
+    """Whether a trusted block is open anywhere."""
+    return bool(_OPEN)
 
-    if type(connection) is getattr(module, "PipeConnection", None):
-        return True
-    if type(connection) is not module.Connection:
-        return False
-    import os
 
-    number = connection.fileno()
-    if stat.S_ISFIFO(os.fstat(number).st_mode):
-        return True
-    plain = socket.socket(fileno=number)
-    try:
-        return plain.family == getattr(socket, "AF_UNIX", None)
-    finally:
-        plain.detach()
+def unchecked(read: Callable[..., Any], given: Tuple[Any, ...], named: Dict[str, Any]) -> Any:
+    """Calls a reader of `pickle` for code that may load unchecked."""
+    return read(*given, **named)
+
+
+def reported(read: Callable[..., Any], given: Tuple[Any, ...], named: Dict[str, Any]) -> Any:
+    """Calls a reader of `pickle` on what a guard that enforces nothing has looked at."""
+    return read(*given, **named)
+
+
+def is_calling(frame: FrameType, caller: Callable[..., Any]) -> bool:
+    """Whether a frame is a call of one of these two functions."""
+    return frame.f_code is caller.__code__
+
+
+def asking(frame: FrameType) -> FrameType:
+    """The frame that asks for a load, or for an import: behind those of the reader in Python."""
+    while frame.f_globals is vars(pickle) and frame.f_back is not None:
+        frame = frame.f_back
+    return frame
