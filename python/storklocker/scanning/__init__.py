@@ -16,7 +16,8 @@
     following.py    the instructions of a pickle, without running them
     joblib_files.py, joblib_cutting.py and joblib_types.py
                     files of joblib without their arrays
-    reaching.py     whether a reader gets further than the checker
+    spelled.py, lenient.py and reaching.py
+                    what the most lenient reader imports, also behind what the checker refuses
     listing.py      the instructions around a refusal
     condensing.py   keeps the reports on one file within bounds
     scan.py         many files, in several processes

@@ -8,14 +8,13 @@ from .._reasons import Reason
 from .budget import Budget
 from .marks import TIME
 from .names import NOTHING, WIDEST, imports_within, verdict_at
-from .reaching import LENGTHS
 from .readings import Found, Place
 from .source import BLOCK, Source
-from .stores import is_import, is_in_words, is_value
+from .spelled import LENGTHS
+from .stores import imports_at, is_value
 
 _PICKLED = 64
 """More bytes than Django's pickle of a time has."""
-_LOOKED_AT = 1 << 20
 _NEVER = (b"", b"P", b"Q")
 """No value, or one that cachelib stops at: an object that is kept elsewhere."""
 
@@ -26,9 +25,7 @@ def cachelib_reading(place: Place) -> Found:
     value = source.part(TIME, source.size)
     if place.is_raw or value.read(0, 1) in _NEVER:
         return False
-    # words may have the letter c there
-    is_pickle = is_import(value) if is_in_words(source) else is_value(value)
-    if is_pickle and not _is_inside(source):
+    if is_value(value) and not _is_inside(source):
         yield place.piece("cachelib", TIME, True, 1)
     return False
 
@@ -43,8 +40,7 @@ def _is_inside(source: Source) -> bool:
         if length < 0:
             return False
         at += 1 + length
-    data = source.read(0, _LOOKED_AT)
-    whole, inner = (imports_within(it, NOTHING, WIDEST) for it in (data, data[TIME:]))
+    whole, inner = imports_at(source, 0), imports_at(source, TIME)
     is_behind = whole.verdict.taken == TIME
     return at == TIME and (is_behind or inner.names.keys() <= whole.names.keys())
 

@@ -13,7 +13,7 @@ from typing import Dict, Pattern, Tuple
 
 from .._storklocker import holds
 from .places import METADATA, PART, VALUES
-from .reaching import LENGTHS
+from .spelled import LENGTHS
 
 TIME = 4
 """The bytes of the time in front of a value of cachelib."""

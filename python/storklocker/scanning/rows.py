@@ -14,8 +14,9 @@ from .._reasons import Reason
 from .budget import Budget, TooMuch
 from .costs import COUNTED, KINDS, LIMITS, Exceeded, exceeded, exceeded_in_row, with_costs
 from .names import NOTHING, WIDEST, Imports, imports_within, limits_under, refused_with
-from .reaching import READERS_STOP, is_module, reached
+from .reaching import reached
 from .readings import Piece, is_text
+from .spelled import is_module
 
 if TYPE_CHECKING:
     from .._limits import Limits
@@ -205,17 +206,14 @@ class Row:
 
     def _refused(self, verdict: Verdict, found: Imports) -> Tuple["Names", ...]:
         """What a reader may import at the place where a pickle is refused, or behind it."""
-        beyond = reached(self._source, self.taken + verdict.at, verdict.reason, self.taken)
-        names = refused_with(verdict.reason) if beyond or self._piece.is_claimed else ()
-        self.is_reached = bool(found.names) or bool(names) or bool(beyond)
-        # (no attribute has an empty name)
-        goes_on = bool(beyond) and verdict.reason not in READERS_STOP and beyond.name != ""
-        self.stop = -1 if goes_on else self.taken + verdict.at
+        begin = self.taken
+        beyond = reached(self._source, begin, begin + verdict.at, verdict.reason)
+        is_beyond = beyond.is_reached_in(self._source.size)
+        names = refused_with(verdict.reason) if is_beyond or self._piece.is_claimed else ()
+        self.is_reached = bool(found.names) or bool(names) or is_beyond
+        self.stop = -1 if beyond.is_ended or not beyond.is_complete else beyond.end
         self.is_cut = verdict.reason is Reason.Truncated
-        if beyond.pair is None:
-            return names
-        module, name = ((text or "").encode() for text in beyond.pair)
-        return (*names, (module, name))
+        return (*names, *beyond.names)
 
     def forget_impossible(self) -> None:
         """Leaves out the names from the first on that no module has: a reader stops there."""
@@ -298,5 +296,5 @@ def _may_be_pickle(piece: Piece, front: bytes) -> bool:
     verdict = check(front, NOTHING, limits=LIMITS)
     if verdict or verdict.reason in _IMPORTING or verdict.reason in KINDS:
         return True
-    is_cut = verdict.reason is Reason.Truncated and len(front) < piece.source.size
-    return bool(reached(piece.source, verdict.at, None if is_cut else verdict.reason))
+    beyond = reached(piece.source, 0, verdict.at, verdict.reason)
+    return beyond.is_reached_in(piece.source.size)

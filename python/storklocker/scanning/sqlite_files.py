@@ -8,9 +8,9 @@ import io
 import re
 from typing import Generator, List, Tuple, Union
 
-from .reaching import LENGTHS
 from .readings import Answer, Found, Nothing, Piece, Place, Unread
 from .source import Source, in_memory
+from .spelled import LENGTHS
 from .sqlite_pages import DATABASE, IMPORTING, JOURNAL, LOGS, Pages, Record, Value
 from .stores import is_value, searched
 

@@ -12,17 +12,20 @@ import itertools
 import re
 import struct
 from typing import (
-    TYPE_CHECKING, Callable, Container, Deque, Dict, Iterator, List, Optional, Sequence, Tuple
+    TYPE_CHECKING, Callable, Container, Deque, Dict, Iterator, List, NamedTuple, Optional, Sequence,
+    Tuple,
 )
 
+from .._answers import Verdict
 from .._reasons import Reason
 from .budget import Budget
 from .dangers import is_harmful, is_suspect, suspect_heads
 from .marks import HDF5, LMDB
-from .names import NOTHING, Imports, imports_within
-from .reaching import LENGTHS, is_module, reached, without_frames
+from .names import NOTHING, imports_within
+from .reaching import reached
 from .readings import Found, Piece, Place, Reading, is_text
 from .source import BLOCK, Source, in_memory
+from .spelled import LENGTHS, is_module
 from .trails import Trail, Trails, texts_in
 
 if TYPE_CHECKING:
@@ -32,7 +35,7 @@ _WORD = rb"[A-Za-z_][\w.]{0,99}"
 _BEGINNINGS = tuple(
     re.compile(begun, re.DOTALL)
     for begun in (
-        rb"\x80(?=[\x02-\x05])",
+        rb"\x80(?=[\0-\x05])",
         rb"\((?=[dl]p?[0-9]*\n)",
         rb"c(?=%b\n%b\n)" % (_WORD, _WORD),
         rb"i(?=%b\n%b\n)" % (_WORD, _WORD),
@@ -66,6 +69,8 @@ _MAGICS: Dict[str, List[Tuple[int, Tuple[bytes, ...]]]] = {
     "Parquet": [(0, (b"PAR1",))],
 }
 """Where each format has one of which bytes."""
+_ALL_STOP = (Reason.UnknownOpcode, Reason.UnsupportedProtocol)
+"""Reasons at which no reader goes on."""
 _SCHEMA = re.compile(rb"ARROW:schema.{0,16}?([A-Za-z0-9+/]{64,}={0,2})", re.DOTALL)
 """Where a Parquet file has the schema of Arrow, which may hold pickles."""
 
@@ -183,19 +188,17 @@ def _imports_with_nul(block: bytes) -> Iterator[int]:
 
 def _is_harm(source: Source, at: int) -> bool:
     """Whether a pickle there imports something that is known to do harm."""
-    return any(map(_is_harmful, _imports_at(source, at).names))
+    return any(map(_is_harmful, imports_at(source, at).names))
 
 
 def is_pickle(source: Source, at: int) -> bool:
     """Whether a pickle there is accepted, or imports something; without a PROTO in front, something
     that is known to do harm, because texts have lines that look like imports.
     """
-    found = _imports_at(source, at)
+    found = imports_at(source, at)
     if found.verdict or not found.is_complete:
         return True
     is_claimed = source.read(at, 1) == b"\x80"
-    if is_claimed and found.verdict.reason is Reason.BrokenFrame and not found.names:
-        found = _imports_at(source, at, False)
     return bool(found.names) if is_claimed else any(map(_is_harmful, found.names))
 
 
@@ -209,25 +212,42 @@ def is_value(source: Source) -> bool:
         return _PROTO.match(front) is not None and is_pickle(source, 0)
     if front[0] not in LENGTHS:
         return False
-    found = _imports_at(source, 0)
-    if found.verdict.reason is Reason.BrokenFrame and not found.names:
-        found = _imports_at(source, 0, False)
-    verdict, names = found.verdict, list(itertools.takewhile(_may_be, found.names))
-    is_whole = verdict.taken == source.size
-    if not verdict:
-        beyond = reached(source, verdict.at, verdict.reason)
-        is_stopped = verdict.reason is Reason.Truncated or not beyond
-        is_whole = not is_stopped and source.read(source.size - 1, 1) == b"."
-        names += [(b"", b"")] if beyond.pair and len(names) == len(found.names) else []
-    if is_whole or not is_in_words(source):
+    found = imports_at(source, 0)
+    names = list(itertools.takewhile(_may_be, found.names))
+    if found.end == source.size or not is_in_words(source):
         return bool(names) or not found.is_complete
     return any(map(_is_harmful, names))
 
 
-def is_import(source: Source) -> bool:
-    """Whether it begins with an import that is known to do harm."""
-    front = source.front()
-    return any(begun.match(front) for begun in _BEGINNINGS) and _is_harm(source, 0)
+class _Imports(NamedTuple):
+    """What the most lenient reader imports of a pickle."""
+
+    verdict: Verdict
+    names: Dict["Names", None]
+    is_complete: bool
+    """Whether these are all imports."""
+    end: int
+    """Behind STOP, if a reader gets there."""
+
+
+def imports_at(source: Source, at: int) -> _Imports:
+    """What a pickle there imports, or some of it."""
+    size = _FIRST
+    while True:
+        data = source.read(at, size)
+        found = imports_within(data, NOTHING)
+        is_cut = found.verdict.reason is Reason.Truncated and len(data) == size < _MOST
+        if found.verdict or found.names and is_cut or not found.is_complete:
+            return _Imports(*found, at + found.verdict.taken)
+        if not is_cut:
+            break
+        size *= 16
+    if found.verdict.reason in _ALL_STOP:
+        return _Imports(*found, 0)
+    beyond = reached(source, at, at + found.verdict.at, found.verdict.reason)
+    names = {**found.names, **beyond.names}
+    is_complete = beyond.is_complete or beyond.is_misread
+    return _Imports(found.verdict, names, is_complete, beyond.end if beyond.is_ended else 0)
 
 
 def is_in_words(source: Source) -> bool:
@@ -235,20 +255,6 @@ def is_in_words(source: Source) -> bool:
     front = source.front()
     cut = 3 if len(front) < source.size else 0  # of the last character
     return is_text(front) and len(front.decode("utf-8", "ignore").encode()) >= len(front) - cut
-
-
-def _imports_at(source: Source, at: int, is_framed: bool = True) -> Imports:
-    """What a pickle there imports, or some of it; perhaps without its FRAMEs, of which
-    `pickle.loads` wants no more than the bytes.
-    """
-    size = _FIRST
-    while True:
-        data = source.read(at, size)
-        found = imports_within(data if is_framed else without_frames(data), NOTHING)
-        is_cut = found.verdict.reason is Reason.Truncated and len(data) == size < _MOST
-        if found.verdict or not is_cut or found.names:
-            return found
-        size *= 16
 
 
 def _may_be(names: "Names") -> bool:

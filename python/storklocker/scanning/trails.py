@@ -14,8 +14,8 @@ from typing import Dict, Iterator, List, NamedTuple, Optional, Set, Tuple
 
 from .budget import Budget
 from .dangers import is_harmful, is_suspect, suspect_heads
-from .reaching import LENGTHS, SIZES, is_number
 from .source import BLOCK, Source
+from .spelled import LENGTHS, SIZES, is_number
 
 _WORD, _LINE = rb"([A-Za-z_]\w{0,30})(\.)?", rb"(\w{0,30})(?:%b|([.\\\0]))"
 _TEXTS = tuple(
