@@ -6,7 +6,7 @@
    instruction that pushed it. For a tuple these are of a class in it, and the mask has a bit for
    each; for a name it is 1 if it can't become real; a dict has its number for a place. */
 typedef uint64_t slot;
-enum { ABSENT, MARK, OTHER, TEXT, NAME, TUPLE, DICT, WRAPPER };
+enum { ABSENT, MARK, OTHER, TEXT, LIST, SET, NAME, TUPLE, DICT, WRAPPER };
 #define SLOT(kind, name, place) ((slot)(kind) | (slot)(name) << 4 | (slot)(place) << 24)
 #define MASK(bits) ((slot)(bits) << 16)
 #define NAMES 1024
@@ -331,7 +331,7 @@ static int moved(struct uses *u, uint8_t code, size_t mark) {
 static int followed_one(struct uses *u, uint8_t code, size_t last) {
     uint8_t effect = effects[code];
     if (effect == 0)
-        return push(u, OTHER);
+        return push(u, code == ']' ? LIST : code == 0x8f ? SET : OTHER);
     if (effect == IS_TEXT)
         return push(u, SLOT(TEXT, 0, u->at));
     if (effect == IS_PUT)
@@ -348,7 +348,21 @@ static int followed_one(struct uses *u, uint8_t code, size_t last) {
         u->stack[index] |= kind_of(u->stack[index]) == NAME ? MASK(1) : 0;
     int is = use_from(u, index, below);
     is = is == DONE && effect & STAYS && !are_there(u, 1) ? LOST : is;
-    return is == DONE && !(effect & KEEPS) ? push(u, OTHER) : is;
+    return is == DONE && !(effect & KEEPS) ? push(u, code == 'l' ? LIST : OTHER) : is;
+}
+
+/* Whether a reader is given an instruction in other words: also one that puts items into an object
+   which may be another one than a list, a dict or a set that the pickle has made. */
+static int is_changed(const struct uses *u, uint8_t code, int is) {
+    size_t below = u->size;
+    unsigned kind = code == 'a' || code == 'e' ? LIST : code == 0x90 ? SET : DICT;
+    if (code == 'a' || code == 's')
+        below = u->size - (code == 'a' ? 1 : 2);
+    else if (code == 'e' || code == 'u' || code == 0x90)
+        below = last_mark(u);
+    else
+        return effects[code] & CHANGES;
+    return is != DONE || below == 0 || below > u->size || kind_of(u->stack[below - 1]) != kind;
 }
 
 static void freed(PyObject *capsule) {
@@ -377,7 +391,7 @@ static int followed_all(struct uses *u) {
         u->at = at, u->next = next = at + taken;
         if (taken == 0)
             return LOST;
-        if (effects[code] & CHANGES && !note(&u->changes, at))
+        if (is_changed(u, code, is) && !note(&u->changes, at))
             return FAILED;
         if (is == DONE && (is = followed_one(u, code, last)) != DONE
             && (is == FAILED || u->fault != ABSENT))

@@ -110,6 +110,27 @@ static void put_stretch(struct writing *w, size_t begin, size_t end) {
     }
 }
 
+/* Puts an instruction in other words. Returns how long it was. */
+static size_t put_changed(struct writing *w, uint8_t code) {
+    switch (code) {
+    case FRAME:
+        return 9;
+    case BUILD:
+        return put(w, "\x86Q", 2), 1;
+    case 's':
+        return put(w, "\x86\x88\x87Q", 4), 1;
+    case 'u':
+        return put(w, "t\x88\x87Q", 4), 1;
+    case 'a':
+        return put(w, "\x85\x89\x87Q", 4), 1;
+    case 'e':
+        return put(w, "t\x89\x87Q", 4), 1;
+    case 0x90:
+        return put(w, "t)\x87Q", 4), 1;
+    }
+    return put(w, "\x85Q", 2), 1;
+}
+
 /* Writes the instructions between two places. A real object comes before what changes there. */
 static void write_pieces(
     struct writing *w, size_t at, size_t end, const struct notes *changes, PyObject *real) {
@@ -127,9 +148,7 @@ static void write_pieces(
         }
         put_stretch(w, at, change);
         if (change < end) {
-            uint8_t code = w->bytes[change];
-            put(w, code == BUILD ? "\x86Q" : "\x85Q", code == FRAME ? 0 : 2);
-            at = change + (code == FRAME ? 9 : 1);
+            at = change + put_changed(w, w->bytes[change]);
         }
     } while (change < end);
     add_piece(w, w->made, w->begin, w->size);

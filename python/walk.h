@@ -31,7 +31,10 @@ PyObject *followed(PyObject *module, PyObject *args);
 
    The reader is given the whole instructions up to STOP, also those that it can't get to: BUILD as
    TUPLE2 BINPERSID, BINPERSID as TUPLE1 BINPERSID, no frames, and where a value becomes the real
-   object, behind the instruction that pushes it, NONE NONE TUPLE3 BINPERSID. These are pieces:
+   object, behind the instruction that pushes it, NONE NONE TUPLE3 BINPERSID. What puts items into
+   an object that isn't known to be a list, a dict or a set makes a tuple of them, and with NEWTRUE
+   for keys and values, NEWFALSE for a list's and EMPTY_TUPLE for a set's, TUPLE3 BINPERSID. These are
+   pieces:
    bytes, and the begin and end of what counts of them. Long ones are the bytes of the pickle. */
 PyObject *begin_uses(PyObject *module, PyObject *args);
 PyObject *uses(PyObject *module, PyObject *args);
@@ -70,7 +73,7 @@ struct notes {
 int note(struct notes *notes, size_t place);
 
 /* The pieces that `uses` returns, of the instructions from one place to another. Takes the places
-   of BUILD, BINPERSID and FRAME, and those where names become real, in a list that ascends. */
+   of what changes, and those where names become real, in a list that ascends. */
 PyObject *respelled(
     PyObject *data, size_t begin, size_t end, const struct notes *changes, PyObject *real);
 

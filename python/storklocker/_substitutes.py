@@ -21,14 +21,17 @@ from typing import (
     Callable,
     Dict,
     FrozenSet,
+    Iterable,
+    Iterator,
     List,
     Optional,
     Tuple,
 )
 
-from . import _arrays, _builtins, _names
+from . import _arrays, _builtins, _names, _random, _states
 from ._answers import Misused
 from ._guard import _later
+from ._items import put_items
 from ._lists import AllowList
 from ._objects import found
 from ._substitute import Substitute
@@ -37,6 +40,8 @@ Pair = Tuple[str, str]
 Piece = Tuple[bytes, int, int]
 """Bytes, and the begin and the end of what counts of them."""
 
+MOST_FREE, MOST_OF_A_BYTE = 1 << 26, 16
+"""What a pickle may have substitutes do, and the more for each of its bytes."""
 _DEFAULTS = {"encoding": "ASCII", "errors": "strict", "buffers": None}
 """What a reader takes as if it were given nothing, only slower."""
 _IS_LENT = pickle.Unpickler is not getattr(pickle, "_Unpickler", None)
@@ -90,6 +95,10 @@ class Reader(pickle.Unpickler):
 
     def __init__(self, allow: AllowList, **named: Any) -> None:
         self._feed = Feed()
+        self.lent: Dict[int, Any] = {}
+        """The buffers beside the pickle, by id."""
+        if named.get("buffers") is not None:
+            named["buffers"] = _lent_by(named["buffers"], self.lent)
         super().__init__(self._feed, fix_imports=False, **named)
         meant = allow._meant
         self.own: Dict[Pair, Substitute] = {} if meant is None else meant.substitutes
@@ -103,6 +112,7 @@ class Reader(pickle.Unpickler):
         """What judges the state of an object in `unbuilt`, and gives the one to be set."""
         self.looked = 0
         """The number of memo entries that were searched."""
+        self._room = 0
         self.itself = weakref.ref(self)
         """It, for what its memo may hold."""
 
@@ -110,11 +120,21 @@ class Reader(pickle.Unpickler):
         """The object of the accepted pickle at an offset. `is_old`: whether its names are those of
         Python 2.
         """
-        self._feed.fill(self._uses.respelled(data, at, is_old))
+        pieces = self._uses.respelled(data, at, is_old)
+        self._feed.fill(pieces)
+        self._room = MOST_FREE + MOST_OF_A_BYTE * sum(end - begin for _, begin, end in pieces)
         made = self.load()
         if not self._uses.is_whole:
             raise Misused("the pickle has instructions that no pickler writes")
         return made
+
+    def pay(self, cost: int) -> None:
+        """Counts bytes that a substitute copies, and what its steps cost. What picklers write costs
+        no more than the pickle is long. It is much more if a pickle has the same copied again.
+        """
+        self._room -= cost
+        if self._room < 0:
+            raise Misused("the pickle has what it shares copied or looked at too often")
 
     def find_class(self, module: str, name: str, /) -> Any:
         pair = module, name
@@ -130,10 +150,12 @@ class Reader(pickle.Unpickler):
         if type(asked) is not tuple:
             return self.persistent(asked)
         if len(asked) == 2:
-            if "numpy" not in sys.modules or not _arrays.is_built(self, asked):
+            if not _states.is_built(self, asked):
                 _build(self, asked)
         elif len(asked) != 3:
             return self.persistent(asked[0])
+        elif asked[2] is not None:
+            put_items(*asked)
         elif isinstance(asked[0], Substitute):
             return asked[0].real()
         return asked[0]
@@ -175,7 +197,7 @@ def named(module: str, name: str, allow: AllowList) -> Any:
     return reader.find_class(module, name)
 
 
-TABLE = {**_arrays.TABLE, **_builtins.TABLE}
+TABLE = {**_arrays.TABLE, **_random.TABLE, **_builtins.TABLE}
 """The substitutes, by the pair that imports them."""
 _by_id: Dict[int, Substitute] = {}
 
@@ -193,6 +215,13 @@ def substitute_of(pair: Pair) -> Optional[Substitute]:
         return TABLE[pair]
     it = found(*pair)  # (may import NumPy)
     return _by_object().get(id(it))
+
+
+def _lent_by(buffers: Iterable[Any], lent: Dict[int, Any]) -> Iterator[Any]:
+    """The buffers, which are noted when the reader takes them."""
+    for it in buffers:
+        lent[id(it)] = it
+        yield it
 
 
 _ABSENT = object()
