@@ -15,6 +15,10 @@ some functions take as an argument; joblib's wrapper of arrays; what makes objec
 """
 
 
+STEP = 16
+"""What a step of ours costs a reader, where a byte that is copied costs 1."""
+
+
 def takes(*places: int) -> int:
     """The role of a function that takes classes as these of its arguments."""
     return sum(16 << place for place in places)
@@ -49,7 +53,7 @@ class Remembering(Substitute):
     __slots__ = ()
 
     def within(self, reader: Any) -> Substitute:
-        return _Within(self.name, self._call, reader.itself)
+        return _Within(self, reader.itself)
 
 
 class _Within(Substitute):
@@ -57,8 +61,9 @@ class _Within(Substitute):
 
     __slots__ = ("_reader",)
 
-    def __init__(self, name: str, call: Callable[..., Any], reader: Callable[[], Any]) -> None:
-        self.name, self.role, self._call, self._reader = name, 0, call, reader
+    def __init__(self, of: Substitute, reader: Callable[[], Any]) -> None:
+        super().__init__(of.name, of._call, of.role)
+        self._reader = reader
 
     def __call__(self, *given: Any) -> Any:
         reader = self._reader()

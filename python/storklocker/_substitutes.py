@@ -19,6 +19,8 @@ from typing import (
     Callable,
     Dict,
     FrozenSet,
+    Iterable,
+    Iterator,
     List,
     NamedTuple,
     Optional,
@@ -26,7 +28,7 @@ from typing import (
     TYPE_CHECKING,
 )
 
-from . import _arrays, _builtins, _names
+from . import _arrays, _builtins, _compiled, _names, _random
 from ._answers import Misused
 from ._guard import _later, plain_loads
 from ._lists import AllowList
@@ -41,6 +43,8 @@ Pair = Tuple[str, str]
 Piece = Tuple[bytes, int, int]
 """Bytes, and the begin and the end of what counts of them."""
 
+MOST_FREE, MOST_OF_A_BYTE = 1 << 26, 16
+"""What a pickle may have substitutes do, and the more for each of its bytes."""
 _DEFAULTS = {"encoding": "ASCII", "errors": "strict", "buffers": None}
 """What a reader takes as if it were given nothing, only slower."""
 _UNFOLLOWED = "the pickle has instructions that no pickler writes"
@@ -109,6 +113,10 @@ class Reader(pickle.Unpickler):
 
     def __init__(self, allow: AllowList, uses: Optional[Uses] = None, **named: Any) -> None:
         self._feed = Feed()
+        self.lent: Dict[int, Any] = {}
+        """The buffers beside the pickle, by id."""
+        if named.get("buffers") is not None:
+            named["buffers"] = _lent_by(named["buffers"], self.lent)
         super().__init__(self._feed, fix_imports=False, **named)
         self.own = declared(allow)
         """The substitutes that the list declares."""
@@ -123,6 +131,7 @@ class Reader(pickle.Unpickler):
         """The exceptions that were judged, by id, each with its levels."""
         self.looked = 0
         """The number of memo entries that were searched."""
+        self._room = 0
         self.itself = weakref.ref(self)
         """It, for what its memo may hold."""
 
@@ -135,6 +144,7 @@ class Reader(pickle.Unpickler):
     def read(self, pieces: List[Piece]) -> Any:
         """The object of a pickle that its uses have respelled."""
         self._feed.fill(pieces)
+        self._room = MOST_FREE + MOST_OF_A_BYTE * sum(end - begin for _, begin, end in pieces)
         made = self.load()
         if not self._uses.is_whole:
             raise Misused(_UNFOLLOWED)
@@ -144,6 +154,14 @@ class Reader(pickle.Unpickler):
     def takes_any(self) -> bool:
         """Whether BUILD may take what the pickle hasn't made."""
         return self._uses.takes_any
+
+    def pay(self, cost: int) -> None:
+        """Counts bytes that a substitute copies, and what its steps cost. What picklers write costs
+        no more than the pickle is long. It is much more if a pickle has the same copied again.
+        """
+        self._room -= cost
+        if self._room < 0:
+            raise Misused("the pickle has what it shares copied or looked at too often")
 
     def find_class(self, module: str, name: str, /) -> Any:
         pair = module, name
@@ -159,7 +177,7 @@ class Reader(pickle.Unpickler):
         if type(asked) is not tuple:
             return self.persistent(asked)
         if len(asked) == 2:
-            if "numpy" not in sys.modules or not _arrays.is_built(self, asked):
+            if not _compiled.is_built(self, asked):
                 if not self._uses.is_whole:
                     raise Misused(_UNFOLLOWED)
                 build(self, asked[0], asked[1])
@@ -211,7 +229,7 @@ def named(module: str, name: str, allow: AllowList) -> Any:
     return reader.find_class(module, name)
 
 
-TABLE = {**_arrays.TABLE, **_builtins.TABLE}
+TABLE = {**_arrays.TABLE, **_random.TABLE, **_builtins.TABLE}
 """The substitutes, by the pair that imports them."""
 _by_id: Dict[int, Substitute] = {}
 
@@ -229,3 +247,10 @@ def substitute_of(pair: Pair) -> Optional[Substitute]:
         return TABLE[pair]
     it = found(*pair)  # (may import NumPy)
     return _by_object().get(id(it))
+
+
+def _lent_by(buffers: Iterable[Any], lent: Dict[int, Any]) -> Iterator[Any]:
+    """The buffers, which are noted when the reader takes them."""
+    for it in buffers:
+        lent[id(it)] = it
+        yield it
