@@ -120,7 +120,7 @@ static const uint8_t effects[256] = {
     ['q'] = IS_PUT, ['r'] = IS_PUT, [0x94] = IS_PUT, ['S'] = IS_TEXT, ['T'] = IS_TEXT,
     ['U'] = IS_TEXT, ['V'] = IS_TEXT, ['X'] = IS_TEXT, [0x8c] = IS_TEXT, [0x8d] = IS_TEXT};
 
-/* Whether an instruction pushes what the pickle hasn't made: by a persistent id, EXT, NEXT_BUFFER. */
+/* Whether an instruction pushes what the pickle hasn't made: by a persistent id, EXT, a buffer. */
 static int is_given(uint8_t code) {
     return code == 'P' || code == 'Q' || (code >= 0x82 && code <= 0x84) || code == 0x97;
 }

@@ -36,7 +36,7 @@ def _is_plain(value: Any) -> bool:
 
 
 @functools.lru_cache(maxsize=512)
-def _members(kind: type) -> Dict[str, Any]:
+def _members(kind: Any) -> Dict[str, Any]:
     """The attributes that an exception has in C, by name."""
     found: Dict[str, Any] = {}
     for base in reversed(kind.__mro__):
@@ -47,23 +47,24 @@ def _members(kind: type) -> Dict[str, Any]:
     return found
 
 
-def judged_state(levels: _Levels, error: BaseException, state: Any) -> Any:
+def judged_state(error: Any, state: Any) -> Any:
     """The state that is set of an exception. An ImportError loses what it couldn't find in a module
     (`name_from`), for which Python would import that module.
     """
+    kind: Any = type(error)
     if not isinstance(state, dict):
-        is_plain = getattr(type(error), "__setstate__") is BaseException.__setstate__
+        is_plain = getattr(kind, "__setstate__") is BaseException.__setstate__
         if state is not None and is_plain:
             raise Misused("the state of an exception is of no known kind")
         return state
-    members = _members(type(error))
+    members = _members(kind)
     kept = {}
     for name, value in dict.items(state):
         if type(name) is not str:
             raise Misused("the state of an exception has a name that is no text")
-        if name == "name_from" and issubclass(type(error), ImportError):
+        if name == "name_from" and issubclass(kind, ImportError):
             continue
-        _judge_attribute(type(error), members, name, value)
+        _judge_attribute(kind, members, name, value)
         kept[name] = value
     return kept
 
@@ -83,9 +84,10 @@ def _judge_attribute(kind: type, members: Dict[str, Any], name: str, value: Any)
         raise Misused(f"the state of an exception sets {name!r:.80}, a method of its class")
 
 
-def judge_error(levels: _Levels, error: BaseException) -> None:
+def judge_error(levels: _Levels, error: Any) -> None:
     """Judges an exception as it is after it was made, or after its state was set."""
-    kind, held = type(error), []
+    kind: Any = type(error)
+    held = []
     for name, member in _members(kind).items():
         if name[:2] == "__":
             continue
@@ -147,6 +149,7 @@ def _judge_places(error: Any) -> None:
     """Judges the offsets of a UnicodeError, at which Python reads when it prints it."""
     if not isinstance(error, (UnicodeEncodeError, UnicodeDecodeError, UnicodeTranslateError)):
         return
-    members = _members(type(error))
+    kind: Any = type(error)
+    members = _members(kind)
     if any(members[name].__get__(error) < 0 for name in ("start", "end")):
         raise Misused("a UnicodeError has places before its text")

@@ -213,11 +213,11 @@ class Guard(Loads):
         if self._enforce:
             raise self._told(no, data)
         self._told(no, data)
-        return self._loaded(data, *self._decoding(None, None), None, False)
+        return self._loads_accepted(data, False)
 
-    def _loads_accepted(self, data: bytes) -> "Any":
+    def _loads_accepted(self, data: bytes, is_accepted: bool = True) -> "Any":
         """`loads` of a pickle that is accepted, or loaded all the same."""
-        return self._loaded(data, *self._decoding(None, None), None)
+        return self._loaded(data, *self._decoding(None, None), None, is_accepted)
 
     def load(
         self,
@@ -261,7 +261,7 @@ class Guard(Loads):
         if self._unpickler is None:
             from ._unpickler import kind_of
 
-            self._unpickler = kind_of(self)
+            self._unpickler = kind_of(self, len(self._allow) > 0)
         return self._unpickler
 
     @staticmethod

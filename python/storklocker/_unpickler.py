@@ -294,9 +294,9 @@ class OldUnpickler(GuardedUnpickler):
         return super().find_class(module, name)
 
 
-def kind_of(guard: Guard) -> Type[GuardedUnpickler]:
+def kind_of(guard: Guard, is_judging: bool) -> Type[GuardedUnpickler]:
     """The Unpickler of a guard."""
-    kind = SubstitutingUnpickler if len(guard._allow) else GuardedUnpickler
+    kind = SubstitutingUnpickler if is_judging else GuardedUnpickler
     kinds = (OldUnpickler, kind) if guard._fix_imports else (kind,)
     words = {"guard": guard, "__module__": "storklocker._guard"}
     return type("Unpickler", kinds, words)

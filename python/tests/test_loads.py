@@ -81,9 +81,9 @@ class Noting(Guard):
 
     __slots__ = ("noted",)
 
-    def _loads_accepted(self, data):
+    def _loads_accepted(self, data, *more):
         self.noted.append(data)
-        return super()._loads_accepted(data)
+        return super()._loads_accepted(data, *more)
 
 
 class Substitutes(unittest.TestCase):

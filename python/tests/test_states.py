@@ -275,8 +275,8 @@ class Honest(Case):
                   ("deque", "defaultdict", "OrderedDict", "Counter")}
         names |= {("copyreg", "_reconstructor"), ("builtins", "KeyError"), ("builtins", "object"),
                   ("builtins", "list"), ("builtins", "dict"), ("builtins", "getattr"),
-                  ("_codecs", "encode")}
-        own = {("builtins", "getattr"): substitutes.getattr({shop.Color: None})}
+                  ("_codecs", "encode"), ("_operator", "or_")}
+        own = {("builtins", "getattr"): substitutes.getattr({shop.Color: None, shop.Access: None})}
         allow = self.allow | AllowList(names, substitutes=own)
         for value in honest():
             for protocol in range(6):

@@ -288,8 +288,10 @@ class Follows(unittest.TestCase):
         for _ in range(20_000):
             data = bytes(chance.choices(codes if chance.random() < 0.8 else range(256),
                                         k=chance.randrange(60)))
-            pieces, is_whole, number, place = uses(
-                begin_uses(), data, 0, lambda *given: 1 + chance.choice((0, 1, 2, 4, 16)) * 1024
+            pieces, is_whole, number, place, _ = uses(
+                begin_uses(), data, 0,
+                lambda *given: 1 + chance.choice((0, 1, 2, 4, 8, 16)) * 1024,
+                chance.random() < 0.5,
             )
             self.assertTrue(all(0 <= begin < end <= len(of) for of, begin, end in pieces))
             self.assertLess(place, len(data))
@@ -298,14 +300,14 @@ class Follows(unittest.TestCase):
 
     def test_what_it_does_not_take(self):
         kept_ = begin_uses()
-        for given in ((kept_, bytearray(b"N."), 0, len), (None, b"N.", 0, len), (kept_, b"N."),
-                      (kept_, "N.", 0, len)):
+        for given in ((kept_, bytearray(b"N."), 0, len, False), (None, b"N.", 0, len, False), (kept_, b"N."),
+                      (kept_, "N.", 0, len, False)):
             with self.subTest(given=given), self.assertRaises((TypeError, ValueError)):
                 uses(*given)
-        self.assertEqual(uses(kept_, b"N.", -1, len), ([], False, 0, -1))
-        self.assertEqual(uses(kept_, b"N.", 5, len), ([], False, 0, -1))
+        self.assertEqual(uses(kept_, b"N.", -1, len, False), ([], False, 0, -1, True))
+        self.assertEqual(uses(kept_, b"N.", 5, len, False), ([], False, 0, -1, True))
         with self.assertRaises(ZeroDivisionError):
-            uses(kept_, b"ca\nb\n.", 0, lambda *given: 1 // 0)
+            uses(kept_, b"ca\nb\n.", 0, lambda *given: 1 // 0, False)
 
     def test_a_value_of_another_pickle_does_not_become_real(self):
         """In these bytes something else stands where it was pushed, or they end before."""
@@ -313,11 +315,11 @@ class Follows(unittest.TestCase):
         for second in (b"h\0.", b"N" * 2000 + b"h\0."):
             kept_ = begin_uses()
             number_of = lambda *given: 1 + 3 * 1024  # (two roles, which no name has at once)
-            self.assertEqual(uses(kept_, first, 0, number_of)[1:], (True, 0, -1))
-            told = uses(kept_, second, 0, number_of)
-            self.assertEqual(told, ([], False, 1, len(first) - 8))
-            told = uses(kept_, first + second, len(first), number_of)
-            self.assertEqual(told, ([], False, 1, len(first) - 8))
+            self.assertEqual(uses(kept_, first, 0, number_of, False)[1:], (True, 0, -1, True))
+            told = uses(kept_, second, 0, number_of, False)
+            self.assertEqual(told, ([], False, 1, len(first) - 8, True))
+            told = uses(kept_, first + second, len(first), number_of, False)
+            self.assertEqual(told, ([], False, 1, len(first) - 8, True))
 
     @unittest.skipIf(sys.implementation.name == "pypy", "PyPy shows no such lists")
     def test_places_that_are_changed_meanwhile(self):
@@ -335,9 +337,9 @@ class Follows(unittest.TestCase):
             with self.subTest(places=places[:3]):
                 if len(places) == 1:
                     with self.assertRaises((ValueError, TypeError, OverflowError)):
-                        uses(begin_uses(), data, 0, number_of)
+                        uses(begin_uses(), data, 0, number_of, False)
                 else:
-                    [(of, begin, end)] = uses(begin_uses(), data, 0, number_of)[0]
+                    [(of, begin, end)] = uses(begin_uses(), data, 0, number_of, False)[0]
                     self.assertEqual(end - begin, len(data) + 4 * (1 + len(places)))
                 self.assertEqual(len(told), 1)
 
