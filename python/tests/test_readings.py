@@ -260,7 +260,7 @@ class Readings(unittest.TestCase):
         text = b"ccollections\nOrderedDict\nI1_0\n0S'posix'\nS'system'\n\x93(S'echo'\ntR."
         self.assertEqual(pickle.loads(text.replace(b"\x93(S'echo'\ntR", b"0")), "posix")
         (found,) = reports(text, None)
-        self.assertEqual([it.severity for it in found.findings], ["unreadable"])
+        self.assertIn("unreadable", [it.severity for it in found.findings])
 
     @unittest.skipIf(sys.version_info < (3, 11), "`os` isn't frozen")
     def test_python_finds_frozen_modules_up_to_a_nul(self):

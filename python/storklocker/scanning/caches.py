@@ -3,6 +3,7 @@
 from __future__ import annotations
 
 import zlib
+from typing import TYPE_CHECKING, Iterable
 
 from .._reasons import Reason
 from .budget import Budget
@@ -11,10 +12,14 @@ from .names import NOTHING, WIDEST, imports_within, verdict_at
 from .readings import Found, Place
 from .source import BLOCK, Source
 from .spelled import LENGTHS
-from .stores import imports_at, is_value
+from .stores import imports_at, is_harmful_pair, is_value
+
+if TYPE_CHECKING:
+    from .._pairs import Names
 
 _PICKLED = 64
 """More bytes than Django's pickle of a time has."""
+_GLOBAL = ord("c")
 _NEVER = (b"", b"P", b"Q")
 """No value, or one that cachelib stops at: an object that is kept elsewhere."""
 
@@ -35,14 +40,24 @@ def _is_inside(source: Source) -> bool:
     imports nothing that isn't seen from there.
     """
     front, at = source.read(0, TIME), 0
-    while at < TIME:
+    while at < TIME and front[0] != _GLOBAL:
         length = LENGTHS.get(front[at], -1)
         if length < 0:
             return False
         at += 1 + length
     whole, inner = imports_at(source, 0), imports_at(source, TIME)
+    if front[0] == _GLOBAL:
+        is_harm = any(map(is_harmful_pair, inner.names)) or not inner.names
+        return not is_harm and all(_is_end_of(it, whole.names) for it in inner.names)
     is_behind = whole.verdict.taken == TIME
     return at == TIME and (is_behind or inner.names.keys() <= whole.names.keys())
+
+
+def _is_end_of(names: Names, others: Iterable[Names]) -> bool:
+    """Whether this is what is left of another name, whose module begins in front of it."""
+    module, name = names
+    ends = (it for it, other in others if name == other and it is not None)
+    return module is not None and any(it.endswith(module) for it in ends)
 
 
 def packed_behind(source: Source, budget: Budget) -> int:

@@ -14,7 +14,7 @@ from .._reasons import Reason
 from .budget import Budget, TooMuch
 from .costs import COUNTED, KINDS, LIMITS, Exceeded, exceeded, exceeded_in_row, with_costs
 from .names import NOTHING, WIDEST, Imports, imports_within, limits_under, refused_with
-from .reaching import reached
+from .reaching import READERS_STOP, reached
 from .readings import Piece, is_text
 from .spelled import is_module
 
@@ -211,7 +211,10 @@ class Row:
         is_beyond = beyond.is_reached_in(self._source.size)
         names = refused_with(verdict.reason) if is_beyond or self._piece.is_claimed else ()
         self.is_reached = bool(found.names) or bool(names) or is_beyond
-        self.stop = -1 if beyond.is_ended or not beyond.is_complete else beyond.end
+        is_stopped = verdict.reason in READERS_STOP and not beyond.is_misread
+        self.stop = begin + verdict.at if is_stopped else beyond.end
+        if beyond.is_ended or not beyond.is_complete:
+            self.stop = -1
         self.is_cut = verdict.reason is Reason.Truncated
         return (*names, *beyond.names)
 

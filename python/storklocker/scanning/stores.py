@@ -188,7 +188,7 @@ def _imports_with_nul(block: bytes) -> Iterator[int]:
 
 def _is_harm(source: Source, at: int) -> bool:
     """Whether a pickle there imports something that is known to do harm."""
-    return any(map(_is_harmful, imports_at(source, at).names))
+    return any(map(is_harmful_pair, imports_at(source, at).names))
 
 
 def is_pickle(source: Source, at: int) -> bool:
@@ -199,7 +199,7 @@ def is_pickle(source: Source, at: int) -> bool:
     if found.verdict or not found.is_complete:
         return True
     is_claimed = source.read(at, 1) == b"\x80"
-    return bool(found.names) if is_claimed else any(map(_is_harmful, found.names))
+    return bool(found.names) if is_claimed else any(map(is_harmful_pair, found.names))
 
 
 def is_value(source: Source) -> bool:
@@ -216,7 +216,7 @@ def is_value(source: Source) -> bool:
     names = list(itertools.takewhile(_may_be, found.names))
     if found.end == source.size or not is_in_words(source):
         return bool(names) or not found.is_complete
-    return any(map(_is_harmful, names))
+    return any(map(is_harmful_pair, names))
 
 
 class _Imports(NamedTuple):
@@ -262,7 +262,7 @@ def _may_be(names: "Names") -> bool:
     return names[0] is None or is_module(names[0].decode("utf-8", "replace"))
 
 
-def _is_harmful(names: "Names") -> bool:
+def is_harmful_pair(names: "Names") -> bool:
     module, name = names
     if module is None or name is None:
         return False
