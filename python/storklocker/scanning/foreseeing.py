@@ -106,6 +106,8 @@ class Answer:
 
     __slots__ = ("is_bare",)
     pair: Optional[Pair] = None
+    is_bare: bool
+    """Whether it is made of nothing, by the class that the pickle names."""
 
     def __new__(cls, *given: Any, **named: Any) -> Answer:
         made = object.__new__(cls)
@@ -131,7 +133,7 @@ class Named(type):
     """A listed name that has no substitute."""
 
     def __call__(cls, *given: Any, **named: Any) -> Any:
-        made = object.__new__(cls)
+        made: Any = object.__new__(cls)  # type: ignore[arg-type]
         made.is_bare = False
         return made
 
