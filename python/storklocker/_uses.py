@@ -60,7 +60,12 @@ class Uses:
 
     __slots__ = ("is_whole", "is_changed", "takes_any", "_own", "_kept", "_numbers", "_is_old")
 
-    def __init__(self, own: Mapping[Pair, Substitute], wrappers: FrozenSet[Pair]) -> None:
+    def __init__(
+        self,
+        own: Mapping[Pair, Substitute],
+        wrappers: FrozenSet[Pair],
+        is_shared: bool = True,
+    ) -> None:
         self.is_whole = True
         """Whether each instruction of the last pickle was followed."""
         self.is_changed = True
@@ -72,7 +77,7 @@ class Uses:
             self._own = dict.fromkeys(wrappers, IS_WRAPPER)
             self._own.update((pair, own[pair].role) for pair in own)
         self._kept = begin_uses()
-        is_shared = not self._own and len(_SHARED.of) < _ROOM
+        is_shared = is_shared and not self._own and len(_SHARED.of) < _ROOM
         self._numbers = _SHARED if is_shared else _Numbers()
         self._is_old = False
 
@@ -123,11 +128,7 @@ def _asked(module: bytes, name: bytes, is_old: bool) -> Tuple[Pair, Optional[int
     """What is imported by the names that these instructions push, and the role of the substitute
     that it has under all lists.
     """
-    if module[:1] == b"c":
-        first, second = module[1:-1].decode().split("\n")
-    else:
-        first, second = _loads(module + b"."), _loads(name + b".")
-    pair = _names.renamed((first, second)) if is_old else (first, second)
+    pair = named_by(module, name, is_old)
     substitute = substitute_of(pair)
     if substitute is not None:
         return pair, substitute.role
@@ -136,3 +137,12 @@ def _asked(module: bytes, name: bytes, is_old: bool) -> Tuple[Pair, Optional[int
 
 def _is_error(it: Any) -> bool:
     return isinstance(it, type) and issubclass(it, BaseException)
+
+
+def named_by(module: bytes, name: bytes, is_old: bool) -> Pair:
+    """The names that these instructions push."""
+    if module[:1] == b"c":
+        first, second = module[1:-1].decode().split("\n")
+    else:
+        first, second = _loads(module + b"."), _loads(name + b".")
+    return _names.renamed((first, second)) if is_old else (first, second)

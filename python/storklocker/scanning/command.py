@@ -16,7 +16,6 @@ from .._lists import has_substitutes
 from .._writing import quoted
 from . import formats
 from .choosing import Choice
-from .costs import KINDS
 from .dangers import import_findings, list_findings
 from .files import Files, is_url
 from .judging import Question
@@ -33,7 +32,8 @@ _STATUSES = """exit status:
   0    everything was read to its end, and nothing was found that counts
   1    something was found that counts, also if something else couldn't be read. It counts from
        this --fail-on of `scan` on:
-         refused  the list refuses it: the default with --allow, and what `check` goes by
+         refused  a guard with the list refuses it, or only a load shows whether it does, unless
+                  --guarded: the default with --allow, and what `check` goes by
          danger   it imports a name that runs code or writes files: the default without --allow
          warning  it imports a name that reads files, reaches the network or changes the process;
                   or a guard refuses it by default, because of what loading it costs or changes
@@ -48,6 +48,7 @@ _STATUSES = """exit status:
 _PATH = "a file, a folder, or - for standard input"
 _URL = f"{_PATH}; or a URL of either that fsspec opens"
 _LIST = "the list file of permitted names"
+_GUARDED = "what is undecided doesn't count: a guard with this list loads the files"
 
 
 def main(words: Optional[Sequence[str]] = None) -> int:
@@ -141,15 +142,17 @@ def _add_scan(commands: "argparse._SubParsersAction[argparse.ArgumentParser]") -
         choices=FAIL_ON,
         help="the least that causes status 1; refused by default with --allow, else danger",
     )
+    it.add_argument("--guarded", action="store_true", help=_GUARDED)
     it.set_defaults(run=_scan)
 
 
 def _add_check(commands: "argparse._SubParsersAction[argparse.ArgumentParser]") -> None:
     it = commands.add_parser(
-        "check", help="says whether files import only listed names, within what a guard permits"
+        "check", help="says of files whether a guard with a list loads them"
     )
     it.add_argument("paths", nargs="+", metavar="FILE", help="a file, or - for standard input")
     it.add_argument("--allow", metavar="LIST", required=True, help=_LIST)
+    it.add_argument("--guarded", action="store_true", help=_GUARDED)
     it.set_defaults(run=_check)
 
 
@@ -217,7 +220,8 @@ def _files_of(asked: argparse.Namespace) -> Iterator[Files]:
 def _scan(asked: argparse.Namespace) -> int:
     allow = None if asked.allow is None else list_of(asked.allow)
     asked.fail_on = asked.fail_on or (DANGER if allow is None else REFUSED)
-    told, question = Summary(asked.fail_on), Question(allow, with_sha256=asked.format == "json")
+    told = Summary(asked.fail_on, asked.guarded)
+    question = Question(allow, with_sha256=asked.format == "json")
     with _files_of(asked) as files:
         means = Means(asked.jobs, asked.cluster or "", asked.resume or "")
         for line in _lines(asked, told.heard(scan(files, question, means, sys.stderr))):
@@ -242,7 +246,7 @@ def _lines(asked: argparse.Namespace, reports: Iterator[Report]) -> Iterator[str
     if asked.format == "junit":
         from . import junit
 
-        return junit.as_junit(reports, counted(asked.fail_on))
+        return junit.as_junit(reports, counted(asked.fail_on, asked.guarded))
     from . import html
 
     return html.page(reports, __version__)
@@ -267,19 +271,16 @@ def _status(told: Summary) -> int:
 
 
 def _check(asked: argparse.Namespace) -> int:
-    told, allow, status = Summary(REFUSED), list_of(asked.allow), YES
+    told, allow, status = Summary(REFUSED, asked.guarded), list_of(asked.allow), YES
     for path in asked.paths:
-        is_pickle = is_costly = False
+        is_pickle = False
         with _files_of(argparse.Namespace(paths=[path])) as files:
             for report in told.heard(scan(files, Question(allow))):
                 is_named = len(asked.paths) > 1 or report.path != report.file
                 front = f"{shown(report.path)}: " if is_named else ""
-                costly = [it.why for it in report.findings if it.kind in KINDS.values()]
-                why = f"no: {costly[0]}" if costly and report.status is Word.ACCEPTED else report.why
-                print(front + (shown(why, 1000) or report.status))
+                print(front + (shown(report.why, 1000) or report.status))
                 is_pickle |= report.status is not Word.NO_PICKLE
-                is_costly |= bool(costly)
-        status = status if is_pickle and not is_costly else NO
+        status = status if is_pickle else NO
     return _status(told) or status
 
 

@@ -114,10 +114,15 @@ def _judged(module: str, name: str) -> Optional[Row]:
     return Row(HARMLESS) if _is_listed(module, name) else worst
 
 
+def is_in_shipped_list(module: str, name: str) -> bool:
+    """Whether a shipped list has a name, which a guard loads as it is."""
+    return (module, name) in _listed()
+
+
 def _is_listed(module: str, name: str) -> bool:
     """Whether a shipped list has a name, which isn't dangerous by itself."""
     module = module.partition("\0")[0]
-    if (module, name) not in _listed():
+    if not is_in_shipped_list(module, name):
         return False
     row = known().judged(f"{module}.{name}")
     return row is None or row.severity != DANGER

@@ -9,7 +9,7 @@ import re
 from typing import TYPE_CHECKING, BinaryIO, Dict, Iterator, List, NamedTuple, Optional, Tuple
 
 from .._hints import hint_of
-from .._lists import AllowList, within
+from .._lists import AllowList, has_substitutes, within
 from .budget import UNPACKED, Budget, TooMuch
 from .costs import COUNTED, bill_of, cost_finding
 from .dangers import import_findings
@@ -89,9 +89,13 @@ def lone_report(path: str, data: bytes, question: Question) -> Optional[Report]:
         return None
     size, imports = len(data), told.imports
     status, why = _accepted(size, len(imports), question.allow)
-    sha256 = _sha256(in_memory(io.BytesIO(data))) if question.with_sha256 else ""
+    source = in_memory(io.BytesIO(data))
+    sha256 = _sha256(source) if question.with_sha256 else ""
     report = Report(path, "pickle", status, why, size, sha256, 1, imports, file=path)
-    return judged(report, told.findings) if told.findings else report
+    findings = list(told.findings)
+    if imports and question.allow is not None and has_substitutes(question.allow):
+        report = _foreseen(report, [(source, 1)], question.allow, findings)
+    return judged(report, findings) if findings else report
 
 
 def _accepted(taken: int, count: int, allow: Optional[AllowList]) -> Tuple[Word, str]:
@@ -99,6 +103,26 @@ def _accepted(taken: int, count: int, allow: Optional[AllowList]) -> Tuple[Word,
     if allow is None:
         return Word.UNJUDGED, f"{taken} bytes, {count} names"
     return Word.ACCEPTED, f"yes: {taken} bytes, {count} names"
+
+
+def _foreseen(
+    report: Report, held: List[Tuple[Source, int]], allow: AllowList, findings: List[Finding]
+) -> Report:
+    """The report on accepted pickles, of which each source has so many, under a list with names
+    that a guard loads through substitutes.
+    """
+    from .foreseeing import Fate, foreseen  # most scans have no need of it
+
+    words = {Fate.REFUSED: Word.REFUSED, Fate.UNDECIDED: Word.UNDECIDED}
+    for source, most in held:
+        fate, why = foreseen(source, most, allow)
+        if fate is not Fate.LOADED:
+            front = "no" if fate is Fate.REFUSED else words[fate].value
+            findings.append(Finding(words[fate].value, why))
+            report = report._replace(status=words[fate], why=f"{front}: {why}")
+        if fate is Fate.REFUSED:
+            break
+    return report
 
 
 def _reports_at(place: Place, question: Question) -> Iterator[Report]:
@@ -146,23 +170,20 @@ def _counts(row: Row, allow: Optional[AllowList]) -> bool:
 
 def _judged(piece: Piece, row: Row, question: Question, place: Place) -> Report:
     imports, missing, findings = _told_names(row, question.allow, place.budget)
-    status, why = _accepted(row.taken, len(row.names), question.allow)
+    allow, no = question.allow, row.guarded() if row.refusal is None else row.refusal
+    status, why = _accepted(row.taken, len(row.names), allow)
     if row.refusal is not None:
-        why = row.refusal.line(64)
-        if row.number:
-            why = why.replace("no at", f"no in pickle {row.number} at", 1)
-        own = None if question.allow is None else question.allow.limits
-        limits = row.limits(piece.source.size)
-        hint = hint_of(row.refusal, piece.source.read, within(limits, own) or limits)
-        why += f" ({hint})" if hint else ""
-        why += bill_of(row.refused[0], row.names) if row.refusal.reason in COUNTED else ""
-        if question.allow is not None or not _is_text(piece, row):
-            is_refused = question.allow is not None and not (piece.is_cut and not missing)
+        why = _refusal_line(piece, row, allow)
+        if allow is not None or not _is_text(piece, row):
+            is_refused = allow is not None and not (piece.is_cut and not missing)
             status = Word.REFUSED if is_refused else Word.UNREADABLE
             findings.append(Finding("refused" if is_refused else "broken-pickle", why))
+    elif no is not None:
+        status = Word.REFUSED
     findings += _cut_findings(row, imports)
     if row.costly is not None:
         findings.append(cost_finding(row.costly, row.costly_at, row.costly_number))
+        why = f"no: {findings[-1].why}" if row.refusal is None and no is not None else why
     report = Report(
         piece.path,
         _kind_of(piece, row),
@@ -175,10 +196,26 @@ def _judged(piece: Piece, row: Row, question: Question, place: Place) -> Report:
         missing,
         (),
         listing(row),
-        0 if row.refusal is None else row.refusal.at,
+        0 if no is None else no.at,
         place.path,
     )
+    if status is Word.ACCEPTED and row.names and allow is not None and has_substitutes(allow):
+        held = [(source, max(row.pickles, 1)) for source in row.sources]
+        report = _foreseen(report, held, allow, findings)
     return judged(_raw(report, row.raw, findings) if row.raw else report, findings)
+
+
+def _refusal_line(piece: Piece, row: Row, allow: Optional[AllowList]) -> str:
+    """The line of a refusal, with a hint and what loading the pickle costs."""
+    assert row.refusal is not None
+    why = row.refusal.line(64)
+    if row.number:
+        why = why.replace("no at", f"no in pickle {row.number} at", 1)
+    own = None if allow is None else allow.limits
+    limits = row.limits(piece.source.size)
+    hint = hint_of(row.refusal, piece.source.read, within(limits, own) or limits)
+    why += f" ({hint})" if hint else ""
+    return why + (bill_of(row.refused[0], row.names) if row.refusal.reason in COUNTED else "")
 
 
 def _raw(report: Report, why: str, findings: List[Finding]) -> Report:

@@ -98,7 +98,7 @@ class Report(NamedTuple):
 
     def as_dict(self) -> Dict[str, Any]:
         """The report for JSON."""
-        made = {"version": VERSION, **self._asdict(), "status": self.status.value}
+        made: Dict[str, Any] = {"version": VERSION, **self._asdict(), "status": self.status.value}
         made["imports"] = [list(pair) for pair in self.imports]
         made["missing"] = [list(pair) for pair in self.missing]
         made["findings"] = [finding.as_dict() for finding in self.findings]

@@ -56,6 +56,8 @@ class Row:
     is_cut: whether it stops there because the bytes end.
     refused: the bytes of the refused one, and its offset.
     too_much: why the rest was not read.
+    sources: the bytes with these pickles, one behind another; of joblib's files also those of
+        arrays of objects.
     raw: why arrays that stand between the instructions could not be left out.
     """
 
@@ -72,6 +74,7 @@ class Row:
 
     def __init__(self, piece: Piece, allow: Optional[AllowList], budget: Budget) -> None:
         self._piece, self._source, self._budget = piece, piece.source, budget
+        self.sources = [piece.source]
         self._allow, self._listed = allow, NOTHING if allow is None else allow
         self._is_limited = limits_costs(self._listed)
         self.names: Dict["Names", None] = {}
@@ -217,6 +220,14 @@ class Row:
             self.stop = -1
         self.is_cut = verdict.reason is Reason.Truncated
         return (*names, *beyond.names)
+
+    def guarded(self) -> Optional[Verdict]:
+        """Why a guard with the list refuses the one that costs much; None if it doesn't."""
+        if self.costly is None or self._allow is None:
+            return None
+        data = self._source.read(self.costly_at, self._source.size - self.costly_at)
+        found = check(data, self._allow)
+        return None if found else found._replace(at=self.costly_at + found.at)
 
     def forget_impossible(self) -> None:
         """Leaves out the names from the first on that no module has: a reader stops there."""

@@ -24,11 +24,12 @@ _WORDS = {
 _UNKNOWN = "with names that nobody has judged"
 
 
-def counted(fail_on: str) -> FrozenSet[str]:
-    """The severities that cause status 1."""
+def counted(fail_on: str, is_guarded: bool = False) -> FrozenSet[str]:
+    """The severities that cause status 1. `is_guarded`: whether a guard is what loads the files."""
     if fail_on == NEVER:
         return frozenset()
-    return frozenset(SEVERITIES[: SEVERITIES.index(fail_on) + 1]) - {UNREADABLE}
+    worse = {*SEVERITIES[: SEVERITIES.index(fail_on) + 1], UNDECIDED} - {UNREADABLE}
+    return frozenset(worse - {UNDECIDED} if is_guarded else worse)
 
 
 class Summary:
@@ -38,8 +39,8 @@ class Summary:
     is_unread: whether something couldn't be read to its end.
     """
 
-    def __init__(self, fail_on: str) -> None:
-        self._counted = counted(fail_on)
+    def __init__(self, fail_on: str, is_guarded: bool = False) -> None:
+        self._counted = counted(fail_on, is_guarded)
         self.is_found = self.is_unread = False
         self._found: "Counter[str]" = Counter()
         self._notes: "Counter[str]" = Counter()
