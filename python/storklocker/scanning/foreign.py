@@ -48,9 +48,9 @@ def _pattern(text: bytes) -> Pattern[bytes]:
     return re.compile(text, re.DOTALL | re.MULTILINE)
 
 
-# Wide characters are read without their zeros.
+# Wide characters are read without their zeros. None begins like PROTO.
 _JSON = rb"(?:\xef\xbb\xbf|\xff\xfe|\xfe\xff)?[\s\0]*[\[{]"
-_TEXT = rb"[\0\t\n\r -~\x80-\xff]"
+_TEXT = rb"[\0\t\n\r -~\xc2-\xff]"
 _LAMBDA = (b"Lambda",), rb'"class_name"\s*:\s*"Lambda"'
 _OPERATIONS = b"|".join(
     rb"\x12%c%b" % (len(name), name)
@@ -124,7 +124,7 @@ FORMATS = (
         "MessagePack",
         RUNS,
         "msgpack-numpy loads its arrays of objects, which are pickles",
-        rb"[\x80-\x9f\xc4-\xc9\xdc-\xdf]",
+        rb"[\x81-\x9f\xc4-\xc9\xdc-\xdf]",
         (b"kind",),
         rb"(?:\xa4|\xc4\x04)kind(?:\xa1|\xc4\x01)O",
     ),
