@@ -3,6 +3,7 @@ pickles, modules, code, commands, and files that are opened for writing.
 """
 
 import contextlib
+import multiprocessing
 import os
 import sys
 import threading
@@ -12,6 +13,7 @@ from pathlib import Path
 
 import storklocker._reasons  # noqa: F401  # the first refusal imports it
 
+multiprocessing.get_context()  # (its first use writes a file)
 MARKS = Path(os.environ["STORKLOCKER_MARKS"])
 LATER = {"_strptime", "encodings", "stringprep", "unicodedata", "locale", "gc",
          "ast", "_ast"}
