@@ -17,6 +17,7 @@ from .names import NOTHING, limits_under, pair_of
 from .readings import all_asked
 from .report import LONGEST, Finding, Pair, sorted_findings
 from .rows import CLAIM, limits_costs, may_be_listed
+from .severity import NOTE
 from .source import BLOCK, in_memory
 
 _ROOM = LONGEST
@@ -28,6 +29,11 @@ class Told(NamedTuple):
 
     imports: Tuple[Pair, ...]
     findings: Tuple[Finding, ...]
+
+    @property
+    def is_quiet(self) -> bool:
+        """Whether nothing in it is known to do harm."""
+        return all(it.severity == NOTE for it in self.findings)
 
 
 class Lone:
@@ -57,6 +63,18 @@ class Lone:
         if verdict.taken != len(data) or wanted > _ROOM:
             return None
         return self._known(room[:wanted])
+
+    def told_of_value(self, data: bytes) -> Tuple[int, Optional[Told]]:
+        """The length of the pickle at the front of these bytes, and what is to be told of it; 0 and
+        None if more than its imports is to be told, or one of them does harm.
+        """
+        if self._is_limited:
+            return 0, None
+        verdict, wanted, room = imports(data, NOTHING, self._settings, _ROOM)
+        told = self._known(room[:wanted]) if verdict and wanted <= _ROOM else None
+        if told is None or not told.is_quiet:
+            return 0, None
+        return verdict.taken, told
 
     def _judged(self, room: bytes) -> Optional[Told]:
         """What is to be told of these encoded imports; None if one isn't permitted, or is an array

@@ -8,11 +8,12 @@ import io
 import re
 from typing import Generator, List, Tuple, Union
 
-from .readings import Answer, Found, Nothing, Piece, Place, Unread
+from .readings import Answer, Found, Nothing, Piece, Place, Together, Unread
 from .source import Source, in_memory
 from .spelled import LENGTHS
 from .sqlite_pages import DATABASE, IMPORTING, JOURNAL, LOGS, Pages, Record, Value
 from .stores import is_value, searched
+from .values import Values
 
 KIND = "SQLite"
 _LEAST, _LONGEST = 4, 1 << 20
@@ -22,7 +23,7 @@ _SMALL = 1 << 20
 _STOP, _WORDS = ord("."), re.compile(rb"[\t-\r -~]*")
 
 _Parts = List[Tuple[int, int]]
-_Reads = Generator[Union[Piece, Unread, Nothing], Answer, _Parts]
+_Reads = Generator[Union[Piece, Unread, Nothing, Together], Answer, _Parts]
 
 
 def sqlite_reading(place: Place) -> Found:
@@ -32,15 +33,17 @@ def sqlite_reading(place: Place) -> Found:
     if not place.source.front().startswith((DATABASE, JOURNAL, *LOGS)):
         return False
     place.budget.grow(max(0, place.source.size - _SMALL))  # each value is looked at twice
-    pages, known = Pages(place.source, place.budget.spend_time), []  # type: Pages, _Parts
+    pages, known = Pages(place.source, place.budget.spend), []  # type: Pages, _Parts
+    values = Values(place, KIND)
     for record in pages.records():
-        known += yield from _read(place, record, pages.encoding)
+        known += yield from _read(place, record, pages.encoding, values)
+    yield from values.told()
     known.sort()
     yield from searched(place, KIND, known, {at for at, _ in known}, pages.end_of)
     return True
 
 
-def _read(place: Place, record: Record, encoding: str) -> _Reads:
+def _read(place: Place, record: Record, encoding: str, values: Values) -> _Reads:
     """The pickles in a record. Returns which parts of the file they have, from an offset to
     another.
     """
@@ -50,9 +53,14 @@ def _read(place: Place, record: Record, encoding: str) -> _Reads:
         wide = encoding if value.is_text else ""
         if not (others or _may_import(record.front, value, wide)):
             continue
-        place.budget.spend_time()
+        if not (wide or others):
+            data = record.front[value.at : value.at + value.size]
+            if values.taken(data) == value.size > 0:
+                found.append((value.at, value.at + value.size))
+                continue
+        place.budget.spend()
         source = _content(record, value, wide)
-        if source.size >= _LEAST and is_value(source):
+        if source.size >= _LEAST and is_value(source, place.budget):
             taken = yield Piece(f"{place.path}!at {start + value.at}", KIND, source, True, 1)
             found.append((value.at, value.at + (taken or 1)))
     if others:
