@@ -131,7 +131,7 @@ PLAIN = [
 
 def outcome(data):
     """What is cut, or why nothing is; and what the stack and the memo have at the end."""
-    cutter = Cutter(in_memory(io.BytesIO(data)), lambda at: 0, lambda: None)
+    cutter = Cutter(in_memory(io.BytesIO(data)), lambda at: 0, lambda steps: None)
     try:
         said = cutter.cut()
     except NotFollowed as error:

@@ -15,6 +15,7 @@ import sys
 import tarfile
 import tempfile
 import unittest
+import unittest.mock
 import zipfile
 import zlib
 from collections import OrderedDict
@@ -177,12 +178,9 @@ class Scanning(unittest.TestCase):
         self.assertIn("deep in one another", str(self.scanned("nested.tar", nested)[1]))
 
     def test_many_members(self):
-        kept, budget.MEMBERS = budget.MEMBERS, 50
-        try:
-            made = zipped(*((f"{number}", b"x") for number in range(100)))
+        made = zipped(*((f"{number}", b"x") for number in range(100)))
+        with unittest.mock.patch.multiple(budget, MEMBERS=50, _MEMBER_BYTES=1 << 30):
             status, reports = self.scanned("many.zip", made)
-        finally:
-            budget.MEMBERS = kept
         self.assertEqual(status, 2)
         self.assertIn("more than 50 members", str(reports))
 

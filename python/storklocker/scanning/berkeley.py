@@ -27,9 +27,9 @@ def berkeley_reading(place: Place) -> Found:
     told: Set[int] = set()
     size = int.from_bytes(source.read(20, 4), "little" if order == "<" else "big")
     is_right = _LEAST <= size <= _MOST and size & (size - 1) == 0
-    for parts in _chains(source, size, order, place.budget.spend_time) if is_right else ():
+    for parts in _chains(source, size, order, place.budget.spend) if is_right else ():
         value, taken, start = joined(source, parts), 0, parts[0][0]
-        if is_value(value):
+        if is_value(value, place.budget):
             taken = (yield Piece(f"{place.path}!at {start}", KIND, value, True, 1)) or 1
             told.add(start)
             known += [(at, at + count) for at, count in parts] if taken > 1 else []

@@ -30,12 +30,12 @@ def cachelib_reading(place: Place) -> Found:
     value = source.part(TIME, source.size)
     if place.is_raw or value.read(0, 1) in _NEVER:
         return False
-    if is_value(value) and not _is_inside(source):
+    if is_value(value, place.budget) and not _is_inside(source, place.budget):
         yield place.piece("cachelib", TIME, True, 1)
     return False
 
 
-def _is_inside(source: Source) -> bool:
+def _is_inside(source: Source, budget: Budget) -> bool:
     """Whether the value is the rest of a pickle at the first byte, or another one behind it, and
     imports nothing that isn't seen from there.
     """
@@ -45,7 +45,7 @@ def _is_inside(source: Source) -> bool:
         if length < 0:
             return False
         at += 1 + length
-    whole, inner = imports_at(source, 0), imports_at(source, TIME)
+    whole, inner = (imports_at(source, it, budget) for it in (0, TIME))
     if front[0] == _GLOBAL:
         is_harm = any(map(is_harmful_pair, inner.names)) or not inner.names
         return not is_harm and all(_is_end_of(it, whole.names) for it in inner.names)

@@ -44,7 +44,7 @@ class Record(NamedTuple):
 class Records(Follower):
     """Follows a `.metadata`."""
 
-    def __init__(self, source: Source, tick: Callable[[], object]) -> None:
+    def __init__(self, source: Source, tick: Callable[[int], object]) -> None:
         super().__init__(source, tick)
         self._found: List[Record] = []
 

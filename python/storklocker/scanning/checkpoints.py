@@ -7,7 +7,7 @@ from __future__ import annotations
 import re
 from typing import Iterator, List, Optional, Set, Tuple
 
-from .budget import Budget
+from .budget import LOOKED_AT, STEP, Budget
 from .checkpoint_places import Records
 from .following import NotFollowed
 from .names import length_at
@@ -53,7 +53,7 @@ def _recorded(place: Place, beside: Source, parts: Set[Tuple[int, int]]) -> Foun
     try:
         if not length_at(beside, 0, place.budget):
             raise NotFollowed("it is no pickle that a list accepts")
-        for record in Records(beside, place.budget.spend_time).found():
+        for record in Records(beside, place.budget.spend).found():
             if record.file.lower() == name and (record.offset, record.length) not in parts:
                 why = f"by {METADATA}, a value of {record.length:,} bytes is at {record.offset:,}"
                 yield place.unread(_KIND, "differing-readings", f"{why}, where no zip file is")
@@ -72,7 +72,7 @@ def records_reading(place: Place) -> Found:
         return False
     place.budget.grow(place.source.size)
     try:
-        found = Records(place.source, place.budget.spend_time).found()
+        found = Records(place.source, place.budget.spend).found()
     except NotFollowed as error:
         why = f"where torch finds values isn't known: {error}"
         yield place.unread(_KIND, "broken-container", why)
@@ -95,29 +95,30 @@ def _parts(source: Source, budget: Budget) -> Iterator[Tuple[Source, List[int]]]
     start = 0
     for at in _ends(source, budget):
         part = source.part(start, at + END_SIZE - start)
-        members = _members(part) if at >= start else None
+        members = _members(part, budget) if at >= start else None
         if members is not None:
             yield part, members
             start += part.size
-        budget.spend_time()
+        budget.spend(4 * STEP)
 
 
 def _ends(source: Source, budget: Budget) -> Iterator[int]:
     """The places that look like those of end records."""
     for start in range(0, source.size, _STEP):
         block = source.read(start, _STEP + len(END) - 1)
-        budget.spend_time()
+        budget.spend(STEP + len(block) // LOOKED_AT)
         at = block.find(END)
         while at >= 0:
             yield start + at
             at = block.find(END, at + 1)
 
 
-def _members(part: Source) -> Optional[List[int]]:
+def _members(part: Source, budget: Budget) -> Optional[List[int]]:
     found = next(directories(part), None)
     if found is None or found.at != part.size - END_SIZE:
         return None
     members = list(entries(part, found.start, found))
+    budget.spend(2 * STEP * len(members))
     if fault_of(part, found, members):
         return None
     return [local.data for local in (local_at(part, it.at) for it in members) if local is not None]

@@ -10,6 +10,7 @@ import pickletools
 from typing import Any, Callable, Dict, List, NamedTuple, Optional, Tuple
 
 from .._storklocker import followed
+from .budget import LOOKED_AT
 from .source import BLOCK, Source
 
 _MOST_KEYS, _STEP = 128, 1 << 14
@@ -58,9 +59,9 @@ class Dict_:
 
 
 class Follower:
-    """Follows the first pickle of a source. `tick` is called now and then."""
+    """Follows the first pickle of a source. `tick` is called now and then, with a number of steps."""
 
-    def __init__(self, source: Source, tick: Callable[[], object]) -> None:
+    def __init__(self, source: Source, tick: Callable[[int], object]) -> None:
         self._source, self._tick = source, tick
         self._stack: List[Any] = []
         self._memo: Dict[int, Any] = {}
@@ -69,13 +70,14 @@ class Follower:
 
     def _follow(self) -> None:
         """Follows it up to STOP. Raises NotFollowed."""
-        ticked = 0
+        ticked = steps = 0
         try:
             while self._is_followed():
                 self._hasten()
-                if self._at - ticked >= _STEP:
-                    ticked = self._at
-                    self._tick()
+                steps += 3
+                if self._at - ticked + steps >= _STEP:
+                    self._tick(steps + (self._at - ticked) // LOOKED_AT)
+                    ticked, steps = self._at, 0
         except (IndexError, KeyError, ValueError) as error:
             raise NotFollowed(f"{type(error).__name__} at {self._at}") from None
 

@@ -51,7 +51,7 @@ class Cutter(Follower):
     """
 
     def __init__(
-        self, source: Source, length_of: Callable[[int], int], tick: Callable[[], object]
+        self, source: Source, length_of: Callable[[int], int], tick: Callable[[int], object]
     ) -> None:
         super().__init__(source, tick)
         self._length_of, self._start = length_of, 0

@@ -25,7 +25,7 @@ def without_arrays(
     """
     source = piece.source
     try:
-        cut = Cutter(source, lambda at: length_at(source, at, budget), budget.spend_time).cut()
+        cut = Cutter(source, lambda at: length_at(source, at, budget), budget.spend).cut()
         if cut.end < source.size:
             raise NotFollowed("bytes follow it")
     except NotFollowed as error:

@@ -10,7 +10,7 @@ from typing import TYPE_CHECKING, BinaryIO, Dict, Iterator, List, NamedTuple, Op
 
 from .._hints import hint_of
 from .._lists import AllowList, has_substitutes, within
-from .budget import UNPACKED, Budget, TooMuch
+from .budget import STEP, UNPACKED, Budget, TooMuch
 from .costs import COUNTED, bill_of, cost_finding
 from .dangers import import_findings
 from .joblib_files import WRAPPER_NAMES, without_arrays
@@ -18,7 +18,7 @@ from .listing import listing
 from .lone import Lone
 from .names import pair_of
 from .readings import (
-    Beside, Nothing, Piece, Place, Unread, all_asked, examine, is_text, nothing
+    Beside, Nothing, Piece, Place, Together, Unread, all_asked, examine, is_text, nothing
 )
 from .report import LONGEST, Finding, Pair, Report, judged, unreadable
 from .rows import Row, row_of
@@ -66,8 +66,9 @@ def reports_of(
         if lone is not None:
             yield lone
             return
-        place = Place(path, source, Budget(source.size), beside=beside)
-        yield from _reports_at(place, question)
+        budget = Budget(source.size)
+        budget.lone = _lone_under(question.allow)
+        yield from _reports_at(Place(path, source, budget, beside=beside), question)
     except TooMuch as error:
         yield unreadable(path, "file", Finding("too-much", str(error)), path)
 
@@ -80,11 +81,7 @@ def lone_report(path: str, data: bytes, question: Question) -> Optional[Report]:
     """The report on a file that is these bytes, one small pickle, as most are; None if it isn't
     known to be.
     """
-    global _lone
-    lone = _lone
-    if lone.allow is not question.allow:
-        lone = _lone = Lone(question.allow)
-    told = lone.told(path, data)
+    told = _lone_under(question.allow).told(path, data)
     if told is None:
         return None
     size, imports = len(data), told.imports
@@ -96,6 +93,13 @@ def lone_report(path: str, data: bytes, question: Question) -> Optional[Report]:
     if imports and question.allow is not None and has_substitutes(question.allow):
         report = _foreseen(report, [(source, 1)], question.allow, findings)
     return judged(report, findings) if findings else report
+
+
+def _lone_under(allow: Optional[AllowList]) -> Lone:
+    global _lone
+    if _lone.allow is not allow:
+        _lone = Lone(allow)
+    return _lone
 
 
 def _accepted(taken: int, count: int, allow: Optional[AllowList]) -> Tuple[Word, str]:
@@ -133,7 +137,10 @@ def _reports_at(place: Place, question: Question) -> Iterator[Report]:
         except StopIteration:
             return
         answer = None
-        if isinstance(it, Nothing):
+        budget.spend(2 * STEP)
+        if isinstance(it, Together):
+            yield _told_together(it, question.allow, place)
+        elif isinstance(it, Nothing):
             yield _nothing(it, place.path)
         elif isinstance(it, Unread):
             yield unreadable(it.path, it.kind, it.finding, place.path)
@@ -160,6 +167,24 @@ def _nothing(it: Nothing, file: str) -> Report:
     return judged(report._replace(status=Word.CODE), [it.finding])
 
 
+def _told_together(it: Together, allow: Optional[AllowList], place: Place) -> Report:
+    """The report on values of which only the imports are to be told."""
+    pairs = dict.fromkeys(pair for told in it.told for pair in told.imports)
+    findings = dict.fromkeys(found for told in it.told for found in told.findings)
+    status, why = _accepted(it.size, len(pairs), allow)
+    report = Report(
+        it.path,
+        it.kind,
+        status,
+        f"{it.number:,} more values like these: {why}",
+        it.size,
+        pickles=it.number,
+        imports=tuple(filter(place.budget.spend_name, pairs)),
+        file=place.path,
+    )
+    return judged(report, findings)
+
+
 def _counts(row: Row, allow: Optional[AllowList]) -> bool:
     """Whether an import of a broken pickle is off the list; without one, known to do harm."""
     if allow is not None:
@@ -180,7 +205,9 @@ def _judged(piece: Piece, row: Row, question: Question, place: Place) -> Report:
             findings.append(Finding("refused" if is_refused else "broken-pickle", why))
     elif no is not None:
         status = Word.REFUSED
-    findings += _cut_findings(row, imports)
+    findings += _cut_findings(row)
+    more = len(row.names) - len(imports)
+    why += f"; {more:,} names more than a report has room for" if more and row.is_complete else ""
     if row.costly is not None:
         findings.append(cost_finding(row.costly, row.costly_at, row.costly_number))
         why = f"no: {findings[-1].why}" if row.refusal is None and no is not None else why
@@ -241,8 +268,8 @@ def _told_names(row: Row, allow: Optional[AllowList], budget: Budget) -> _Told:
     """The imports of a report, those off the list, and what is to be said of them."""
     length = sum(len(module or b"") + len(name or b"") for module, name in row.names)
     if row.refusal is None and length <= _SHORT:
-        pairs, size, is_harmless = _texts_of(tuple(row.names))
-        if budget.spend_names(len(pairs), size):
+        pairs, is_harmless = _texts_of(tuple(row.names))
+        if all(map(budget.spend_name, pairs)):
             return pairs, (), [] if is_harmless else import_findings(pairs, allow)
     imports, missing = _shown_names(row, allow, budget)
     return imports, missing, import_findings(map(pair_of, row.names), allow)
@@ -250,11 +277,10 @@ def _told_names(row: Row, allow: Optional[AllowList], budget: Budget) -> _Told:
 
 # (the files of a scan mostly import the same names)
 @functools.lru_cache(maxsize=1024)
-def _texts_of(names: Tuple["Names", ...]) -> Tuple[Tuple[Pair, ...], int, bool]:
-    """These names as pairs of texts, how long all are, and whether all are known to be harmless."""
+def _texts_of(names: Tuple["Names", ...]) -> Tuple[Tuple[Pair, ...], bool]:
+    """These names as pairs of texts, and whether all are known to be harmless."""
     pairs = tuple(map(pair_of, names))
-    size = sum(len(text or "") for pair in pairs for text in pair)
-    return pairs, size, not import_findings(pairs)
+    return pairs, not import_findings(pairs)
 
 
 def _shown_names(
@@ -267,10 +293,8 @@ def _shown_names(
     kept: Dict["Names", Pair] = {}
     off = () if allow is None or row.refusal is None else filter(is_off, row.names)
     for both in itertools.chain(off, row.names):
-        if budget.names < 1:
-            break  # a hostile file has very many
         pair = _text_of(both[0]), _text_of(both[1])
-        if both not in kept and budget.spend_name(len(pair[0] or "") + len(pair[1] or "")):
+        if both not in kept and budget.spend_name(pair):
             kept[both] = pair
     if not off:
         return tuple(kept.values()), ()
@@ -286,13 +310,10 @@ def _text_of(name: Optional[bytes]) -> Optional[str]:
     return text if len(text) <= LONGEST else f"{text[:LONGEST]}... and {len(text) - LONGEST} more"
 
 
-def _cut_findings(row: Row, imports: Tuple[Pair, ...]) -> List[Finding]:
+def _cut_findings(row: Row) -> List[Finding]:
     """What is to be said of imports that the report lacks."""
     if not row.is_complete:
         return [Finding("too-much", "its imports take more bytes than are read of one file")]
-    if len(imports) < len(row.names):
-        more = len(row.names) - len(imports)
-        return [Finding("too-much", f"it imports {more:,} names more than a report has room for")]
     return []
 
 

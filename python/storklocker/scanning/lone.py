@@ -6,7 +6,7 @@ import functools
 import io
 from typing import NamedTuple, Optional, Tuple
 
-from .._lists import AllowList, settings_of, within
+from .._lists import AllowList, has_substitutes, settings_of, within
 from .._pairs import records
 from .._storklocker import imports
 from .costs import with_costs
@@ -17,6 +17,7 @@ from .names import NOTHING, limits_under, pair_of
 from .readings import all_asked
 from .report import LONGEST, Finding, Pair, sorted_findings
 from .rows import CLAIM, limits_costs, may_be_listed
+from .severity import NOTE
 from .source import BLOCK, in_memory
 
 _ROOM = LONGEST
@@ -38,6 +39,7 @@ class Lone:
     def __init__(self, allow: Optional[AllowList]) -> None:
         self.allow, listed = allow, NOTHING if allow is None else allow
         self._is_limited = limits_costs(listed)
+        self._is_foreseen = allow is not None and has_substitutes(allow)
         limits = within(limits_under(allow, BLOCK), listed.limits)
         assert limits is not None
         # (whatever the list says of BUILD, what an import answers is not to be changed)
@@ -57,6 +59,23 @@ class Lone:
         if verdict.taken != len(data) or wanted > _ROOM:
             return None
         return self._known(room[:wanted])
+
+    def told_of_value(self, data: bytes) -> Tuple[int, Optional[Told]]:
+        """The length of the pickle at the front of these bytes, and what is to be told of it; 0 and
+        None if more than its imports is to be told, or one of them does harm.
+        """
+        if self._is_limited:
+            return 0, None
+        verdict, wanted, room = imports(data, NOTHING, self._settings, _ROOM)
+        told = self._known(room[:wanted]) if verdict and wanted <= _ROOM else None
+        if told is None or not self.is_quiet(told):
+            return 0, None
+        return verdict.taken, told
+
+    def is_quiet(self, told: Told) -> bool:
+        """Whether nothing in it is known to do harm, or is judged by what it is given."""
+        is_foreseen = self._is_foreseen and bool(told.imports)
+        return not is_foreseen and all(it.severity == NOTE for it in told.findings)
 
     def _judged(self, room: bytes) -> Optional[Told]:
         """What is to be told of these encoded imports; None if one isn't permitted, or is an array

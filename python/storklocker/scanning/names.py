@@ -11,7 +11,7 @@ from .._lists import STANDARD, AllowList, settings_of
 from .._pairs import records
 from .._reasons import Reason
 from .._storklocker import imports as _imports
-from .budget import Budget
+from .budget import LOOKED_AT, STEP, Budget
 from .report import Pair
 from .source import BLOCK, Source
 
@@ -89,7 +89,7 @@ def verdict_at(source: Source, at: int, budget: Budget) -> Tuple[Verdict, bool]:
     while True:
         # (to list many imports takes longer than to find them)
         verdict, wanted, _ = _imports(source.read(at, size), NOTHING, settings, _FIRST)
-        budget.spend_time()
+        budget.spend(STEP + min(size, source.size - at) // LOOKED_AT)
         if verdict.reason is not Reason.Truncated or size >= source.size - at:
             return verdict, wanted > 0
         size *= 16

@@ -16,7 +16,7 @@ def pickle_reading(place: Place) -> Found:
     """What `pickle.load` gets to, once or again and again."""
     if place.source.place(0) in place.budget.shelves:
         return False
-    if place.is_raw and not is_pickle(place.source, 0):
+    if place.is_raw and not is_pickle(place.source, 0, place.budget):
         return False
     packed = packed_behind(place.source, place.budget)
     if packed:

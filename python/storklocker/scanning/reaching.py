@@ -5,6 +5,7 @@ from __future__ import annotations
 from typing import Optional
 
 from .._reasons import Reason
+from .budget import LOOKED_AT, Budget
 from .lenient import STEPS, Followed, followed_from
 from .source import Source
 
@@ -25,15 +26,19 @@ mark, and a line without a line feed.
 """
 
 
-def reached(source: Source, begin: int, at: int, reason: Optional[Reason]) -> Followed:
+def reached(
+    source: Source, begin: int, at: int, reason: Optional[Reason], budget: Budget
+) -> Followed:
     """What a reader may get to in the pickle that begins at a place, which the checker refuses at
     another for this reason. All imports are told of a pickle of no more than `STEPS` instructions.
     """
     found = followed_from(source, begin)
+    budget.spend(found.steps + (found.end - begin) // LOOKED_AT)
     if found.is_complete or found.steps <= STEPS or found.end > at:
         return found
     code = source.read(at, 1)
     if reason in READERS_STOP and code not in (b"c", b"i"):
         return found._replace(is_complete=reason is not Reason.Truncated)
     behind = followed_from(source, at, True)
+    budget.spend(behind.steps + (behind.end - at) // LOOKED_AT)
     return behind._replace(names={**found.names, **behind.names})

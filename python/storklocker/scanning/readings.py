@@ -15,12 +15,17 @@ from __future__ import annotations
 
 import functools
 import re
-from typing import Callable, Generator, List, NamedTuple, Optional, Sequence, Tuple, Union
+from typing import (
+    TYPE_CHECKING, Callable, Generator, List, NamedTuple, Optional, Sequence, Tuple, Union
+)
 
-from .budget import DEPTH, Budget, TooMuch
+from .budget import DEPTH, STEP, Budget, TooMuch
 from .foreign import Foreign, foreign_of
 from .report import LONGEST, Finding
 from .source import Source
+
+if TYPE_CHECKING:
+    from .lone import Told
 
 
 class Piece(NamedTuple):
@@ -58,9 +63,21 @@ class Nothing(NamedTuple):
     """What else their reader does with them, which isn't read here."""
 
 
+class Together(NamedTuple):
+    """Values of a store of which nothing but their imports is to be told."""
+
+    path: str
+    kind: str
+    number: int
+    size: int
+    """The bytes of all."""
+    told: Tuple["Told", ...]
+    """What is to be told of them, each once."""
+
+
 Answer = Optional[int]
 """The length of the pickles that were accepted in a piece; None if it isn't a pickle."""
-Found = Generator[Union[Piece, Unread, Nothing], Answer, bool]
+Found = Generator[Union[Piece, Unread, Nothing, Together], Answer, bool]
 
 
 Beside = Callable[[], Optional[Source]]
@@ -143,6 +160,7 @@ def all_asked() -> Callable[[str, Source], Sequence[Tuple[str, Reading]]]:
 def examine(place: Place) -> Found:
     """All readings of a file or a member. Returns whether any reader takes it."""
     reports = place.budget.reports
+    place.budget.spend(12 * STEP)
     takers: List[str] = []
     if place.depth < 0:
         raise TooMuch(f"containers are more than {DEPTH} deep in one another")

@@ -11,7 +11,7 @@ from .._checking import check, check_row
 from .._limits import without_costs
 from .._lists import AllowList, settings_of
 from .._reasons import Reason
-from .budget import Budget, TooMuch
+from .budget import LOOKED_AT, STEP, Budget, TooMuch
 from .costs import COUNTED, KINDS, LIMITS, Exceeded, exceeded, exceeded_in_row, with_costs
 from .names import NOTHING, WIDEST, Imports, imports_within, limits_under, refused_with
 from .reaching import READERS_STOP, reached
@@ -99,9 +99,9 @@ class Row:
 
     def _is_next_accepted(self) -> bool:
         """Reads the next pickle. Returns whether another may follow it."""
-        self._budget.spend_pickle()
         data, found, is_within = self._next()
         verdict = found.verdict
+        self._budget.spend_pickle(max(verdict.taken, verdict.at))
         is_whole = bool(verdict) and verdict.taken == self._source.size
         if is_whole and is_within and self._is_lone(data, found):
             return False
@@ -210,7 +210,7 @@ class Row:
     def _refused(self, verdict: Verdict, found: Imports) -> Tuple["Names", ...]:
         """What a reader may import at the place where a pickle is refused, or behind it."""
         begin = self.taken
-        beyond = reached(self._source, begin, begin + verdict.at, verdict.reason)
+        beyond = reached(self._source, begin, begin + verdict.at, verdict.reason, self._budget)
         is_beyond = beyond.is_reached_in(self._source.size)
         names = refused_with(verdict.reason) if is_beyond or self._piece.is_claimed else ()
         self.is_reached = bool(found.names) or bool(names) or is_beyond
@@ -258,6 +258,7 @@ class Row:
         left = self._source.size - self.taken
         if left > min(_WHOLE, self._budget.row_bytes):
             return False
+        self._budget.spend(STEP + left // LOOKED_AT)
         data = self._source.read(self.taken, left)
         names = [(module, name) for module, name in self.names if module is not None and name]
         under = NOTHING if self._allow is None else self._allow
@@ -295,7 +296,7 @@ def row_of(piece: Piece, allow: Optional[AllowList], budget: Budget) -> Optional
     """
     front = piece.source.front()
     is_claimed = piece.is_claimed or CLAIM.match(front) is not None
-    if not is_claimed and not _may_be_pickle(piece, front):
+    if not is_claimed and not _may_be_pickle(piece, front, budget):
         return None
     row = Row(piece._replace(is_claimed=is_claimed), allow, budget)
     if not is_claimed and row.refusal is None and not row.pickles:
@@ -306,9 +307,9 @@ def row_of(piece: Piece, allow: Optional[AllowList], budget: Budget) -> Optional
     return row if is_claimed or row.refusal is None or is_reached else None
 
 
-def _may_be_pickle(piece: Piece, front: bytes) -> bool:
+def _may_be_pickle(piece: Piece, front: bytes, budget: Budget) -> bool:
     verdict = check(front, NOTHING, limits=LIMITS)
     if verdict or verdict.reason in _IMPORTING or verdict.reason in KINDS:
         return True
-    beyond = reached(piece.source, 0, verdict.at, verdict.reason)
+    beyond = reached(piece.source, 0, verdict.at, verdict.reason, budget)
     return beyond.is_reached_in(piece.source.size)

@@ -6,10 +6,11 @@ import ast
 import io
 from typing import Any, Dict, Iterator, Optional, Tuple
 
-from .budget import TooMuch
+from .budget import STEP, TooMuch
 from .places import PLACES, VALUES
-from .readings import Found, Place, examine
+from .readings import Found, Place
 from .source import Source
+from .values import Values
 
 _LONGEST = 1 << 16
 """The most characters of a line of `.dir`: more take too long to be read."""
@@ -40,9 +41,11 @@ def shelf_reading(place: Place) -> Found:
     taken = yield place.piece("dbm.dumb", most=1)
     if taken:
         yield place.piece("behind a value", taken)
+    plain = Values(place, "dbm.dumb")
     for (start, size), key in values.items():
-        place.budget.spend_time()
-        yield from examine(place.inside(key or "''", place.source.part(start, size), "value"))
+        inner = place.inside(key or "''", place.source.part(start, size), "value")
+        yield from plain.member(inner)
+    yield from plain.told()
     return True
 
 
@@ -50,7 +53,7 @@ def _values(beside: Source, place: Place) -> Optional[_Values]:
     """The values, as `dbm.dumb` reads their places; None if it doesn't read these."""
     found: _Values = {}
     for line in _lines(beside):
-        place.budget.spend_time()
+        place.budget.spend(STEP + len(line) // 2)
         try:
             key, both = ast.literal_eval(line.strip(" \t"))
             key.encode("latin-1")

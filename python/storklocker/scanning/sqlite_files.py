@@ -6,13 +6,18 @@ from __future__ import annotations
 
 import io
 import re
-from typing import Generator, List, Tuple, Union
+from typing import Generator, List, Set, Tuple, Union
 
-from .readings import Answer, Found, Nothing, Piece, Place, Unread
+from .budget import Budget
+from .readings import Answer, Found, Nothing, Piece, Place, Together, Unread
+from .report import LONGEST
 from .source import Source, in_memory
 from .spelled import LENGTHS
 from .sqlite_pages import DATABASE, IMPORTING, JOURNAL, LOGS, Pages, Record, Value
+from .sqlite_values import made_values
 from .stores import is_value, searched
+from .value_packing import unpacked
+from .values import Values
 
 KIND = "SQLite"
 _LEAST, _LONGEST = 4, 1 << 20
@@ -20,9 +25,10 @@ _LEAST, _LONGEST = 4, 1 << 20
 
 _SMALL = 1 << 20
 _STOP, _WORDS = ord("."), re.compile(rb"[\t-\r -~]*")
+_PACKED = re.compile(rb"\x1f\x8b\x08|[\x08-\x78][\x01\x5e\x9c\xda]|[A-Za-z0-9+/_-]{24}")
 
 _Parts = List[Tuple[int, int]]
-_Reads = Generator[Union[Piece, Unread, Nothing], Answer, _Parts]
+_Reads = Generator[Union[Piece, Unread, Nothing, Together], Answer, _Parts]
 
 
 def sqlite_reading(place: Place) -> Found:
@@ -32,15 +38,43 @@ def sqlite_reading(place: Place) -> Found:
     if not place.source.front().startswith((DATABASE, JOURNAL, *LOGS)):
         return False
     place.budget.grow(max(0, place.source.size - _SMALL))  # each value is looked at twice
-    pages, known = Pages(place.source, place.budget.spend_time), []  # type: Pages, _Parts
+    pages, known = Pages(place.source, place.budget.spend), []  # type: Pages, _Parts
+    values, seen = Values(place, KIND), set()  # type: Values, Set[int]
     for record in pages.records():
-        known += yield from _read(place, record, pages.encoding)
+        known += yield from _read(place, record, pages.encoding, values, seen)
+    yield from values.told()
+    if place.source.front().startswith(DATABASE):
+        yield from _made(place, pages.schema, seen)
     known.sort()
     yield from searched(place, KIND, known, {at for at, _ in known}, pages.end_of)
     return True
 
 
-def _read(place: Place, record: Record, encoding: str) -> _Reads:
+def _made(place: Place, schema: List[str], seen: Set[int]) -> Found:
+    """The values that SQL makes, but for those that were told."""
+    for number, made in enumerate(made_values(place.source, schema, place.budget)):
+        if made.fault:
+            yield place.unread(KIND, "differing-readings", made.fault)
+        elif len(made.data) >= _LEAST and hash(made.data) not in seen:
+            path = f"{place.path}!{made.name[:LONGEST]} {number}"
+            yield from _loaded(path, in_memory(io.BytesIO(made.data)), place.budget)
+    return True
+
+
+def _loaded(path: str, source: Source, budget: Budget) -> Generator[Piece, Answer, int]:
+    """The pickle that a value is, or which is packed in it. Returns its length, if it is one."""
+    if is_value(source, budget):
+        return (yield Piece(path, KIND, source, True, 1)) or 1
+    for inner in unpacked(source, budget):
+        if is_value(inner, budget):
+            yield Piece(path, f"{KIND}, packed", inner, True, 1)
+            return source.size
+    return 0
+
+
+def _read(
+    place: Place, record: Record, encoding: str, values: Values, seen: Set[int]
+) -> _Reads:
     """The pickles in a record. Returns which parts of the file they have, from an offset to
     another.
     """
@@ -48,13 +82,22 @@ def _read(place: Place, record: Record, encoding: str) -> _Reads:
     (start, size), *others = record.parts
     for value in record.values():
         wide = encoding if value.is_text else ""
+        place.budget.spend(1)
         if not (others or _may_import(record.front, value, wide)):
             continue
-        place.budget.spend_time()
+        data = record.front[value.at : value.at + value.size]
+        if not (wide or others) and values.taken(data) == value.size > 0:
+            found.append((value.at, value.at + value.size))
+            seen.add(hash(data))
+            continue
+        place.budget.spend()
         source = _content(record, value, wide)
-        if source.size >= _LEAST and is_value(source):
-            taken = yield Piece(f"{place.path}!at {start + value.at}", KIND, source, True, 1)
-            found.append((value.at, value.at + (taken or 1)))
+        if source.size >= _LEAST:
+            path = f"{place.path}!at {start + value.at}"
+            taken = yield from _loaded(path, source, place.budget)
+            if taken:
+                found.append((value.at, value.at + taken))
+                seen.add(hash(data))
     if others:
         yield from searched(place.inside(f"at {start}", record.source, KIND), KIND, found)
     parts = [(start + at, start + min(end, size)) for at, end in found if at < size]
@@ -68,7 +111,7 @@ def _may_import(data: bytes, value: Value, wide: str) -> bool:
     at, end = value.at, value.at + value.size
     if value.size < _LEAST or not IMPORTING.search(data, at, end):
         return False
-    if wide:
+    if wide or _PACKED.match(data, at, end):
         return True
     is_in_words = data[end - 1] != _STOP and _WORDS.fullmatch(data, at, end) is not None
     return data[at] in LENGTHS and not is_in_words

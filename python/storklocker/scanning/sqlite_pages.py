@@ -39,8 +39,10 @@ _ROOT = 3
 """The column of the table of tables with the page at which a tree begins."""
 _SIZES = (0, 1, 2, 3, 4, 6, 8, 8, 0, 0, 0, 0)
 """The bytes of a number, by its type; texts and blobs have the types behind these."""
-IMPORTING = re.compile(rb"[\n\x80\x82-\x84\x93]")
-"""A byte that each pickle has which imports something."""
+IMPORTING = re.compile(
+    rb"[\n\x80\x82-\x84\x93]|[A-Za-z0-9+/_-]{24}|\x1f\x8b\x08|[\x08-\x78][\x01\x5e\x9c\xda]"
+)
+"""A byte that each pickle has which imports something; or what each packed one has."""
 
 
 class Value(NamedTuple):
@@ -74,6 +76,12 @@ class Record:
     def values(self) -> List[Value]:
         """Its texts and blobs."""
         return [value for value in self._values() if value.kind >= len(_SIZES)]
+
+    def text(self, encoding: str) -> str:
+        """Its texts, one behind another."""
+        source, size = self.source, sum(size for _, size in self.parts)
+        texts = (source.read(it.at, min(it.size, size)) for it in self.values())
+        return " ".join(text.decode(encoding, "replace") for text in texts)
 
     def root(self) -> int:
         """Of a row of the table of tables, the page at which the tree begins; 0 if it has none."""
@@ -111,6 +119,8 @@ class Pages:
         self._size = self._kept = 0
         self._places: Optional[Dict[int, int]] = None
         self._starts: List[int] = []
+        self.schema: List[str] = []
+        """The rows of the table of tables that were read so far, as texts."""
         self.encoding, front = "", source.read(0, _BEGIN)
         if len(front) < _BEGIN:
             return
@@ -177,6 +187,7 @@ class Pages:
         roots: List[int] = []
         for record in self._below([1], True):
             roots.append(record.root())
+            self.schema.append(record.text(self.encoding or "utf-8"))
             yield record
         yield from self._below(roots)
 

@@ -18,7 +18,7 @@ from typing import (
 
 from .._answers import Verdict
 from .._reasons import Reason
-from .budget import Budget
+from .budget import LOOKED_AT, STEP, Budget
 from .dangers import is_harmful, is_suspect, suspect_heads
 from .marks import HDF5, LMDB
 from .names import NOTHING, imports_within
@@ -27,6 +27,7 @@ from .readings import Found, Piece, Place, Reading, is_text
 from .source import BLOCK, Source, in_memory
 from .spelled import LENGTHS, is_module
 from .trails import Trail, Trails, texts_in
+from .values import Values
 
 if TYPE_CHECKING:
     from .._pairs import Names
@@ -46,6 +47,9 @@ _BEGINNINGS = tuple(
 word. A pattern each, because the search for a first byte is fast.
 """
 _PROTO = _BEGINNINGS[0]
+_SHOWN = re.compile(
+    rb"[ci](%b)\n(%b)\n|\x8c(.)(%b)\x94?\x8c(.)(%b)\x94?\x93" % ((_WORD,) * 4), re.DOTALL
+)
 _NULS = tuple(re.compile(code + rb"(?=([A-Za-z_]\w{0,30})[.\0])") for code in (b"c", b"i"))
 _WITH_NUL, _NAME = re.compile(rb"(%b)\0" % _WORD), re.compile(rb"%b\n" % _WORD)
 """An import whose module Python finds by what stands in front of a NUL: its first word, all of it,
@@ -53,6 +57,8 @@ and the line with the name.
 """
 _LONGEST = 1024
 """More bytes than these patterns match."""
+_SEARCHED_AT = 16
+"""For so many bytes in one step the patterns are looked for."""
 _NEAR = 64
 """How many bytes in front of a trail are tried as the beginning of its pickle."""
 _STEP, _FIRST, _MOST, _FOOTER = 1 << 16, 1 << 12, 1 << 20, 1 << 20
@@ -71,6 +77,7 @@ _MAGICS: Dict[str, List[Tuple[int, Tuple[bytes, ...]]]] = {
 """Where each format has one of which bytes."""
 _ALL_STOP = (Reason.UnknownOpcode, Reason.UnsupportedProtocol)
 """Reasons at which no reader goes on."""
+_LEFT = ("GDBM", "LMDB")
 _SCHEMA = re.compile(rb"ARROW:schema.{0,16}?([A-Za-z0-9+/]{64,}={0,2})", re.DOTALL)
 """Where a Parquet file has the schema of Arrow, which may hold pickles."""
 
@@ -79,7 +86,9 @@ def _reading(name: str) -> Reading:
     def reading(place: Place) -> Found:
         if not _has_one(place.source, _MAGICS[name]):
             return False
-        yield from searched(place, name)
+        # (pages and blocks that are free keep what they had, in parts)
+        size = place.source.size
+        yield from searched(place, name, end_of=(lambda _: size) if name in _LEFT else None)
         for source in _schemas(place.source) if name == "Parquet" else ():
             yield from searched(place.inside("schema", source, name), name)
         return True
@@ -100,7 +109,7 @@ def searched(
     end_of: where the page ends that has a place, if what follows a page is another matter.
     """
     source, end, left = place.source, 0, Deque(known)
-    trails = Trails(source, place.budget)
+    trails, values = Trails(source, place.budget), Values(place, kind)
     for at, is_text in _beginnings(source, place.budget):
         while left and left[0][0] <= at:
             end = max(end, left.popleft()[1])
@@ -110,13 +119,16 @@ def searched(
             trails.begin(at)
         elif is_text or at in told:
             continue
-        elif at < end and _is_harm(source, at):
+        elif at < end and _is_harm(source, at, place.budget):
             yield _piece(place, kind, at)  # (what seems to be in another may be a value of its own)
-        elif at >= end and is_pickle(source, at):
-            page_end = 0 if end_of is None or _is_harm(source, at) else end_of(at)
+        elif at >= end and values.taken(source.read(at, _FIRST)):
+            end = at + values.last
+        elif at >= end and _is_found(source, at, place.budget):
+            page_end = 0 if end_of is None or _is_harm(source, at, place.budget) else end_of(at)
             end = at + ((yield _piece(place, kind, at, page_end)) or 0)
     for trail in trails.followed(source.size):
         yield _piece(place, kind, _start_of(trail, place))
+    yield from values.told()
     return True
 
 
@@ -133,8 +145,7 @@ def _start_of(trail: Trail, place: Place) -> int:
     first = trail.starts[0]
     near = range(first - 1, max(0, first - _NEAR) - 1, -1)
     for at in itertools.chain(trail.starts, near):
-        place.budget.spend_time()
-        if _is_harm(place.source, at):
+        if _is_harm(place.source, at, place.budget):
             return at
     return first
 
@@ -163,13 +174,13 @@ def _beginnings(source: Source, budget: Budget) -> Iterator[Tuple[int, bool]]:
     """
     for start in range(0, source.size, _STEP):
         block = source.read(start, _STEP + _LONGEST)
-        budget.spend_time()
+        budget.spend(len(block) // _SEARCHED_AT)
         places = [(it.start(), False) for begun in _BEGINNINGS for it in begun.finditer(block)]
         places += [(at, False) for at in _imports_with_nul(block)]
         places += [(at, True) for at in texts_in(block)]
         places.sort()
         for at, is_text in itertools.takewhile(lambda it: it[0] < _STEP, places):
-            budget.spend_time()
+            budget.spend(2)
             yield start + at, is_text
 
 
@@ -186,33 +197,58 @@ def _imports_with_nul(block: bytes) -> Iterator[int]:
                 yield front.start()
 
 
-def _is_harm(source: Source, at: int) -> bool:
-    """Whether a pickle there imports something that is known to do harm."""
-    return any(map(is_harmful_pair, imports_at(source, at).names))
+def _is_harm(source: Source, at: int, budget: Budget) -> bool:
+    """Whether a pickle there imports something that is known to do harm; where an import stands,
+    whether that does. (Each other one has a place of its own.)
+    """
+    shown = _shown_at(source, at)
+    found = imports_at(source, at, budget).names if shown is None else [shown]
+    return any(map(is_harmful_pair, found))
 
 
-def is_pickle(source: Source, at: int) -> bool:
+def _shown_at(source: Source, at: int) -> Optional["Names"]:
+    """The names of an import that stands at a place, if they are shown there."""
+    found = _SHOWN.match(source.read(at, _LONGEST))
+    if found is None:
+        return None
+    by_lines, name, size, module, behind, own = found.groups()
+    if by_lines is not None:
+        return by_lines, name
+    return (module, own) if len(module) == size[0] and len(own) == behind[0] else None
+
+
+def _is_found(source: Source, at: int, budget: Budget) -> bool:
+    """Whether a pickle begins at a place to which a search comes."""
+    if _shown_at(source, at) is None:
+        return is_pickle(source, at, budget)
+    budget.spend()
+    if imports_within(source.read(at, _FIRST), NOTHING).verdict:
+        return True
+    return _is_harm(source, at, budget)  # (the search comes to other imports by themselves)
+
+
+def is_pickle(source: Source, at: int, budget: Budget) -> bool:
     """Whether a pickle there is accepted, or imports something; without a PROTO in front, something
     that is known to do harm, because texts have lines that look like imports.
     """
-    found = imports_at(source, at)
+    found = imports_at(source, at, budget)
     if found.verdict or not found.is_complete:
         return True
     is_claimed = source.read(at, 1) == b"\x80"
     return bool(found.names) if is_claimed else any(map(is_harmful_pair, found.names))
 
 
-def is_value(source: Source) -> bool:
+def is_value(source: Source, budget: Budget) -> bool:
     """Whether a value is a pickle from its first byte on: it has PROTO in front and is accepted, or
     imports something. A text must do so up to its end, or import what is known to do harm: texts
     have lines that look like imports.
     """
     front = source.read(0, 2)
     if front[:1] == b"\x80":
-        return _PROTO.match(front) is not None and is_pickle(source, 0)
+        return _PROTO.match(front) is not None and is_pickle(source, 0, budget)
     if front[0] not in LENGTHS:
         return False
-    found = imports_at(source, 0)
+    found = imports_at(source, 0, budget)
     names = list(itertools.takewhile(_may_be, found.names))
     if found.end == source.size or not is_in_words(source):
         return bool(names) or not found.is_complete
@@ -230,12 +266,14 @@ class _Imports(NamedTuple):
     """Behind STOP, if a reader gets there."""
 
 
-def imports_at(source: Source, at: int) -> _Imports:
+def imports_at(source: Source, at: int, budget: Budget) -> _Imports:
     """What a pickle there imports, or some of it."""
     size = _FIRST
     while True:
         data = source.read(at, size)
         found = imports_within(data, NOTHING)
+        looked_at = max(found.verdict.taken, found.verdict.at)
+        budget.spend(STEP + looked_at // LOOKED_AT)
         is_cut = found.verdict.reason is Reason.Truncated and len(data) == size < _MOST
         if found.verdict or found.names and is_cut or not found.is_complete:
             return _Imports(*found, at + found.verdict.taken)
@@ -244,7 +282,7 @@ def imports_at(source: Source, at: int) -> _Imports:
         size *= 16
     if found.verdict.reason in _ALL_STOP:
         return _Imports(*found, 0)
-    beyond = reached(source, at, at + found.verdict.at, found.verdict.reason)
+    beyond = reached(source, at, at + found.verdict.at, found.verdict.reason, budget)
     names = {**found.names, **beyond.names}
     is_complete = beyond.is_complete or beyond.is_misread
     return _Imports(found.verdict, names, is_complete, beyond.end if beyond.is_ended else 0)

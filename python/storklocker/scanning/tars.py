@@ -9,9 +9,10 @@ from functools import partial
 from typing import Any, Dict, Iterator, List, Optional, Tuple
 
 from .packed import behind_zeros
-from .readings import Found, Place, examine
+from .readings import Found, Place
 from .places import places_of
 from .source import Source, in_memory
+from .values import Values
 
 _BLOCK = 512
 _MAGIC, _CHECKSUM = slice(257, 262), slice(148, 156)
@@ -112,6 +113,7 @@ def tar_reading(place: Place) -> Found:
     members there are read too.
     """
     source, odd = place.source, []  # type: Source, List[str]
+    values = Values(place, "tar")
     is_behind = not source.front()[:_BLOCK].strip(b"\0")
     at = behind_zeros(source, 0) // _BLOCK * _BLOCK if is_behind else 0
     if not _is_header(source.read(at, _BLOCK)):
@@ -121,9 +123,10 @@ def tar_reading(place: Place) -> Found:
     try:
         archive = _Archive(fileobj=source.opened(), mode="r", ignore_zeros=True)
         for entry, other in _entries(place, archive, odd):
-            yield from _member(place, archive, entry, other)
+            yield from values.member(_member(place, archive, entry, other))
     except _FAULTS as error:
         odd.append(str(error))
+    yield from values.told()
     if odd:
         yield place.unread("tar", "differing-readings", f"{odd[0]}: readers differ")
     return True
@@ -198,13 +201,13 @@ def _member(
     archive: tarfile.TarFile,
     entry: tarfile.TarInfo,
     other: Optional[tarfile.TarInfo],
-) -> Found:
+) -> Place:
     """A member, beside which another may have the places of values."""
     content = _content(place, archive, entry)
     inner = place.inside(entry.name, content, "tar member", content.size < entry.size)
     if other is not None:
         inner = inner._replace(beside=partial(_content, place, archive, other))
-    return (yield from examine(inner))
+    return inner
 
 
 def _content(place: Place, archive: tarfile.TarFile, entry: tarfile.TarInfo) -> Source:

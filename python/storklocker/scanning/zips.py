@@ -8,13 +8,14 @@ from collections import Counter
 from functools import partial
 from typing import Any, Callable, Dict, Iterator, List, NamedTuple, Optional, Set, Tuple
 
-from .budget import PROBED
+from .budget import LOOKED_AT, PROBED, STEP
 from .checkpoints import checkpoint_reading
 from .foreign import foreign_members
 from .packed import MEMORY, NO_MODULE, bzip2, unpack
-from .readings import Found, Place, examine
+from .readings import Found, Place
 from .places import places_of
 from .source import BLOCK, Source, in_memory
+from .values import Values
 from .zip_layout import END, LOCAL, Directory, Entry, directories, entries, fault_of, local_at
 
 _HIDDEN = 0x61
@@ -82,8 +83,9 @@ def _reads(place: Place) -> Iterator[_Read]:
     for found in directories(source):
         for start in dict.fromkeys((found.start, found.meets - found.size)):
             if start >= 0:
-                yield _Read(found, start, list(entries(source, start, found)))
-                place.budget.spend_time()
+                read = _Read(found, start, list(entries(source, start, found)))
+                place.budget.spend(STEP + 2 * len(read.members))
+                yield read
 
 
 def _streamed(source: Source) -> List[Entry]:
@@ -105,6 +107,7 @@ def _members(
     yield from _twice(place, members)
     moved = [entry._replace(at=entry.at + shift) for entry in members]
     named = {entry.text: entry for entry in moved}
+    values = Values(place, "zip")
     for entry in moved:
         key = (entry.at, entry.flags, entry.method, entry.packed)
         if key in seen:
@@ -112,7 +115,8 @@ def _members(
         seen.add(key)
         place.budget.spend_member()
         if not entry.name.endswith(b"/") or entry.size or entry.packed:
-            yield from _member(place, entry, named)
+            yield from _member(place, entry, named, values)
+    yield from values.told()
     return True
 
 
@@ -130,7 +134,7 @@ def _twice(place: Place, members: List[Entry]) -> Found:
     return True
 
 
-def _member(place: Place, entry: Entry, named: Dict[str, Entry]) -> Found:
+def _member(place: Place, entry: Entry, named: Dict[str, Entry], values: Values) -> Found:
     """A member, beside which another may have the places of values."""
     data, fault = _read(place, entry)
     inner = place.inside(entry.text, data or place.source, "zip member", bool(fault))
@@ -140,7 +144,7 @@ def _member(place: Place, entry: Entry, named: Dict[str, Entry]) -> Found:
         other = named.get(places_of(entry.text))
         if other is not None:
             inner = inner._replace(beside=partial(_data, place, other))
-        yield from examine(inner)
+        yield from values.member(inner)
     if fault:
         kind = "unknown-container" if fault.startswith(_PACKED) else "broken-container"
         yield inner.unread("zip", kind, fault)
@@ -220,5 +224,5 @@ def _checksum(data: Source, place: Place) -> int:
         if not block:
             break
         found, at = zlib.crc32(block, found), at + len(block)
-        place.budget.spend_time()
+        place.budget.spend(1 + len(block) // (16 * LOOKED_AT))
     return found

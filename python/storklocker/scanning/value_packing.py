@@ -1,0 +1,58 @@
+"""Values that are packed in a store: Base64, as Django's database cache has them, zlib or gzip."""
+
+from __future__ import annotations
+
+import base64
+import io
+import re
+from typing import Iterator, Optional
+
+from .budget import Budget
+from .packed import GZIP, ZLIB, unpack
+from .source import Source, in_memory
+from .spelled import LENGTHS
+
+_BASE64 = re.compile(rb"[A-Za-z0-9+/_\r\n-]{8,}={0,2}\s*")
+"""Either alphabet; that for addresses has `-` and `_`."""
+_PACKED = re.compile(rb"\x1f\x8b\x08|[\x08\x18\x28\x38\x48\x58\x68\x78]")
+_LEAST, _DEPTH = 8, 3
+"""The fewest bytes of a packed value that imports something, and how often one may be packed."""
+
+
+def unpacked(source: Source, budget: Budget, depth: int = _DEPTH) -> Iterator[Source]:
+    """What a value may be unpacked to, also again."""
+    if source.size < _LEAST or not depth:
+        return
+    for made in (_inflated(source, budget), _decoded(source, budget)):
+        if made is not None and made.size:
+            if made.read(0, 1)[0] in LENGTHS:
+                yield made
+            yield from unpacked(made, budget, depth - 1)
+
+
+def _inflated(source: Source, budget: Budget) -> Optional[Source]:
+    front = source.read(0, 3)
+    if not _PACKED.match(front):
+        return None
+    is_gzip = front[0] == 0x1F
+    if not is_gzip and int.from_bytes(front[:2], "big") % 31:
+        return None
+    import zlib
+
+    kind = GZIP if is_gzip else ZLIB
+    return in_memory(unpack(source, 0, lambda: zlib.decompressobj(kind), budget.spend_bytes).data)
+
+
+def _decoded(source: Source, budget: Budget) -> Optional[Source]:
+    if not _BASE64.fullmatch(source.read(0, 64)):
+        return None
+    data = source.read(0, source.size)
+    budget.spend_bytes(len(data))
+    if not _BASE64.fullmatch(data):
+        return None
+    letters = b"".join(data.split()).rstrip(b"=").translate(_STANDARD)
+    letters = letters[: len(letters) - (len(letters) % 4 == 1)]
+    return in_memory(io.BytesIO(base64.b64decode(letters + b"=" * (-len(letters) % 4))))
+
+
+_STANDARD = bytes.maketrans(b"-_", b"+/")

@@ -1,0 +1,75 @@
+"""Values of a store that are plain pickles, which are told together: to tell of each takes long."""
+
+from __future__ import annotations
+
+from typing import Dict, Iterator
+
+from .budget import LOOKED_AT, STEP
+from .lone import Told
+from .readings import Found, Place, Together, examine
+from .rows import CLAIM
+from .source import BLOCK
+
+_FEW = 64
+"""So many are told one by one."""
+
+
+class Values:
+    """The values of a store."""
+
+    last: int
+    """The length of the last one that is told later."""
+
+    def __init__(self, place: Place, kind: str) -> None:
+        self._place, self._kind, self._budget = place, kind, place.budget
+        self._lone = place.budget.lone
+        self._seen = self._count = self._size = self.last = 0
+        self._told: Dict[int, Told] = {}
+
+    def taken(self, data: bytes) -> int:
+        """The length of the plain pickle at the front of the bytes, which is told later; 0 if there
+        is none, or it is to be told by itself.
+        """
+        if self._lone is None or not CLAIM.match(data):
+            return 0
+        self._seen += 1
+        if self._seen <= _FEW:
+            return 0
+        size, told = self._lone.told_of_value(data)
+        self._budget.spend(STEP // 2 + size // LOOKED_AT)
+        return self._kept(size, told) if told is not None else 0
+
+    def is_taken(self, place: Place) -> bool:
+        """Whether a member is a plain pickle, and nothing else, which is told later."""
+        source = place.source
+        if self._lone is None or source.size > BLOCK or place.is_raw or place.is_cut:
+            return False
+        self._seen += 1
+        if self._seen <= _FEW:
+            return False
+        data = source.front()
+        told = self._lone.told(place.path, data)
+        self._budget.spend(STEP + len(data) // LOOKED_AT)
+        if told is None or not self._lone.is_quiet(told):
+            return False
+        return self._kept(source.size, told) > 0
+
+    def _kept(self, size: int, told: Told) -> int:
+        self._told.setdefault(id(told), told)
+        self._count += 1
+        self._size += size
+        self.last = size
+        return size
+
+    def member(self, place: Place) -> Found:
+        """What is in a member, unless it is told later."""
+        if self.is_taken(place):
+            return True
+        return (yield from examine(place))
+
+    def told(self) -> Iterator[Together]:
+        """What is to be told of the values that were not told one by one."""
+        if self._count:
+            told = tuple(self._told.values())
+            path = f"{self._place.path}!the rest"
+            yield Together(path, self._kind, self._count, self._size, told)
