@@ -16,7 +16,7 @@ from pathlib import Path
 
 from storklocker.scanning.command import main
 from storklocker.scanning.severity import SEVERITIES
-from storklocker.scanning.words import HEADLINES, Word, word_of
+from storklocker.scanning.words import HEADLINES, Word, headline_of, word_of
 
 ROOT = Path(__file__).resolve().parents[2]
 BAD = b"cposix\nsystem\n(S'touch pwned'\ntR."
@@ -96,7 +96,8 @@ class OneWord(unittest.TestCase):
             self.assertEqual([one for one, _, _ in rows], [word for _, word, _ in rows])
             for word in set(wanted.values()):
                 count = sum(it == word for it in wanted.values())
-                self.assertIn(f"<button data-worst='{word}' aria-pressed=false>{word} {count}<", page)
+                button = f"<button data-worst='{word}' aria-pressed=false>{word} {count}<"
+                self.assertIn(button, page)
 
     def test_sarif_and_junit(self):
         for listed, wanted in WORDS.items():
@@ -121,7 +122,15 @@ class OneWord(unittest.TestCase):
                 self.assertLessEqual(order.index(word), order.index(status), (status, severity))
         for status in (Word.ACCEPTED, Word.UNJUDGED, Word.UNDECIDED):
             self.assertIs(word_of(status, ("unreadable",)), Word.UNREADABLE)
-        self.assertEqual(set(HEADLINES), {*SEVERITIES, ""})
+
+    def test_headlines(self):
+        for severity in SEVERITIES:
+            self.assertEqual(headline_of((severity,), (Word.ACCEPTED,)), severity)
+        calm = (Word.UNJUDGED, Word.ACCEPTED, Word.NO_PICKLE)
+        for word in calm:
+            self.assertEqual(headline_of((), (word, Word.NO_PICKLE)), word)
+        self.assertEqual(headline_of((), ()), "no pickle")
+        self.assertEqual(set(HEADLINES), {*SEVERITIES, *calm})
 
     @unittest.skipUnless((ROOT / "docs" / "SCANNING.md").exists(), "there are no documents")
     def test_the_document_defines_each_word(self):
