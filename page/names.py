@@ -1,14 +1,44 @@
-"""Names for the page: those that Python 3 has renamed, and those in a shipped list."""
+"""What the page knows of names, and the words of the package, which needn't be built for that."""
 
 from __future__ import annotations
 
 import _compat_pickle as tables
+import ast
+import importlib
 import re
+import sys
 from pathlib import Path
-from typing import Dict, Iterator, Tuple
+from types import ModuleType
+from typing import Any, Dict, Iterator, Tuple
 
 _SUBSTITUTES = "\n[substitutes]\n"
 _LINE = re.compile(r'^(?:"([^"]+)"|([\w-]+)) = \[(.*)$')
+
+
+_PACKAGE = Path(__file__).resolve().parent.parent / "python" / "storklocker"
+
+
+def module(name: str) -> Any:
+    """A module of the package that needs no compiled one, such as `scanning.words`, imported
+    without the package around it.
+    """
+    folder, _, last = name.rpartition(".")
+    around = f"storklocker_without_{folder}"
+    if around not in sys.modules:
+        made = sys.modules[around] = ModuleType(around)
+        made.__path__ = [str(_PACKAGE / folder)]
+    return importlib.import_module(f"{around}.{last}")
+
+
+def substituted(source: Path) -> Tuple[Tuple[str, str], ...]:
+    """The pairs of the standard library that a guard always loads through substitutes."""
+    for node in ast.parse(source.read_text(encoding="utf-8")).body:
+        targets = node.targets if isinstance(node, ast.Assign) else []
+        if [getattr(it, "id", "") for it in targets] == ["SUBSTITUTED"]:
+            value = ast.fix_missing_locations(ast.Expression(node.value))  # type: ignore
+            pairs: Tuple[Tuple[str, str], ...] = eval(compile(value, str(source), "eval"), {})
+            return pairs
+    raise ValueError(f"{source} has no SUBSTITUTED")
 
 
 def renames() -> Dict[str, Dict[str, str]]:

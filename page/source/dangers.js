@@ -12,6 +12,7 @@ const INWARDS = new Set(
     + " __getattribute__ __globals__ __import__ __loader__ __mro__ __self__ __spec__ __subclasses__"
     + " __wrapped__ ag_frame cr_frame f_back f_builtins f_globals f_locals func_globals gi_frame"
     + " mro tb_frame").split(" "));
+const MAIN = { severity: "warning", why: "The import of this module runs it as a command." };
 const MAKING = [".__init__", ".__new__", ".__call__"];
 
 // The sections of the table: a header, and the lines under it.
@@ -87,7 +88,8 @@ export class Known {
     return { severity: "unknown", why: UNKNOWN };
   }
 
-  *meanings(module, name) {
+  *meanings(full, name) {
+    const module = full.split("\0", 1)[0]; // as Python finds frozen modules
     const row = this.judged(`${module}.${name}`);
     if (this.listed.has(`${module} ${name}`) && row?.severity !== "danger") {
       yield { severity: "harmless", why: "" };
@@ -99,6 +101,7 @@ export class Known {
       yield this.judged((pair ?? `${this.modules.get(module)} ${name}`).replace(" ", "."));
     }
     if (INWARDS.has(name)) yield INNER;
+    if (module.endsWith(".__main__")) yield MAIN;
     const making = MAKING.find((end) => name.endsWith(end));
     if (making) yield this.judged(`${module}.${name}`.slice(0, -making.length));
     if (name.includes(".")) yield* this.inside(name.split("."));

@@ -20,7 +20,11 @@ const PACKED = [
   [[0x5a, 0x46], "", "joblib's compression"],
   [[0x89, 0x48, 0x44, 0x46], "", "HDF5"],
 ];
+const DIFFERING = "differing-readings";
 const NUMPY = [0x93, 0x4e, 0x55, 0x4d, 0x50, 0x59];
+
+const HEADER = new RegExp("^\\{'descr': '[<>|=]([biufcSUmM])([0-9]{1,4})(?:\\[[a-zA-Z0-9]*\\])?', "
+  + "'fortran_order': (?:True|False), 'shape': \\(((?:[0-9]{1,15},? ?)*)\\), \\} *\n$");
 
 export class Budget {
   constructor() {
@@ -39,46 +43,50 @@ function begins(bytes, with_) {
   return with_.every((byte, at) => bytes[at] === byte);
 }
 
-// The pieces of a file: `{ path, blob }`, or `{ path, problem }` where something can't be read.
-export async function* piecesOf(path, blob, budget, depth = 0) {
+// The pieces of a file: `{ path, kind, blob }`, or `{ path, kind, problem, fault }` where something
+// can't be read, or `{ path, kind, isOther, why }` where nothing is a pickle. Kinds and faults are
+// those of `storklocker scan`.
+export async function* piecesOf(path, blob, budget, depth = 0, kind = "pickle") {
   const front = new Uint8Array(await blob.slice(0, 2 * BLOCK).arrayBuffer());
   const packed = PACKED.find(([magic]) => begins(front, magic));
   const zip = await readZip(blob, budget);
   const isZlib = front[0] === 0x78 && (front[0] * 256 + front[1]) % 31 === 0;
   if (depth === DEEPEST && (zip || packed || isZlib || isTar(front))) {
-    yield { path, problem: "It lies deeper than this page looks." };
+    yield { path, kind, fault: "too-much", problem: "It lies deeper than this page looks." };
     return;
   }
   if (zip) yield* insideZip(path, zip, budget, depth);
   if (zip && begins(front, [0x50, 0x4b])) return;
   if (packed && !packed[1]) {
-    yield { path, problem: `This page can't unpack ${packed[2]}. \`storklocker scan\` may.` };
+    const problem = `This page can't unpack ${packed[2]}. \`storklocker scan\` may.`;
+    yield { path, kind: packed[2], fault: "unknown-container", problem };
   } else if (packed || isZlib) {
-    yield* unpack(path, blob, packed?.[1] ?? "deflate", budget, depth);
+    yield* unpack(path, blob, packed?.[2] ?? "zlib", budget, depth);
   } else if (isTar(front)) {
     yield* insideTar(path, blob, budget, depth);
   } else if (begins(front, NUMPY)) {
     yield* insideArray(path, blob, front);
   } else {
-    yield { path, blob, isWhole: depth === 0 };
+    yield { path, kind, blob, isWhole: depth === 0 };
   }
 }
 
 async function* insideZip(path, zip, budget, depth) {
-  for (const problem of zip.problems) yield { path, problem };
+  for (const problem of zip.problems) yield { path, kind: "zip", fault: DIFFERING, problem };
   for (const member of zip.members) {
     const inner = `${path} › ${member.name}`;
-    if (!member.isFolder) yield* opened(inner, await member.open(), budget, depth);
+    if (!member.isFolder) yield* opened(inner, "zip member", await member.open(), budget, depth);
   }
 }
 
-async function* opened(path, { blob, problem }, budget, depth) {
-  if (problem) yield { path, problem };
-  if (blob) yield* piecesOf(path, blob, budget, depth + 1);
+async function* opened(path, kind, { blob, problem }, budget, depth) {
+  if (problem) yield { path, kind, fault: "broken-container", problem };
+  if (blob) yield* piecesOf(path, blob, budget, depth + 1, kind);
 }
 
-async function* unpack(path, blob, format, budget, depth) {
-  yield* opened(`${path} › unpacked`, await inflated(blob, format, budget), budget, depth);
+async function* unpack(path, blob, kind, budget, depth) {
+  const found = await inflated(blob, kind === "zlib" ? "deflate" : kind, budget);
+  yield* opened(`${path} › unpacked`, kind, found, budget, depth);
 }
 
 // Whether a block is a header of tar: its checksum counts itself as blanks.
@@ -108,16 +116,18 @@ async function* insideTar(path, blob, budget, depth) {
     const size = octal(block, 124, 12);
     budget.members -= 1;
     if (!(at + BLOCK + size <= blob.size) || budget.members < 0) {
-      yield { path, problem: "This tar file is damaged, or has too many members." };
+      const problem = "This tar file is damaged, or has too many members.";
+      yield { path, kind: "tar", fault: "broken-container", problem };
       return;
     }
     const inner = `${path} › ${name(block, 0, 100)}`;
     const body = blob.slice(at + BLOCK, at + BLOCK + size);
-    if (size > 0) yield* piecesOf(inner, body, budget, depth + 1);
+    if (size > 0) yield* piecesOf(inner, body, budget, depth + 1, "tar member");
     at += BLOCK + Math.ceil(size / BLOCK) * BLOCK;
   }
   const rest = blob.slice(at);
-  if (!(await isZero(rest))) yield { path, problem: "Bytes follow the end of this tar file." };
+  const problem = "Bytes follow the end of this tar file.";
+  if (!(await isZero(rest))) yield { path, kind: "tar", fault: DIFFERING, problem };
 }
 
 async function isZero(blob) {
@@ -132,10 +142,23 @@ async function* insideArray(path, blob, front) {
     ? front[8] + 256 * front[9]
     : new DataView(front.buffer).getUint32(8, true);
   const start = (isShort ? 10 : 12) + length;
-  const header = await blob.slice(0, Math.min(start, 1 << 16)).text();
+  const header = await blob.slice(isShort ? 10 : 12, Math.min(start, 1 << 16)).text();
+  const size = sizeOf(header);
   if (header.includes("O")) {
-    yield { path: `${path} › objects`, blob: blob.slice(start), isWhole: true };
+    yield { path: `${path} › objects`, kind: "npy", blob: blob.slice(start), isWhole: true };
+  } else if (start + size === blob.size) {
+    yield { path, kind: "npy", isOther: true, why: "numbers only" };
   } else {
-    yield { path, problem: "An array of numbers: this page doesn't read what may follow it." };
+    const problem = "An array of numbers: this page doesn't read what may follow it.";
+    yield { path, kind: "npy", fault: DIFFERING, problem };
   }
+}
+
+// The bytes of the items of an array of numbers, as NumPy writes its header; NaN otherwise.
+function sizeOf(header) {
+  const found = HEADER.exec(header);
+  if (!found) return NaN;
+  const counts = found[3].split(",").map((it) => it.trim()).filter(Boolean).map(Number);
+  const item = Number(found[2]) * (found[1] === "U" ? 4 : 1);
+  return counts.reduce((size, count) => size * count, item);
 }

@@ -3,7 +3,8 @@
 import { counted, dotted } from "./words.js";
 
 const MOST = 500;
-const TITLES = { danger: "Danger", warning: "Warning", unknown: "Unjudged", harmless: "Harmless" };
+// a name of which nothing is known to do harm has no word: it may do some in a call of another
+const TITLES = { danger: "dangerous", warning: "warning", unknown: "note", harmless: "" };
 const ORDER = Object.keys(TITLES);
 
 const get = (id) => document.getElementById(id);
@@ -48,7 +49,7 @@ function addRow(it, permit) {
   const title = document.createElement("span");
   title.className = it.severity;
   title.textContent = TITLES[it.severity];
-  about.append(title, it.why ? `. ${it.why}` : "");
+  about.append(title, title.textContent && it.why ? `: ${it.why}` : "");
   const last = cell(row, it.isListed ? "on the list" : "");
   if (it.isListed || it.module === null) return;
   const button = document.createElement("button");

@@ -2,11 +2,13 @@
 
 import { Known } from "./dangers.js";
 import { showImports } from "./imports.js";
+import { Judge } from "./judging.js";
 import { Listing } from "./listing.js";
 import { EMPTY, keepInAddress, listInAddress, withPairs } from "./list.js";
-import { counted, dotted, sentence, shown, verdictLine } from "./words.js";
+import { counted, dotted, sentence, shown } from "./words.js";
 
 const MOST_PARTS = 500;
+const MOST_FINDINGS = 20;
 const PAUSE = 250; // milliseconds after the last key, before the list is read
 
 const get = (id) => document.getElementById(id);
@@ -14,6 +16,7 @@ const listing = new Listing(get("listing"));
 let packed = null;
 let code = null;
 let known = null;
+let judge = null;
 let worker = null;
 let pairs = [];
 let isReadable = true;
@@ -57,12 +60,12 @@ const handlers = {
     get("listed").textContent = fault ? "" : `(${counted(pairs.length, "name")})`;
   },
   part: ({ part }) => {
-    parts.push(part);
-    if (parts.length <= MOST_PARTS) get("parts").append(partButton(part));
+    parts.push(judge.judged(part, pairs));
+    if (parts.length <= MOST_PARTS) get("parts").append(partButton(parts.at(-1)));
     get("state").textContent = `${counted(parts.length, "part")} read so far…`;
   },
   verdict: ({ id, verdict }) => {
-    parts[id].verdict = verdict;
+    parts[id] = judge.judged({ ...parts[id], verdict }, pairs);
     get("parts").children[id]?.replaceWith(partButton(parts[id]));
   },
   done: () => {
@@ -83,17 +86,16 @@ function tellDangers() {
   return `It permits ${counted(found.length, "danger")}: ${names}${rest}`;
 }
 
-function kindOf(part) {
-  if (part.problem) return "unread";
-  if (part.isOther) return "other";
-  return part.verdict.status === 0 ? "yes" : "no";
+// The class of what shows a part, by its word.
+function classOf({ word }) {
+  return word.replace(" ", "-");
 }
 
 function partButton(part) {
   const button = document.createElement("button");
   const told = document.createElement("span");
   button.type = "button";
-  button.className = kindOf(part);
+  button.className = classOf(part);
   button.textContent = `${shortPath(part)}${part.number > 1 ? `, pickle ${part.number}` : ""}`;
   told.textContent = tellShortly(part);
   button.append(told);
@@ -108,43 +110,30 @@ function shortPath({ path }) {
   return shown(fileName !== "" && path.startsWith(`${fileName} › `) ? inner : path);
 }
 
-function tellShortly(part) {
-  if (part.problem) return "not read";
-  if (part.isOther) return "no pickle that imports";
-  return verdictLine(part.verdict);
-}
-
-function of(kind) {
-  return parts.filter((part) => kindOf(part) === kind);
+function tellShortly({ word, kind, why }) {
+  return `${word}, ${kind}${why ? `: ${shown(why)}` : ""}`;
 }
 
 function showAnswer() {
   get("answer").hidden = false;
   get("columns").classList.toggle("single", parts.length === 1);
-  const [no, yes, unread, other] = ["no", "yes", "unread", "other"].map(of);
-  get("summary").textContent = summary(no, yes, unread);
-  const cautions = [];
-  if (unread.length) cautions.push(`${counted(unread.length, "part")} can't be read here.`);
-  if (other.length) {
-    cautions.push(`In ${counted(other.length, "part")} the checker finds no pickle that imports.`);
-  }
+  get("summary").textContent = judge.headline(parts);
+  const cautions = [`${judge.counts(parts)}.`];
   if (parts.length > MOST_PARTS) {
     cautions.push(`The first ${MOST_PARTS} of ${parts.length} are shown.`);
   }
   get("caution").textContent = cautions.join(" ");
   const isKept = chosen >= 0 && chosen < parts.length;
-  choose(isKept ? chosen : (no[0] ?? unread[0] ?? yes[0] ?? other[0]).id);
+  choose(isKept ? chosen : worst().id);
   get("state").textContent = "";
   if (isReading || isPermitted) get("summary").focus(); // what had the focus is gone
   isReading = isPermitted = false;
 }
 
-function summary(no, yes, unread) {
-  if (no.length) return `Refused: ${counted(no.length, "pickle")} of ${no.length + yes.length}`;
-  if (unread.length) return "Not known: not everything could be read";
-  if (yes.length > 1) return `The list permits all ${yes.length} pickles`;
-  if (yes.length === 1) return "The list permits it";
-  return "No pickle was found here";
+// The first part with the worst word.
+function worst() {
+  const place = ({ word }) => judge.words.indexOf(word);
+  return parts.reduce((one, other) => (place(other) < place(one) ? other : one));
 }
 
 function choose(id) {
@@ -155,23 +144,48 @@ function choose(id) {
   }
   const behind = part.offset > 0 ? `, pickle ${part.number}, from byte ${part.offset}` : "";
   get("path").textContent = `${shown(part.path)}${behind}`;
-  get("verdict").className = kindOf(part);
-  get("line").textContent = part.problem ? "not read" : verdictLine(part.verdict);
-  get("words").textContent = part.problem ? shown(part.problem) : told(part);
-  get("names").hidden = get("instructions").hidden = Boolean(part.problem);
-  if (part.problem) return;
+  get("verdict").className = classOf(part);
+  get("line").textContent = tellShortly(part);
+  get("words").textContent = told(part);
+  const findings = part.findings.slice(0, MOST_FINDINGS);
+  get("findings").replaceChildren(...findings.map((it) => findingLine(it, part.why)));
+  get("names").hidden = get("instructions").hidden = !part.any;
+  if (!part.any) return;
   showNames();
   if (wantedListing !== id) askForListing(id);
   else listing.mark(placeOf(part));
 }
 
-function told(part) {
-  const words = sentence(part.verdict);
-  return part.isOther ? `${words} Nothing is imported before that.` : words;
+function told({ word, isOther, any, verdict }) {
+  if (!any) return "";
+  if (isOther) return `${sentence(any)} Nothing is imported before that.`;
+  if (pairs.length > 0 || verdict.status > 1) return sentence(verdict);
+  return any.status === 1 ? sentence(any) : "";
 }
 
-function placeOf(part) {
-  return part.verdict.status === 1 ? part.verdict.at : null;
+// A finding that the line above may have said already, and what to do about it.
+function findingLine({ kind, name, why }, said) {
+  const { severity, title, advice } = judge.kinds[kind];
+  const [line, about] = [document.createElement("li"), document.createElement("b")];
+  about.className = severity;
+  about.textContent = `${title}. `;
+  line.append(about, name ? `${shown(name)}: ` : "", why === said ? "" : `${sentenceOf(why)} `);
+  for (const [at, text] of advice.split("`").entries()) {
+    const part = document.createElement(at % 2 ? "code" : "span");
+    part.textContent = text;
+    line.append(part);
+  }
+  return line;
+}
+
+function sentenceOf(why) {
+  const text = shown(why);
+  return `${text.slice(0, 1).toUpperCase()}${text.slice(1)}${text.endsWith(".") ? "" : "."}`;
+}
+
+function placeOf({ any, verdict }) {
+  const used = pairs.length > 0 ? verdict : any;
+  return used.status === 1 ? used.at : null;
 }
 
 function askForListing(id) {
@@ -254,6 +268,7 @@ async function start() {
   packed = JSON.parse(new TextDecoder().decode(await unpack("packed")));
   code = await unpack("module");
   known = new Known(packed.known);
+  judge = new Judge(packed.said, known);
   for (const name of Object.keys(packed.lists)) get("shipped").append(new Option(name, name));
   begin();
   listen();

@@ -1,12 +1,19 @@
 // Reads files and judges what is in them, beside the page, which stays usable meanwhile.
 
 import { Checker, NO, NO_LIST, OutOfMemory, YES } from "./checker.js";
+import { Costs } from "./costs.js";
 import { Budget, piecesOf } from "./files.js";
+import { NotFollowed } from "./following.js";
+import { Cutter, isWrapper } from "./joblib.js";
 
 const LARGEST = 2 ** 29;
 const FRONT = 1 << 16;
 const PICKLES = 1000;
 const IMPORTING = ["UnknownImport", "ExtensionCode"];
+// where every reader stops too
+const STOPPING = ["UnknownOpcode", "MissingItem", "MissingMark", "MissingMemo"];
+const TORCH = [..."\x80\x02\x8a\nl\xfc\x9cF\xf9 j\xa8P\x19."].map((it) => it.charCodeAt(0));
+const TORCH_PICKLES = 5;
 
 let module = null;
 let checker = null;
@@ -60,24 +67,51 @@ function add(part) {
 }
 
 async function judgePiece(piece) {
-  if (piece.problem) return add(piece);
+  if (piece.problem || piece.isOther) return add(piece);
   if (piece.blob.size > LARGEST) return add(await largePiece(piece));
   await load(piece.blob);
   let offset = 0;
   for (let number = 1; number <= PICKLES; number += 1) {
     const part = judged(piece, offset, number);
+    if (number === 1 && part.imports?.some(isWrapper)) return judgeJoblib(piece, part);
     add(part);
     offset += part.any.taken;
     if (part.any.status !== YES || offset >= piece.blob.size) return undefined;
   }
-  return add({ path: piece.path, problem: `After ${PICKLES} pickles the rest isn't read.` });
+  const problem = `After ${PICKLES} pickles the rest isn't read.`;
+  return add({ path: piece.path, kind: kindOf(piece, 1), fault: "too-much", problem });
+}
+
+// A file of joblib, whose arrays stand between the instructions: what is left without them, and the
+// pickles of arrays of objects.
+async function judgeJoblib(piece, part) {
+  const { blob, path } = piece;
+  try {
+    const bytes = new Uint8Array(await blob.arrayBuffer());
+    const { left, nested } = new Cutter(bytes, (at) => checker.imports(at).taken).cut();
+    for (const one of [left, ...nested.map(([from, to]) => blob.slice(from, to))]) {
+      await load(one);
+      add(judged({ path, blob: one, kind: "joblib", isWhole: true }, 0, 1));
+    }
+  } catch (error) {
+    if (!(error instanceof NotFollowed)) throw error;
+    const front = "joblib writes arrays between the instructions, but not like this";
+    add({ ...part, kind: "joblib", isOther: false, raw: `${front}: ${error.message}` });
+  }
+}
+
+// What the bytes are, as `storklocker scan` calls it.
+function kindOf({ kind, isTorch }, number) {
+  if (!isTorch) return kind ?? "pickle";
+  return number <= TORCH_PICKLES ? "torch" : "behind a torch file";
 }
 
 async function largePiece(piece) {
   await load(piece.blob.slice(0, FRONT));
   const part = judged({ ...piece, isWhole: false }, 0, 1);
   if (part.isOther) return part;
-  return { path: piece.path, problem: "It is larger than this page reads." };
+  const problem = "It is larger than this page reads.";
+  return { path: piece.path, kind: part.kind, fault: "too-much", problem };
 }
 
 // What is found out about a pickle, whatever the list.
@@ -85,15 +119,30 @@ function judged(piece, offset, number) {
   const any = checker.imports(offset);
   const front = checker.memory().slice(checker.at + offset, checker.at + offset + 2);
   const isClaimed = front[0] === 0x80 && front[1] <= 5;
-  const isFirst = number === 1;
+  const isStopped = any.at === 0 && STOPPING.includes(any.reason);
+  const isFirst = piece.isWhole && number === 1 && !isStopped;
   const isOther = any.status === NO && any.imports === 0 && !isClaimed
-    && !IMPORTING.includes(any.reason) && !(piece.isWhole && isFirst);
+    && !IMPORTING.includes(any.reason) && !isFirst;
+  if (number === 1) piece.isTorch = startsWith(offset, TORCH);
+  const kind = kindOf(piece, number);
   const part = {
     path: piece.path, blob: piece.blob, offset, number, size: piece.blob.size - offset, any,
-    isOther, imports: any.pairs,
+    isOther, imports: any.pairs, kind: isOther && kind === "pickle" ? "file" : kind,
   };
   delete any.pairs;
-  return { ...part, verdict: underList(part) };
+  return { ...part, ...(isOther ? {} : costsOf(offset)), verdict: underList(part) };
+}
+
+function startsWith(offset, front) {
+  const bytes = checker.memory().subarray(checker.at + offset, checker.at + checker.size);
+  return front.every((byte, at) => bytes[at] === byte);
+}
+
+// What a guard refuses whatever is listed, and whether the pickle sets a state.
+function costsOf(offset) {
+  const bytes = checker.memory().subarray(checker.at, checker.at + checker.size);
+  const found = new Costs(bytes, offset);
+  return { costs: found.find(), hasBuild: found.hasBuild };
 }
 
 function underList({ offset, isOther, any }) {

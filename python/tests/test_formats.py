@@ -68,7 +68,7 @@ class Formats(unittest.TestCase):
                 self.assertIn(line, out.getvalue())
 
     def test_junit(self):
-        _, out = self.run_command("scan", self.files(), "--recursive", "--format", "junit")
+        _, out = self.run_command("scan", self.files(), "--format", "junit")
         suite = ET.fromstring(out.encode())[0]
         cases = {case.get("name").rpartition("/f/")[2]: case for case in suite}
         self.assertEqual(len(cases), int(suite.get("tests")))
@@ -81,10 +81,10 @@ class Formats(unittest.TestCase):
         self.assertEqual(cases["deep/bad.bin!a]]><b"][0].tag, "failure")
         _, out = self.run_command("scan", self.folder / "f", "--format", "junit",
                                   "--fail-on", "note")
-        self.assertEqual(ET.fromstring(out.encode())[0].get("failures"), "3")
+        self.assertEqual(ET.fromstring(out.encode())[0].get("failures"), "4")
 
     def test_sarif(self):
-        _, out = self.run_command("scan", self.files(), "--recursive", "--format", "sarif")
+        _, out = self.run_command("scan", self.files(), "--format", "sarif")
         run = json.loads(out)["runs"][0]
         levels = {result["ruleId"]: result["level"] for result in run["results"]}
         self.assertEqual(levels, {
@@ -108,7 +108,7 @@ class Formats(unittest.TestCase):
 
     def test_include_and_exclude(self):
         folder = self.files()
-        words = ("scan", folder, "--recursive", "--format", "json")
+        words = ("scan", folder, "--format", "json")
         for more, names in (
             (("--include", "*.py"), ["text.py"]),
             (("--exclude", "bad*", "--exclude", "cut*"), ["good", "partial", "text.py", "unknown"]),
@@ -145,11 +145,11 @@ class Terminals(unittest.TestCase):
     @needs("/dev/pts/ptmx")
     def test_the_last_line(self):
         folder = self.files()
-        last = self.shown("scan", folder, "--recursive").strip().splitlines()[-1]
+        last = self.shown("scan", folder).strip().splitlines()[-1]
         self.assertIn("2 dangerous, 1 unreadable, 1 with warnings", last)
         self.assertIn(f"in 5 of 7 files, most in {folder} (4)", last)
         more = last.partition("each: ")[2].partition(" >")[0]
-        self.assertEqual(more, f"storklocker scan {folder} --recursive --format html")
+        self.assertEqual(more, f"storklocker scan {folder} --format html")
         last = self.shown("scan", self.folder / "f" / "good").strip().splitlines()[-1]
         self.assertEqual(last, "nothing was found in 1 file")
 

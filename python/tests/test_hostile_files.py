@@ -249,8 +249,11 @@ class HostileFiles(unittest.TestCase):
 
     def test_folders_left_out_are_told(self):
         (self.folder / "below").mkdir()
-        _, _, errors = told("scan", self.folder)
-        self.assertIn("1 folder left out", errors)
+        for command in ("scan", "learn"):
+            status, _, errors = told(command, self.folder, "--no-recursive")
+            self.assertEqual(status, 2)
+            self.assertIn("1 folder left unread", errors)
+            self.assertEqual(told(command, self.folder)[::2], (0, ""))
 
     @needs("semaphores")
     def test_standard_input_beside_several_processes(self):

@@ -89,6 +89,21 @@ class Resuming(unittest.TestCase):
         self.assertEqual((status, read), (1, ["b"]))
         self.assertEqual((status, out), self.scans()[:2])
 
+    def test_a_file_with_the_size_and_time_of_another(self):
+        (self.folder / "f").mkdir()
+        words, path = ("--resume", self.folder / "store"), self.put("f/a", GOOD)
+        self.assertEqual(self.scans(*words)[::2], (0, ["a"]))
+        before = os.stat(path)
+        other = BAD[:-1] + b"0" + b"N0" * len(GOOD)
+        self.put("f/a", (other[: len(GOOD) - 2] + b"N.").ljust(len(GOOD), b"."))
+        while os.stat(path).st_ctime_ns == before.st_ctime_ns:  # its clock has ticks
+            os.utime(path, ns=(before.st_atime_ns, before.st_mtime_ns))
+        os.utime(path, ns=(before.st_atime_ns, before.st_mtime_ns))
+        after = os.stat(path)
+        same = [(it.st_size, it.st_mtime_ns) for it in (before, after)]
+        self.assertEqual(same[0], same[1], "the control")
+        self.assertEqual(self.scans(*words)[::2], (1, ["a"]))
+
     def test_what_could_not_be_read_is_read_again(self):
         (self.folder / "f").mkdir()
         self.put("f/a", GOOD)

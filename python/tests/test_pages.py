@@ -31,7 +31,7 @@ class Pages(unittest.TestCase):
         commands = [it.words for it in pages.all_of(COMMAND)]
         self.assertEqual(commands[:3], ["storklocker", "storklocker scan", "storklocker check"])
         flags = {flag for it in pages.options_of(COMMAND.below[0]) for flag in it.flags}
-        self.assertLess({"--allow", "--recursive", "--format", "--help"}, flags)
+        self.assertLess({"--allow", "--no-recursive", "--format", "--help"}, flags)
 
     def test_each_page_has_every_option(self):
         for name in pages.PAGES:

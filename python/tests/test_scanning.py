@@ -214,10 +214,13 @@ class Scanning(unittest.TestCase):
         for number in range(20):
             self.put(f"good{number}", GOOD)
         words = ("scan", self.folder, "--allow", self.list)
-        self.assertEqual(self.run_command(*words)[0], 0)
-        one = self.run_command(*words, "--recursive")
+        one = self.run_command(*words)
         self.assertEqual(one[0], 1)
-        self.assertEqual(self.run_command(*words, "--recursive", "--jobs", "3"), one)
+        self.assertEqual(self.run_command(*words, "--jobs", "3"), one)
+        self.assertEqual(self.run_command(*words, "--no-recursive")[0], 2)
+        for command in ("check", "imports"):
+            more = words[2:] if command == "check" else ()
+            self.assertIn(str(self.folder / "below"), self.run_command(command, words[1], *more)[1])
 
     def test_check_and_imports(self):
         good, bad = self.put("good", GOOD), self.put("bad", BAD)

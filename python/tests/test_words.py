@@ -1,7 +1,10 @@
 """One word for a file: every format of `storklocker scan` says the same."""
 
 import contextlib
+import datetime
+import decimal
 import html
+import importlib
 import io
 import json
 import os
@@ -14,9 +17,11 @@ import unittest
 import xml.etree.ElementTree as ET
 from pathlib import Path
 
+from common import needs
 from storklocker.scanning.command import main
-from storklocker.scanning.severity import SEVERITIES
-from storklocker.scanning.words import HEADLINES, Word, word_of
+from storklocker.scanning.report import VERSION, Finding, Report
+from storklocker.scanning.severity import KINDS, SEVERITIES
+from storklocker.scanning.words import HEADLINES, Word, headline_of, word_of
 
 ROOT = Path(__file__).resolve().parents[2]
 BAD = b"cposix\nsystem\n(S'touch pwned'\ntR."
@@ -96,7 +101,8 @@ class OneWord(unittest.TestCase):
             self.assertEqual([one for one, _, _ in rows], [word for _, word, _ in rows])
             for word in set(wanted.values()):
                 count = sum(it == word for it in wanted.values())
-                self.assertIn(f"<button data-worst='{word}' aria-pressed=false>{word} {count}<", page)
+                button = f"<button data-worst='{word}' aria-pressed=false>{word} {count}<"
+                self.assertIn(button, page)
 
     def test_sarif_and_junit(self):
         for listed, wanted in WORDS.items():
@@ -121,13 +127,86 @@ class OneWord(unittest.TestCase):
                 self.assertLessEqual(order.index(word), order.index(status), (status, severity))
         for status in (Word.ACCEPTED, Word.UNJUDGED, Word.UNDECIDED):
             self.assertIs(word_of(status, ("unreadable",)), Word.UNREADABLE)
-        self.assertEqual(set(HEADLINES), {*SEVERITIES, ""})
+
+    def test_headlines(self):
+        for severity in SEVERITIES:
+            self.assertEqual(headline_of((severity,), (Word.ACCEPTED,)), severity)
+        calm = (Word.UNJUDGED, Word.ACCEPTED, Word.NO_PICKLE)
+        for word in calm:
+            self.assertEqual(headline_of((), (word, Word.NO_PICKLE)), word)
+        self.assertEqual(headline_of((), ()), "no pickle")
+        self.assertEqual(set(HEADLINES), {*SEVERITIES, *calm})
 
     @unittest.skipUnless((ROOT / "docs" / "SCANNING.md").exists(), "there are no documents")
     def test_the_document_defines_each_word(self):
         text = (ROOT / "docs" / "SCANNING.md").read_text(encoding="utf-8")
         defined = re.findall(r"(?m)^\| ([a-z ]+) \| ", text.partition("One word")[2])
         self.assertEqual(defined, [word.value for word in Word])
+
+
+SCHEMA = ROOT / "docs" / "report.schema.json"
+
+
+@unittest.skipUnless(SCHEMA.exists(), "there are no documents")
+class Schema(unittest.TestCase):
+    setUp, out = OneWord.setUp, OneWord.out
+
+    def test_it_has_each_word(self):
+        held = json.loads(SCHEMA.read_text(encoding="utf-8"))["$defs"]
+        report, finding = held["report"]["properties"], held["finding"]["properties"]
+        self.assertEqual(report["status"]["enum"], [word.value for word in Word])
+        self.assertEqual(report["version"]["const"], VERSION)
+        self.assertEqual(list(report), ["version", *Report._fields])
+        self.assertEqual(finding["severity"]["enum"], list(SEVERITIES))
+        self.assertEqual(finding["kind"]["enum"], list(KINDS))
+        self.assertEqual(set(finding), {"severity", *Finding._fields})
+
+    @needs("module:jsonschema")
+    def test_reports_follow_it(self):
+        jsonschema = importlib.import_module("jsonschema")
+        judge = jsonschema.Draft202012Validator(json.loads(SCHEMA.read_text(encoding="utf-8")))
+        for listed in WORDS:
+            found = json.loads(self.out(listed, "json"))
+            judge.validate(found)
+            self.assertTrue(judge.is_valid([]))
+            for name in found[0]:
+                for other in ({}, {name: ["other"]}):
+                    changed = {**{it: found[0][it] for it in found[0] if it != name}, **other}
+                    self.assertFalse(judge.is_valid([changed]), (name, other))
+
+
+class Lists(unittest.TestCase):
+    """`--allow` takes several lists, and shipped ones."""
+
+    def setUp(self):
+        held = tempfile.TemporaryDirectory()
+        self.addCleanup(held.cleanup)
+        self.folder = Path(held.name)
+        data = pickle.dumps([datetime.date(2020, 1, 1), decimal.Decimal(1)], 4)
+        (self.folder / "a.pickle").write_bytes(data)
+        (self.folder / "own.toml").write_text('version = 2\n[imports]\ndatetime = ["date"]\n')
+        (self.folder / "none.toml").write_text("version = 2\n[imports]\n[limits]\nstack = 2\n")
+
+    def status(self, *given):
+        words = [word for one in given for word in ("--allow", one)]
+        path = str(self.folder / "a.pickle")
+        with contextlib.redirect_stdout(io.StringIO()):
+            with contextlib.redirect_stderr(io.StringIO()) as errors:
+                found = [main([command, path, *words]) for command in ("scan", "check")]
+        self.assertEqual(found[0], found[1], given)
+        return found[0], errors.getvalue()
+
+    def test_unions(self):
+        own, none = str(self.folder / "own.toml"), str(self.folder / "none.toml")
+        for given, wanted in (
+            ((own,), 1), (("@decimal",), 1), ((own, "@decimal"), 0), (("@datetime,@decimal",), 0),
+            (("@datetime", "@decimal"), 0), (("@scikit-learn,@uuid",), 1),
+            ((none, "@datetime,@decimal"), 1),  # limits apply to all
+        ):
+            self.assertEqual(self.status(*given)[0], wanted, given)
+        status, told = self.status("@nowhere")
+        self.assertEqual(status, 2)
+        self.assertIn("@nowhere is no shipped list: there are @celery, ", told)
 
 
 if __name__ == "__main__":

@@ -29,6 +29,7 @@ import browser  # noqa: E402
 import containers  # noqa: E402
 import sights  # noqa: E402
 import sentences  # noqa: E402
+import verdicts  # noqa: E402
 
 
 def shipped(folder: Path) -> Optional[Path]:
@@ -82,7 +83,9 @@ def main() -> int:
             skipped.append("damaged containers: there is no node, or no module")
         else:
             found["containers that are damaged"] = containers.fault(module)
-    why = sentences.lacking()
+        why = sentences.lacking()
+        if not why and module is not None:
+            found["verdicts"] = verdicts.fault(module)
     if why:
         skipped.append(f"what the page says of names: {why}")
     else:

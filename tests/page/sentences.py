@@ -18,7 +18,8 @@ HERE = Path(__file__).resolve().parent
 ROOT = HERE.parent.parent
 _ENDS = ("", ".__init__", ".a", ".y.z")
 _FRONTS = ("__class__.", "_a.", "x.os.system.")
-_OTHERS = {("", ""), ("os", ""), ("", "os.system"), ("x", "a." * 20 + "b"), ("a." * 2000, "c")}
+_OTHERS = {("", ""), ("os", ""), ("", "os.system"), ("x", "a." * 20 + "b"), ("a." * 2000, "c"),
+    ("shop.__main__", "x"), ("os\0x", "system")}
 
 Pair = Tuple[str, str]
 
@@ -32,7 +33,7 @@ def lacking() -> str:
     return ""
 
 
-def _maker() -> ModuleType:
+def maker() -> ModuleType:
     loader = importlib.machinery.SourceFileLoader("page_make", str(ROOT / "page" / "make"))
     spec = importlib.util.spec_from_loader("page_make", loader)
     assert spec is not None
@@ -62,7 +63,7 @@ def fault() -> str:
     pairs |= {(module, "Thread") for module in tables.IMPORT_MAPPING}
     judged = [(*pair, dangers.judged(*pair)) for pair in sorted(pairs)]
     wanted = [[m, n, it.severity, it.why] if it else [m, n, "", ""] for m, n, it in judged]
-    asked = {"known": _maker().known(), "wanted": wanted}
+    asked = {"known": maker().known(), "wanted": wanted}
     with tempfile.TemporaryDirectory() as folder:
         shutil.copy(ROOT / "page" / "source" / "dangers.js", Path(folder, "dangers.mjs"))
         ran = subprocess.run(

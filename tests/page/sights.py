@@ -86,11 +86,13 @@ def hostile_file(stage: Stage) -> None:
     assert (stage.folder / "pwned").exists(), "the control: without a check it runs"
     stage.open(LIST)
     stage.drop("hostile.pickle", HOSTILE)
-    assert stage.text("summary") == "Refused: 1 pickle of 1", stage.text("summary")
-    assert stage.text("line") == 'no at 0: ImportOffList("os","system")', stage.text("line")
+    assert stage.text("summary").startswith("Don't load the refused files"), stage.text("summary")
+    line = 'refused, pickle: no at 0: ImportOffList("os","system")'
+    assert stage.text("line") == line, stage.text("line")
     assert "At byte 0 it imports os.system" in stage.text("words")
+    assert "Don't load it. Delete it" in stage.text("findings"), stage.text("findings")
     imports = stage.text("imports")
-    assert "os.system" in imports and "Danger. It runs a command." in imports, imports
+    assert "os.system" in imports and "dangerous: It runs a command." in imports, imports
     stage.listed()
     marked = stage.browser.run("document.querySelector('#listing .here').textContent")
     assert marked == '    0: 63 GLOBAL "os" "system"', marked
@@ -102,12 +104,15 @@ def honest_file(stage: Stage) -> None:
     """A file whose imports are listed, after one was put into the list."""
     stage.open()
     stage.choose("honest.pickle", honest())
-    assert stage.text("line").startswith("no at "), stage.text("line")
-    stage.browser.run("document.querySelector('#imports button').click()")
-    stage.browser.wait("document.getElementById('line').textContent.startsWith('yes')")
     size = len(honest())
-    assert stage.text("line") == f"yes: {size} bytes, 1 imports", stage.text("line")
-    assert stage.text("summary") == "The list permits it"
+    line = f"unjudged, pickle: {size} bytes, 1 names"
+    assert stage.text("line") == line, stage.text("line")
+    assert stage.text("caution") == "1 unjudged.", stage.text("caution")
+    stage.browser.run("document.querySelector('#imports button').click()")
+    stage.browser.wait("document.getElementById('line').textContent.startsWith('accepted')")
+    line = f"accepted, pickle: yes: {size} bytes, 1 imports"
+    assert stage.text("line") == line, stage.text("line")
+    assert stage.text("summary") == "A guard with this list loads these files"
     address = stage.browser.run("decodeURIComponent(location.hash)")
     assert 'datetime = ["datetime"]' in address, address
     assert stage.browser.run("document.activeElement.id") == "summary"
@@ -144,8 +149,10 @@ def containers(stage: Stage) -> None:
         archive.writestr("a/plain.pkl", honest())
     stage.open(LIST)
     stage.choose("model.pt", packed.getvalue())
-    assert stage.text("summary") == "Refused: 1 pickle of 2", stage.text("summary")
-    assert "In 1 part the checker finds no pickle" in stage.text("caution"), stage.text("caution")
+    assert stage.text("summary").startswith("Don't load the refused files"), stage.text("summary")
+    counts = "1 refused, 1 accepted, 1 no pickle."
+    assert stage.text("caution") == counts, stage.text("caution")
+    assert "refused, zip member: no at" in stage.text("line"), stage.text("line")
     with tarfile.open(fileobj=other, mode="w") as tar:
         info = tarfile.TarInfo("inner.pickle.gz")
         info.size = len(gzip.compress(HOSTILE, mtime=0))
@@ -163,17 +170,35 @@ def containers(stage: Stage) -> None:
         stage.choose(name, data)
         told = stage.text("summary") + stage.browser.run(
             "[...document.querySelectorAll('#parts button')].map((it) => (it.click(),"
-            " document.getElementById('words').innerText)).join(' ')"
+            " document.getElementById('line').innerText)).join(' ')"
         )
-        assert words in told, (name, told)
-        assert "permits" not in told, (name, told)
+        assert words in told and "Don't load" in told, (name, told)
+
+
+def between_arrays(stage: Stage) -> None:
+    """A command behind an array of joblib's, beside a file without it."""
+    wrapper = b"cjoblib.numpy_pickle\nNumpyArrayWrapper\n)\x81}(\x8c\x08subclasscnumpy\nndarray\n"
+    wrapper += b"\x8c\x05shapeK\x02\x85\x8c\x05order\x8c\x01C\x8c\x05dtypecnumpy\ndtype\n"
+    wrapper += b"\x8c\x02u1\x89\x88\x87R(K\x03\x8c\x01|NNNK\x01K\x01K\0tb"
+    wrapper += b"\x8c\nallow_mmap\x88ub\xff\xff"
+    files = {"honest": b"\x80\x04]" + wrapper + b"a.", "hostile": b"\x80\x04]" + wrapper + b"a"}
+    files["hostile"] += HOSTILE[:-1] + b"0."
+    found = {}
+    for name, data in files.items():
+        stage.open()
+        stage.choose(f"{name}.joblib", data)
+        found[name] = stage.text("line"), stage.text("summary"), stage.text("imports")
+    for name, word in (("honest", "unjudged"), ("hostile", "dangerous")):
+        assert found[name][0].startswith(f"{word}, joblib: "), found
+    assert found["hostile"][1].startswith("Don't load the dangerous files"), found
+    assert "os.system" in found["hostile"][2] and "Harmless" not in str(found), found
 
 
 def rows(stage: Stage) -> None:
     """Pickles behind one another, and bytes behind them."""
     stage.open(LIST)
     stage.choose("row.pickle", honest() + HOSTILE)
-    assert stage.text("summary") == "Refused: 1 pickle of 2", stage.text("summary")
+    assert stage.text("caution") == "1 refused, 1 accepted.", stage.text("caution")
     assert f"pickle 2, from byte {len(honest())}" in stage.text("path"), stage.text("path")
 
 
@@ -233,7 +258,7 @@ def usable_meanwhile(stage: Stage) -> None:
     )
     stage.browser.choose([path])
     stage.answered()
-    assert stage.text("line").startswith("yes: 20000002 bytes"), stage.text("line")
+    assert "yes: 20000002 bytes" in stage.text("line"), stage.text("line")
     assert stage.browser.run("gap") < 1000, stage.browser.run("gap")
 
 
@@ -281,7 +306,7 @@ def _name(node: Dict[str, Any]) -> str:
 ALL: Dict[str, Callable[[Stage], None]] = {
     it.__name__: it
     for it in (
-        hostile_file, honest_file, filtered, containers, rows, hostile_names, no_requests,
-        long_listing, usable_meanwhile, windows, named,
+        hostile_file, honest_file, filtered, containers, between_arrays, rows, hostile_names,
+        no_requests, long_listing, usable_meanwhile, windows, named,
     )
 }

@@ -19,7 +19,7 @@ from .choosing import Choice
 from .dangers import import_findings, list_findings
 from .files import Files, is_url
 from .judging import Question
-from .lists import add_commands, list_of
+from .lists import add_commands, list_of, union_of
 from .report import Finding, Report, shown
 from .scan import Means, scan
 from .severity import DANGER, NOTE, REFUSED, WARNING
@@ -40,7 +40,7 @@ _STATUSES = """exit status:
          note     it imports a name that nobody has judged
          never    nothing counts
   2    something couldn't be read to its end, is packed in an unknown way, or readers differ about
-       it; or the command line, the list or the output is wrong
+       it; a folder was left unread; or the command line, the list or the output is wrong
   130  interrupted
 """
 
@@ -48,6 +48,7 @@ _STATUSES = """exit status:
 _PATH = "a file, a folder, or - for standard input"
 _URL = f"{_PATH}; or a URL of either that fsspec opens"
 _LIST = "the list file of permitted names"
+_LISTS = f"{_LIST}, or @NAME,@NAME for shipped lists; of several the union counts"
 _GUARDED = "what is undecided doesn't count: a guard with this list loads the files"
 
 
@@ -108,8 +109,8 @@ def _add_scan(commands: "argparse._SubParsersAction[argparse.ArgumentParser]") -
         formatter_class=argparse.RawDescriptionHelpFormatter,
     )
     it.add_argument("paths", nargs="+", metavar="PATH", help=_URL)
-    it.add_argument("--allow", metavar="LIST", help=_LIST)
-    it.add_argument("--recursive", action="store_true", help="descend into subfolders")
+    it.add_argument("--allow", action="append", metavar="LIST", help=_LISTS)
+    _add_descending(it)
     for option, what in (("--include", "scan only"), ("--exclude", "leave out")):
         it.add_argument(
             option,
@@ -151,7 +152,7 @@ def _add_check(commands: "argparse._SubParsersAction[argparse.ArgumentParser]") 
         "check", help="says of files whether a guard with a list loads them"
     )
     it.add_argument("paths", nargs="+", metavar="FILE", help="a file, or - for standard input")
-    it.add_argument("--allow", metavar="LIST", required=True, help=_LIST)
+    it.add_argument("--allow", action="append", metavar="LIST", required=True, help=_LISTS)
     it.add_argument("--guarded", action="store_true", help=_GUARDED)
     it.set_defaults(run=_check)
 
@@ -172,8 +173,18 @@ def _add_learn(commands: "argparse._SubParsersAction[argparse.ArgumentParser]") 
         metavar="FILE",
         help="also take the names that the guard's `learning` has written",
     )
-    it.add_argument("--recursive", action="store_true", help="descend into subfolders")
+    _add_descending(it)
     it.set_defaults(run=_learn)
+
+
+def _add_descending(it: argparse.ArgumentParser) -> None:
+    it.add_argument(
+        "--no-recursive",
+        action="store_false",
+        dest="recursive",
+        help="leave out subfolders, which causes status 2 if there are any",
+    )
+    it.add_argument("--recursive", action="store_true", default=True, help=argparse.SUPPRESS)
 
 
 def _add_lint(commands: "argparse._SubParsersAction[argparse.ArgumentParser]") -> None:
@@ -205,11 +216,11 @@ def _files_of(asked: argparse.Namespace) -> Iterator[Files]:
     choice = Choice(getattr(asked, "include", ()), getattr(asked, "exclude", ()))
     is_measured = any(getattr(asked, it, None) for it in ("cluster", "resume"))
     is_measured |= getattr(asked, "jobs", 1) > 1
-    files = Files(asked.paths, getattr(asked, "recursive", False), choice, is_measured)
+    files = Files(asked.paths, getattr(asked, "recursive", True), choice, is_measured)
     yield files
     if files.left_out:
         count = f"{files.left_out} folder{'s' * (files.left_out > 1)}"
-        print(f"storklocker: {count} left out: scan descends with --recursive", file=sys.stderr)
+        print(f"storklocker: {count} left unread by --no-recursive", file=sys.stderr)
     if choice.left_out:
         print(
             f"storklocker: {choice.left_out} files and folders left out by --include and --exclude",
@@ -218,7 +229,7 @@ def _files_of(asked: argparse.Namespace) -> Iterator[Files]:
 
 
 def _scan(asked: argparse.Namespace) -> int:
-    allow = None if asked.allow is None else list_of(asked.allow)
+    allow = None if asked.allow is None else union_of(asked.allow)
     asked.fail_on = asked.fail_on or (DANGER if allow is None else REFUSED)
     told = Summary(asked.fail_on, asked.guarded)
     question = Question(allow, with_sha256=asked.format == "json")
@@ -226,6 +237,7 @@ def _scan(asked: argparse.Namespace) -> int:
         means = Means(asked.jobs, asked.cluster or "", asked.resume or "")
         for line in _lines(asked, told.heard(scan(files, question, means, sys.stderr))):
             print(line)
+    told.is_unread |= files.left_out > 0
     if sys.stderr.isatty():
         print(shown(told.line(_more(asked)), 2000), file=sys.stderr)
     return _status(told)
@@ -256,10 +268,9 @@ def _more(asked: argparse.Namespace) -> str:
     """The command that writes the page with everything that was found."""
     words = ["storklocker", "scan", *asked.paths]
     for option in ("allow", "include", "exclude"):
-        given = getattr(asked, option)
-        for value in [given] if isinstance(given, str) else given or ():
+        for value in getattr(asked, option) or ():
             words += (f"--{option}", value)
-    words += ["--recursive"] if asked.recursive else []
+    words += [] if asked.recursive else ["--no-recursive"]
     return " ".join(map(shlex.quote, [*words, "--format", "html"])) + " >report.html"
 
 
@@ -271,12 +282,12 @@ def _status(told: Summary) -> int:
 
 
 def _check(asked: argparse.Namespace) -> int:
-    told, allow, status = Summary(REFUSED, asked.guarded), list_of(asked.allow), YES
+    told, allow, status = Summary(REFUSED, asked.guarded), union_of(asked.allow), YES
     for path in asked.paths:
         is_pickle = False
         with _files_of(argparse.Namespace(paths=[path])) as files:
             for report in told.heard(scan(files, Question(allow))):
-                is_named = len(asked.paths) > 1 or report.path != report.file
+                is_named = len(asked.paths) > 1 or report.path not in (path, "standard input")
                 front = f"{shown(report.path)}: " if is_named else ""
                 print(front + (shown(report.why, 1000) or report.status))
                 is_pickle |= report.status is not Word.NO_PICKLE
@@ -317,7 +328,8 @@ def _learn(asked: argparse.Namespace) -> int:
         print(f"# {line}")
     if GETATTR in learned.pairs:
         print(f"# {_GETATTR}")
-    return FAULT if learned.left_out else YES
+    is_whole = not learned.left_out and not (asked.paths and files.left_out)
+    return YES if is_whole else FAULT
 
 
 GETATTR = ("builtins", "getattr")

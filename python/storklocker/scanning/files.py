@@ -36,8 +36,8 @@ class File(NamedTuple):
 
 
 class Files:
-    """The files among the paths, and those in the folders that are chosen; with `recursive`, in
-    subfolders too. `is_measured` gives their sizes and stamps, which take a call for each.
+    """The files among the paths, and those in the folders that are chosen; unless not `recursive`,
+    in subfolders too. `is_measured` gives their sizes and stamps, which take a call for each.
 
     left_out: the number of subfolders skipped without `recursive`.
     """
@@ -45,7 +45,7 @@ class Files:
     def __init__(
         self,
         paths: Iterable[str],
-        recursive: bool = False,
+        recursive: bool = True,
         choice: Optional[Choice] = None,
         is_measured: bool = True,
     ) -> None:
@@ -151,7 +151,7 @@ def _measured(path: str) -> File:
 
 
 def _stamp(found: os.stat_result) -> str:
-    return f"{found.st_size} {found.st_mtime_ns}"
+    return f"{found.st_size} {found.st_mtime_ns} {found.st_ctime_ns} {found.st_ino}"
 
 
 def _stamp_beside(path: str) -> str:

@@ -132,6 +132,8 @@ _UNKNOWN = Answer(None)
 class Named(type):
     """A listed name that has no substitute."""
 
+    pair: Pair
+
     def __call__(cls, *given: Any, **named: Any) -> Any:
         made: Any = object.__new__(cls)  # type: ignore[arg-type]
         made.is_bare = False
@@ -149,6 +151,8 @@ class _Watched(Substitute):
 
     def __call__(self, *given: Any) -> Any:
         reader = self._reader
+        if self.name == "copyreg._reconstructor" and _is_wrapper(given[:1]):
+            return given[0].__new__(given[0])  # as old protocols make it
         if not reader.knows(given):
             return reader.put_off(f"{self.name} is given what only a load makes")
         made = self._call(*given)
@@ -267,6 +271,11 @@ class _PutOff(Substitute):
 
     def __call__(self, *given: Any) -> Any:
         return self._reader.put_off(f"{self.name} judges what it is given when it is loaded")
+
+
+def _is_wrapper(given: Tuple[Any, ...]) -> bool:
+    """Whether this is joblib's wrapper of arrays, for which a guard has a class of its own."""
+    return any(isinstance(it, Named) and it.pair in WRAPPERS for it in given)
 
 
 def _parts_of(held: Any) -> List[Any]:

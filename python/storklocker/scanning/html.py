@@ -10,7 +10,7 @@ from typing import Dict, Iterable, Iterator, List, Set, Tuple
 from .page import SCRIPT, STYLE
 from .report import Finding, Report, dotted, shown
 from .severity import KINDS, SEVERITIES
-from .words import HEADLINES, Word, worst_of
+from .words import HEADLINES, Word, headline_of
 
 FOUND, OTHERS = 5000, 2000
 """The most rows of files and members with findings, and of others."""
@@ -24,13 +24,14 @@ def page(reports: Iterable[Report], version: str) -> Iterator[str]:
     found = _Found()
     for report in reports:
         found.add(report)
-    worst = worst_of(found.severities)
+    headline = headline_of(found.severities, found.counts)
     yield "<!DOCTYPE html><html lang=en><meta charset=utf-8><title>Storklocker</title>"
     yield "<meta name=viewport content='width=device-width,initial-scale=1'>"
     yield "<meta http-equiv=Content-Security-Policy"
     yield " content=\"default-src 'none'; style-src 'unsafe-inline'; script-src 'unsafe-inline'\">"
-    yield f"<style>{STYLE}</style><main><header class='{worst}'>"
-    yield f"<h1>{HEADLINES[worst]}</h1><p>{found.line()} Storklocker {escape(version)}.</p></header>"
+    yield f"<style>{STYLE}</style><main><header class='{headline}'>"
+    yield f"<h1>{HEADLINES[headline]}</h1>"
+    yield f"<p>{found.line()} Storklocker {escape(version)}.</p></header>"
     yield from _advice(found.kinds)
     yield from _buttons(found)
     yield "<table><thead><tr><th>Found<th>File<th>Type<th class=number>Bytes<th>What</thead><tbody>"

@@ -248,7 +248,7 @@ def _refusal_line(piece: Piece, row: Row, allow: Optional[AllowList]) -> str:
 def _raw(report: Report, why: str, findings: List[Finding]) -> Report:
     """The report on a file with arrays that could not be left out."""
     findings.append(Finding("raw-arrays", why))
-    status = Word.REFUSED if report.missing else Word.UNREADABLE
+    status = Word.REFUSED if report.status is Word.REFUSED else Word.UNREADABLE
     why = f"{why}; what was read: {report.why}"
     return report._replace(kind="joblib", status=status, why=why)
 

@@ -3,11 +3,14 @@
 from __future__ import annotations
 
 import argparse
+import functools
+import operator
 import re
 import sys
 from pathlib import Path
-from typing import Any, Dict, Iterator, List, Tuple
+from typing import Any, Dict, Iterable, Iterator, List, Tuple
 
+from .. import lists as shipped
 from .._answers import ListFault
 from .._limits import COSTS, costs_said
 from .._lists import AllowList
@@ -54,6 +57,26 @@ def list_of(path: str) -> AllowList:
         raise OSError(f"{path}: {error}") from None
 
 
+def union_of(given: Iterable[str]) -> AllowList:
+    """The union of these lists: each is a file, or names of shipped lists, such as `@numpy`."""
+    found: List[AllowList] = []
+    for word in given:
+        found += map(_shipped, word.split(",")) if word.startswith("@") else [list_of(word)]
+    try:
+        return functools.reduce(operator.or_, found)
+    except ValueError as error:  # of two substitutes for a name
+        raise OSError(f"{', '.join(given)}: {error}") from None
+
+
+def _shipped(word: str) -> AllowList:
+    name = word.strip().lstrip("@").replace("-", "_").upper()
+    if name not in shipped.__all__:
+        known = ", ".join(f"@{it.lower()}" for it in shipped.__all__)
+        raise OSError(f"{word} is no shipped list: there are {known}")
+    found: AllowList = getattr(shipped, name)
+    return found
+
+
 def _diff(asked: argparse.Namespace) -> int:
     lines = list(differences(list_of(asked.old), list_of(asked.new)))
     for line in lines:
@@ -71,7 +94,7 @@ def differences(old: AllowList, new: AllowList) -> Iterator[str]:
             yield f"+ {_shown(pair)}  {danger_of(pair)}".rstrip()
     yield from _rows("limit", _limits_of(old), _limits_of(new))
     yield from _rows("rule", _rules_of(old), _rules_of(new))
-    yield from _rows("substitute", _said_by(meant_in(old)), _said_by(meant_in(new)))
+    yield from _rows("substitute", said_by(meant_in(old)), said_by(meant_in(new)))
 
 
 def _shown(pair: Pair) -> str:
@@ -96,7 +119,7 @@ def _rules_of(allow: AllowList) -> Dict[str, str]:
     return {} if allow.build is None else {"build": allow.build}
 
 
-def _said_by(meant: Meant) -> Dict[str, str]:
+def said_by(meant: Meant) -> Dict[str, str]:
     from .._sections import said_of
 
     said = {shown(dotted(pair)): "dangerous" for pair in meant.dangerous}

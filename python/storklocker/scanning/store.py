@@ -10,8 +10,10 @@ import sqlite3
 from typing import Iterable, Iterator, List
 
 from .. import __version__
+from .._meant import of as meant_in
 from .files import File
 from .judging import Question
+from .lists import said_by
 from .report import Report, report_of
 
 _TABLES = """
@@ -76,6 +78,9 @@ def _is_unread(report: Report) -> bool:
 def _digest(question: Question) -> str:
     """What the question is, in a few bytes."""
     allow = question.allow
-    listed = None if allow is None else [list(allow), str(allow.limits), allow.build]
+    listed = None
+    if allow is not None:
+        said = sorted(said_by(meant_in(allow)).items())
+        listed = [list(allow), str(allow.limits), allow.build, said]
     text = json.dumps([__version__, listed, question.with_sha256])
     return hashlib.sha256(text.encode()).hexdigest()

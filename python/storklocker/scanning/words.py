@@ -47,14 +47,22 @@ HEADLINES: Dict[str, str] = {
     UNDECIDED: "Load the undecided files through a guard alone: the list leaves it to a load",
     WARNING: "Nothing is known to run code, but some names do more than hold data",
     NOTE: "Nothing is known to run code, but some names have not been judged",
-    "": "Nothing was found",
+    Word.UNJUDGED: "No list has judged these files: load them only if you trust their source",
+    Word.ACCEPTED: "A guard with this list loads these files",
+    Word.NO_PICKLE: "No pickle was found",
 }
-"""What to do, by the worst severity of all findings."""
+"""What to do, by the worst severity of all findings; if there is none, by the worst word."""
 
 
 def worst_of(severities: Iterable[str]) -> str:
     """The worst of these severities; empty if there is none."""
     return min(severities, key=SEVERITIES.index, default="")
+
+
+def headline_of(severities: Iterable[str], words: Iterable[Word]) -> str:
+    """Which of `HEADLINES` stands above a report with such findings and files of these words."""
+    order = list(Word)
+    return worst_of(severities) or min((*words, Word.NO_PICKLE), key=order.index).value
 
 
 def word_of(status: Word, severities: Iterable[str]) -> Word:

@@ -1,0 +1,54 @@
+// What the page says of files: verdicts.mjs FOLDER MODULE.wasm FILES, with the scripts of the page
+// in FOLDER, and on standard input what the page has of names and words, and lists. Prints JSON:
+// under each list for each file its parts, each with path, word, kind, why and kinds of findings.
+
+import { readFileSync, readdirSync } from "node:fs";
+import { join } from "node:path";
+import { pathToFileURL } from "node:url";
+
+const [folder, module, files] = process.argv.slice(2);
+const { known, said, lists } = JSON.parse(readFileSync(0, "utf8"));
+let told = [];
+let ended = null;
+
+globalThis.self = globalThis;
+globalThis.postMessage = (message) => {
+  told.push(message);
+  if (["ready", "done", "failed"].includes(message.kind)) ended();
+};
+const from = (name) => import(pathToFileURL(join(folder, name)));
+await from("worker.js");
+const { Judge } = await from("judging.js");
+const { Known } = await from("dangers.js");
+const judge = new Judge(said, new Known(known));
+
+function ask(data) {
+  told = [];
+  return new Promise((resolve) => {
+    ended = resolve;
+    self.onmessage({ data });
+  });
+}
+
+function parted(pairs) {
+  if (told.at(-1).kind !== "done") return [{ path: "", word: "failed", kind: told.at(-1).why }];
+  const parts = told.filter((it) => it.kind === "part");
+  return parts.map(({ part }) => judge.judged(part, pairs)).map((part) => {
+    const { path, word, kind, why, findings } = part;
+    const line = judge.headline([part]);
+    return { path, word, kind, why, line, findings: findings.map((it) => it.kind) };
+  });
+}
+
+const found = {};
+for (const [name, source] of Object.entries(lists)) {
+  await ask({ kind: "begin", code: readFileSync(module), source });
+  const { pairs } = told.find((it) => it.kind === "list");
+  found[name] = {};
+  for (const file of readdirSync(files).sort()) {
+    await ask({ kind: "files", files: [new File([readFileSync(join(files, file))], file)] });
+    found[name][file] = parted(pairs);
+  }
+}
+console.log(JSON.stringify({ found, words: judge.words }));
+process.exit(0);

@@ -1,0 +1,182 @@
+"""What the page says of files, beside what `storklocker scan` says: the same words and kinds."""
+
+from __future__ import annotations
+
+import bz2
+import gzip
+import importlib
+import importlib.util
+import io
+import itertools
+import json
+import os
+import pickle
+import shutil
+import subprocess
+import tarfile
+import tempfile
+import zipfile
+import zlib
+from pathlib import Path
+from typing import Any, Dict, Iterable, Iterator, List, Set
+
+from sentences import maker
+
+HERE = Path(__file__).resolve().parent
+ROOT = HERE.parent.parent
+HOSTILE = b"cos\nsystem\n(S'touch pwned'\ntR."
+HONEST = pickle.dumps([1, {"a": (2, 3.5)}], 4)
+BUILD = b"\x80\x04ccollections\nOrderedDict\n}\x8c\x01aNsb."
+KEYS = b"})" + b"2\x86" * 30 + b"Ns."
+NUMPY = 'numpy = ["dtype", "ndarray"]\n"numpy.core.multiarray" = ["_reconstruct", "scalar"]\n'
+LISTS = {
+    "": "version = 1\n\n[imports]\n",
+    "some": 'version = 1\n[imports]\ncollections = ["OrderedDict"]\n"shop.orders" = ["Order"]\n',
+    "numpy": f'version = 1\n[imports]\n"joblib.numpy_pickle" = ["NumpyArrayWrapper"]\n{NUMPY}'
+    '"numpy._core.multiarray" = ["_reconstruct", "scalar"]\n',
+}
+PLACES = ("row of pickles", "pickle")
+LESS = {"packed.bz2": "unreadable", "rows.npy": "unreadable"}
+"""What the page can't unpack, or doesn't read to its end."""
+
+
+class Evil:
+    """Runs a command when it is loaded."""
+
+    def __reduce__(self) -> Any:
+        return os.system, ("touch pwned",)
+
+
+def _ends_the_process() -> bytes:
+    def dtype(code: bytes) -> bytes:
+        return b"cnumpy\ndtype\n\x8c%c%s\x89\x88\x87R" % (len(code), code)
+
+    state = b"(K\x03\x8c\x01|N\x8c\x01a\x85}\x8c\x01a" + dtype(b"O8")
+    state += b"J\0\0\0\0\x86sK\x08K\x01K\x01tb"
+    made = b"cnumpy.core.multiarray\n_reconstruct\ncnumpy\nndarray\nK\x00\x85C\x01b\x87R"
+    made += b"(K\x01K\x03\x85" + dtype(b"V8") + state
+    return b"\x80\x04" + made + b"\x89C\x18" + b"A" * 24 + b"tb."
+
+
+def _zipped(*members: Any) -> bytes:
+    made = io.BytesIO()
+    with zipfile.ZipFile(made, "w", zipfile.ZIP_DEFLATED) as archive:
+        for name, data in members:
+            archive.writestr(name, data)
+    return made.getvalue()
+
+
+def _tarred(name: str, data: bytes) -> bytes:
+    made = io.BytesIO()
+    with tarfile.open(fileobj=made, mode="w") as archive:
+        info = tarfile.TarInfo(name)
+        info.size = len(data)
+        archive.addfile(info, io.BytesIO(data))
+    return made.getvalue()
+
+
+def _files() -> Dict[str, bytes]:
+    torch = b"\x80\x02\x8a\nl\xfc\x9cF\xf9 j\xa8P\x19." + pickle.dumps(1001, 2)
+    legacy = torch + pickle.dumps({"little_endian": True}, 2)
+    return {
+        "hostile.pickle": HOSTILE, "honest.pickle": HONEST, "row.pickle": HONEST + HOSTILE,
+        "rows.pickle": HONEST * 3, "text.txt": b"A text.\n", "cut.pickle": HONEST[:-3],
+        "cut hostile.pickle": b"\x80\x04" + HOSTILE[:-1], "keys.pickle": KEYS,
+        "deep.pickle": b"})" + b"\x85" * 5_000 + b"Ns.",
+        "few.pickle": b"})" + b"2\x86" * 9 + b"Ns.",
+        "build.pickle": BUILD, "unknown.pickle": b"cshop.orders\nOrder\n.",
+        "partial.pickle": b"cfunctools\npartial\n.", "ends.pickle": _ends_the_process(),
+        "main.pickle": b"cshop.__main__\nOrder\n.",
+        "inner.pickle": b"\x80\x04\x8c\x01a\x8c\x0bb.__class__\x93.",
+        "extension.pickle": b"\x80\x02\x82\x01.", "hidden.pickle": b"\x80\x04NN\x93.",
+        "packed.gz": gzip.compress(HOSTILE, mtime=0), "packed.zlib": zlib.compress(HONEST),
+        "packed.bz2": bz2.compress(HOSTILE), "a.tar": _tarred("a.pickle", b"\x80\x02" + HOSTILE),
+        "model.zip": _zipped(("m/data.pkl", HOSTILE), ("m/version", b"3\n")),
+        "calm.zip": _zipped(("m/data.pkl", HONEST), ("m/data/0", bytes(64))),
+        "legacy.pt": legacy + pickle.dumps({"w": 1}, 2) + pickle.dumps(["0"], 2) + bytes(24),
+        "hostile legacy.pt": legacy + b"\x80\x02" + HOSTILE + pickle.dumps(["0"], 2) + bytes(24),
+    }
+
+
+def _of_libraries() -> Iterator[Any]:
+    """Files of NumPy and joblib, where they are installed."""
+    if not all(map(importlib.util.find_spec, ("numpy", "joblib"))):
+        return
+    numpy, joblib = map(importlib.import_module, ("numpy", "joblib"))
+    rows = numpy.zeros(3, [("a", "i4"), ("b", "U5", (2,))])
+    for name, value in (("numbers", numpy.arange(4.0)), ("rows", rows),
+                        ("texts", numpy.array(["a"])), ("objects", numpy.array([1, "a"], object)),
+                        ("hostile", numpy.array([Evil()], object))):
+        out = io.BytesIO()
+        numpy.save(out, value)
+        yield f"{name}.npy", out.getvalue()
+        yield f"{name}.array.pickle", pickle.dumps(value, 4)
+        for packing, packed in (("", 0), (".gz", ("gzip", 3)), (".z", ("zlib", 3))):
+            out = io.BytesIO()
+            joblib.dump({"array": value, "behind": numpy.ones((2, 3), order="F")}, out, packed)
+            yield f"{name}.joblib{packing}", out.getvalue()
+    for name, value in (("behind", Evil()), ("honest", [1, 2])):
+        out = io.BytesIO()
+        joblib.dump({"array": numpy.arange(9), name: value}, out)
+        yield f"{name}.joblib", out.getvalue()
+        yield f"{name} cut.joblib", out.getvalue()[:-9]
+        yield f"{name} longer.joblib", out.getvalue() + b"N."
+
+
+def _scanned(name: str, data: bytes, listed: str) -> List[Dict[str, Any]]:
+    from storklocker import AllowList
+    from storklocker.scanning.judging import Question, reports_of
+
+    allow = AllowList.from_text(listed) or None  # (an empty list of the page is none)
+    reports = reports_of(name, io.BytesIO(data), Question(allow))
+    # (a file that begins otherwise may be one of cachelib's too, which the page doesn't know)
+    return [it.as_dict() for it in reports if it.kind != "cachelib"]
+
+
+def _kinds(parts: Iterable[Dict[str, Any]], word: str) -> Set[str]:
+    """The kinds of what holds pickles."""
+    return {PLACES[1] if it["kind"] in PLACES else it["kind"] for it in parts
+            if it[word] not in ("no pickle", "unreadable")}
+
+
+def fault(module: Path) -> str:
+    """Where they differ, or nothing."""
+    files = {**_files(), **dict(_of_libraries())}
+    found, words = _page(module, files)
+    return "".join(itertools.islice(_differing(files, found, words), 9))
+
+
+def _page(module: Path, files: Dict[str, bytes]) -> Any:
+    made = maker()
+    asked = {"known": made.known(), "said": made.said(), "lists": LISTS}
+    with tempfile.TemporaryDirectory() as held:
+        scripts, folder = Path(held, "scripts"), Path(held, "files")
+        shutil.copytree(ROOT / "page" / "source", scripts)
+        (scripts / "package.json").write_text(json.dumps({"type": "module"}))
+        folder.mkdir()
+        for name, data in files.items():
+            (folder / name).write_bytes(data)
+        inner = Path(__file__).with_suffix(".mjs")
+        ran = subprocess.run(
+            ["node", *map(str, (inner, scripts, module, folder))],
+            input=json.dumps(asked), capture_output=True, text=True, check=False,
+        )
+    if ran.returncode:
+        raise AssertionError(ran.stderr)
+    told = json.loads(ran.stdout)
+    return told["found"], told["words"]
+
+
+def _differing(files: Dict[str, bytes], found: Any, words: List[str]) -> Iterator[str]:
+    for listed, name in itertools.product(LISTS, sorted(files)):
+        parts, reports = found[listed][name], _scanned(name, files[name], LISTS[listed])
+        page = min((it["word"] for it in parts), key=words.index)
+        scan = min((it["status"] for it in reports), key=words.index)
+        if listed == "numpy" and page == "undecided" and scan in ("accepted", "refused"):
+            page = scan  # (scan may ask NumPy)
+        if name in LESS:
+            is_right = page == LESS[name]
+        else:
+            is_right = page == scan and _kinds(parts, "word") == _kinds(reports, "status")
+        if not is_right:
+            yield f"{name} under {listed!r}: {parts}, scan: {reports}\n"
