@@ -228,22 +228,32 @@ class AllowList(_Pairs):
         return self._of(self._pairs, self._limits, self._build, settings)
 
     def _for_loading(self) -> "AllowList":
-        """The pairs that this Python can import, without those of modules that only Python 2 has.
+        """The pairs that this Python can import: those of modules that only Python 2 has, under the
+        names that Python 3 has given them.
         """
         if self._loaded is None:
             lost = [pair for pair in self if _names.is_lost(pair)]
-            self._loaded = _AS_IT_IS if not lost else self._without(lost)
+            self._loaded = _AS_IT_IS if not lost else self._renaming(lost)
         return self if self._loaded is _AS_IT_IS else self._loaded
 
     def _for_old_names(self) -> "AllowList":
         """The pairs that CPython maps to a pair of this list, with `fix_imports`."""
         if self._fixed is None:
-            pairs = (bytes_of_pair(old) for pair in self for old in _names.old_names(pair))
-            self._fixed = self._of(pairs, self._limits, self._build)
-        return self._fixed
+            own = self._for_loading()
+            pairs = [bytes_of_pair(old) for pair in own for old in _names.old_names(pair)]
+            is_same = sorted(set(pairs)) == sorted(set(self._pairs))
+            self._fixed = _AS_IT_IS if is_same else self._of(pairs, self._limits, self._build)
+        return self if self._fixed is _AS_IT_IS else self._fixed
 
-    def _without(self, lost: "List[Pair]") -> "AllowList":
+    def _listed_for(self, data: bytes, fix_imports: bool = True) -> "AllowList":
+        """The list that applies to the pickle that begins the bytes."""
+        if fix_imports and _names.are_old(data):
+            return self._for_old_names()
+        return self._for_loading() if fix_imports else self
+
+    def _renaming(self, lost: "List[Pair]") -> "AllowList":
         left = set(self._pairs) - {bytes_of_pair(pair) for pair in lost}
+        left.update(bytes_of_pair(_names.renamed(pair)) for pair in lost)
         return self._of(left, self._limits, self._build)
 
 
@@ -285,9 +295,10 @@ def has_substitutes(allow: AllowList) -> bool:
     """Whether a list has a name that is loaded through a substitute, which any of NumPy may be."""
     from bisect import bisect_left
 
-    pairs = allow._pairs
     if allow._meant is not None and allow._meant.substitutes:
         return True
+    allow = allow._for_loading()
+    pairs = allow._pairs
     if any(pair in allow for pair in SUBSTITUTED):
         return True
     for front in (b"numpy", b"numpy."):
