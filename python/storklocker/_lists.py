@@ -187,6 +187,10 @@ class AllowList(_Pairs):
         place = bisect_left(self._pairs, names)
         return place < len(self._pairs) and self._pairs[place] == names
 
+    def _permits(self, names: "Names") -> bool:
+        """Whether a guard imports a pair of encoded names, as Python 3 has them."""
+        return self._for_loading()._has(names)
+
     def __or__(self, other: object) -> "AllowList":
         """The union of the pairs, under the limits of both."""
         if not isinstance(other, AllowList):

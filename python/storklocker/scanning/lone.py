@@ -13,7 +13,7 @@ from .costs import with_costs
 from .dangers import import_findings
 from .joblib_files import WRAPPER_NAMES
 from .marks import is_plain
-from .names import NOTHING, limits_under, pair_of
+from .names import NOTHING, limits_under, named_today, pair_of
 from .readings import all_asked
 from .report import LONGEST, Finding, Pair, sorted_findings
 from .rows import CLAIM, limits_costs, may_be_listed
@@ -56,14 +56,14 @@ class Lone:
         verdict, wanted, room = imports(data, NOTHING, self._settings, _ROOM)
         if verdict.taken != len(data) or wanted > _ROOM:
             return None
-        return self._known(room[:wanted])
+        return self._known(room[:wanted], data[:2])
 
-    def _judged(self, room: bytes) -> Optional[Told]:
-        """What is to be told of these encoded imports; None if one isn't permitted, or is an array
-        of joblib's.
+    def _judged(self, room: bytes, front: bytes) -> Optional[Told]:
+        """What is to be told of these encoded imports of a pickle that begins so; None if one isn't
+        permitted, or is an array of joblib's.
         """
-        names = tuple(dict.fromkeys(records(room)))
-        is_permitted = may_be_listed if self.allow is None else self.allow._has
+        names = tuple(dict.fromkeys(named_today(records(room), front)))
+        is_permitted = may_be_listed if self.allow is None else self.allow._permits
         if not all(map(is_permitted, names)) or WRAPPER_NAMES.intersection(names):
             return None
         pairs = tuple(map(pair_of, names))

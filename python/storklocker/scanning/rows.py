@@ -13,7 +13,8 @@ from .._lists import AllowList, settings_of
 from .._reasons import Reason
 from .budget import Budget, TooMuch
 from .costs import COUNTED, KINDS, LIMITS, Exceeded, exceeded, exceeded_in_row, with_costs
-from .names import NOTHING, WIDEST, Imports, imports_within, limits_under, refused_with
+from .names import NOTHING, WIDEST, Imports, imports_within, limits_under
+from .names import named_today, refused_with
 from .reaching import READERS_STOP, is_module, reached
 from .readings import Piece, is_text
 
@@ -109,7 +110,7 @@ class Row:
         if not verdict:
             names = dict.fromkeys((*names, *self._refused(verdict, found)))
         self.is_complete &= found.is_complete
-        is_listed = found.is_complete and all(map(self._listed._has, names))
+        is_listed = found.is_complete and all(map(self._listed._permits, names))
         is_listed = is_listed and is_within and not self._is_limited
         if not (verdict and is_listed) and self.refusal is None:
             self._judge(data, verdict)
@@ -128,7 +129,7 @@ class Row:
         taken, names = found.verdict.taken, found.names
         if taken >= _AT_ONCE or not found.is_complete or self._is_limited:
             return False
-        if not all(map(may_be_listed if self._allow is None else self._allow._has, names)):
+        if not all(map(may_be_listed if self._allow is None else self._allow._permits, names)):
             return False
         self.names, self.pickles, self.taken = dict(names), 1, taken
         self._uncosted = (taken, 1)
@@ -215,7 +216,8 @@ class Row:
         if beyond.pair is None:
             return names
         module, name = ((text or "").encode() for text in beyond.pair)
-        return (*names, (module, name))
+        front = self._source.read(self.taken, 2)
+        return (*names, *named_today([(module, name)], front))
 
     def forget_impossible(self) -> None:
         """Leaves out the names from the first on that no module has: a reader stops there."""
