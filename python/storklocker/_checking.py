@@ -9,7 +9,7 @@ from ._storklocker import row_verdict, verdict, walked
 
 TYPE_CHECKING = False
 if TYPE_CHECKING:
-    from typing import List, Optional
+    from typing import Iterator, List, Optional, Tuple
 
     from ._answers import RowVerdict, Verdict
     from ._limits import Limits
@@ -54,18 +54,15 @@ def _listed_for(data: bytes, allow: AllowList, fix_imports: bool) -> AllowList:
     return allow
 
 
-def _lists_for(data: bytes, allow: AllowList, fix_imports: bool) -> List[AllowList]:
-    """The lists that apply to the pickles of a row: one, or that for names of each Python."""
-    if not (fix_imports and isinstance(allow, AllowList) and type(data) is bytes):
-        return [allow]
-    lists = [allow._for_old_names(), allow._for_loading()]
-    if lists[0] is lists[1]:
-        return lists[:1]
-    at, kinds, is_whole = 0, set(), True
-    while len(kinds) < 2 and is_whole and at < len(data):
-        kinds.add(_names.are_old(data[at : at + 2]))
+def _runs(data: bytes) -> Iterator[Tuple[int, bool]]:
+    """Where each run of pickles begins whose names are all old or not, and whether they are."""
+    at, before, is_whole = 0, None, True
+    while is_whole and at < len(data):
+        is_old = _names.are_old(data[at : at + 2])
+        if is_old != before:
+            yield at, is_old
+        before = is_old
         at, is_whole = walked(data, at)
-    return [it for it, is_old in zip(lists, (True, False)) if is_old in kinds] or lists[:1]
 
 
 def check_row(
@@ -82,13 +79,33 @@ def check_row(
 
     Its `pickles` counts the accepted ones, and `at` counts from the first byte. `one_unpickler`
     means that one Unpickler loads them all and keeps its memo. From 4 MiB on, Ctrl-C ends a call in
-    the main thread at once, and the check runs to its end in the background. A row of pickles with
-    names of Python 2 and of Python 3 may import what is permitted under both.
+    the main thread at once, and the check runs to its end in the background. If one Unpickler loads
+    pickles with names of Python 2 and others, they may import what is permitted in both.
     """
     keeps_memo = flag("one_unpickler", one_unpickler)
     settings = settings_of(allow, limits, old_strings, build, keeps_memo)
-    found = [_row(data, it, settings) for it in _lists_for(data, allow, fix_imports)]
-    return min(found, key=lambda it: (it.accepted, it.pickles, it.at))
+    new, old = (allow._for_loading(), allow._for_old_names()) if fix_imports else (allow, allow)
+    if new is old or not isinstance(data, bytes):
+        return _row(data, new, settings)
+    runs = [*_runs(data)] or [(0, True)]
+    if len(runs) == 1 or keeps_memo:
+        found = [_row(data, old if it else new, settings) for it in {it for _, it in runs}]
+        return min(found, key=lambda it: (it.accepted, it.pickles, it.at))
+    return _rows(data, [(at, old if it else new) for at, it in runs], settings)
+
+
+def _rows(data: bytes, runs: List[Tuple[int, AllowList]], settings: bytes) -> RowVerdict:
+    """The answer for a row with runs that are each checked under a list."""
+    taken = imports = pickles = 0
+    for number, (at, allow) in enumerate(runs):
+        end = runs[number + 1][0] if number + 1 < len(runs) else len(data)
+        found = _row(data[at:end], allow, settings)
+        pickles += found.pickles
+        if not found:
+            return found._replace(at=at + found.at, pickles=pickles)  # type: ignore[return-value]
+        taken, imports = taken + found.taken, imports + found.imports
+    words = {"taken": taken, "imports": imports, "pickles": pickles}
+    return found._replace(**words)  # type: ignore[return-value]
 
 
 def _row(data: bytes, allow: AllowList, settings: bytes) -> RowVerdict:

@@ -107,8 +107,13 @@ class AllowList(_Pairs):
         section `[substitutes]` has a name that isn't listed.
 
         If its limits leave out `numbers` or one on costs, the limit of `STANDARD` applies. The
-        greatest number for a limit on costs is none.
+        greatest number for a limit on costs is none. A name that only Python 2 has stands for that
+        of Python 3, which the log tells once.
         """
+        return cls._parsed(text, "")
+
+    @classmethod
+    def _parsed(cls, text: "Union[str, bytes]", file: str) -> "AllowList":
         if not isinstance(text, (str, bytes, bytearray)):
             raise TypeError(f"the text of a list file must be str or bytes, not {type(text)!r}")
         data = bytes_of(text) if isinstance(text, str) else bytes(text)
@@ -126,7 +131,12 @@ class AllowList(_Pairs):
         own = limits_of(*numbers)._replace(**dict(zip(COSTS, heard)))
         limits = own if _has_limits(data) else None
         is_ruled = builds == 0 or _says(data, b"build", "Shape(RuleKey)")
-        return cls._saying(cls._of(pairs, limits, BUILDS[builds] if is_ruled else None), *said)
+        made = cls._of(pairs, limits, BUILDS[builds] if is_ruled else None)
+        if made._for_loading() is not made:
+            from ._old_lines import tell
+
+            tell(made, data, file)
+        return cls._saying(made, *said)
 
     @classmethod
     def from_file(cls, file: "Union[str, os.PathLike[str]]") -> "AllowList":
@@ -135,7 +145,7 @@ class AllowList(_Pairs):
         with open(name, "rb") as opened:
             text = opened.read()
         try:
-            return cls.from_text(text)
+            return cls._parsed(text, os.fsdecode(name))
         except ListFault as fault:
             raise ListFault(fault.fault, os.fsdecode(name), fault.line, fault.hint) from None
 

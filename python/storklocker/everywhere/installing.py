@@ -81,7 +81,8 @@ class State:
 def permitted_by(allow: AllowList) -> FrozenSet[Tuple[str, str]]:
     """The names of a list, but for those that stand for something else while a guard loads."""
     meant: Iterable[Tuple[str, str]] = allow._meant.substitutes if allow._meant else ()
-    return frozenset(allow).difference(meant)
+    listed = frozenset(allow).union(allow._for_loading())
+    return listed.difference(meant, map(_names.today, meant))
 
 
 _INSTALLED: List[State] = []
@@ -90,8 +91,7 @@ _INSTALLED: List[State] = []
 def install(guard: Guard, *, own: Iterable[str] = ()) -> Installed:
     """Guards every load of this interpreter from now on.
 
-    Call it at the start of the program, before other modules are imported. `pickle` writes names of
-    Python 2 in protocols 0 to 2, which load under a guard with `fix_imports=True`.
+    Call it at the start of the program, before other modules are imported.
 
     guard: the Guard. With `enforce=False` everything is loaded and reported.
     own: modules that load what processes of this program send, and whose loads stay unchecked, in
