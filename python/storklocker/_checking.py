@@ -102,10 +102,10 @@ def _rows(data: bytes, runs: List[Tuple[int, AllowList]], settings: bytes) -> Ro
         found = _row(data[at:end], allow, settings)
         pickles += found.pickles
         if not found:
-            return found._replace(at=at + found.at, pickles=pickles)  # type: ignore[return-value]
+            return found._replace(at=at + found.at, pickles=pickles)
         taken, imports = taken + found.taken, imports + found.imports
     words = {"taken": taken, "imports": imports, "pickles": pickles}
-    return found._replace(**words)  # type: ignore[return-value]
+    return found._replace(**words)
 
 
 def _row(data: bytes, allow: AllowList, settings: bytes) -> RowVerdict:

@@ -65,7 +65,11 @@ def _fixed(data: bytes, found: List[Import], fix_imports: bool) -> List[Import]:
     """The imports of a pickle under the names that are imported."""
     if not (fix_imports and _names.are_old(data)):
         return found
-    return [it if it.module is None else Import(*_names.renamed(tuple(it))) for it in found]
+    return [
+        it if it.module is None or it.name is None
+        else Import(*_names.renamed((it.module, it.name)))
+        for it in found
+    ]
 
 
 def missing(

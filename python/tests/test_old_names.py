@@ -146,6 +146,9 @@ class OldNames(unittest.TestCase):
                 self.assertEqual(guard.load(Minimal(data)), value)
 
 
+OTHER = b"\x80\2cposix\nsystem\n."
+
+
 class OldLists(unittest.TestCase):
     """A list with a name that only Python 2 has means that of Python 3."""
 
@@ -208,9 +211,18 @@ copy_reg = ["_reconstructor"]
 
     def test_a_row_of_both(self):
         allow = AllowList([("builtins", "set"), ("copyreg", "_reconstructor")])
-        old, new = pickle.dumps({1}, 0), pickle.dumps({1}, 3)
-        for data, accepted in ((old + old, True), (new + new, True), (old + new, False)):
-            self.assertEqual(bool(storklocker.check_row(data, allow)), accepted)
+        old, new = b"c__builtin__\nset\n.", b"\x80\x03cbuiltins\nset\n."
+        for data, accepted in ((old + old, True), (new + new, True), (old + new, True),
+                               (new + old + old + new, True), (old + new + OTHER, False)):
+            row = storklocker.check_row(data, allow)
+            count = data.count(b".") - (not accepted)
+            self.assertEqual((row.accepted, row.pickles), (accepted, count))
+            if accepted:
+                self.assertEqual((row.taken, row.imports), (len(data), data.count(b".")))
+            else:
+                self.assertEqual(row.at, len(data) - len(OTHER) + 2)
+        row = storklocker.check_row(old + new, allow, one_unpickler=True)
+        self.assertEqual((row.accepted, row.pickles), (False, 1))
         self.assertTrue(storklocker.check_row(old + pickle.dumps([1], 4), allow))
         self.assertFalse(storklocker.check_row(old + old, allow, fix_imports=False))
 

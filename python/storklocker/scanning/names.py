@@ -89,9 +89,11 @@ def named_today(names: Iterable[Names], data: bytes) -> Iterable[Names]:
 
 @functools.lru_cache(maxsize=1024)
 def _renamed(names: Names) -> Names:
-    pair = pair_of(names)
-    new = pair if pair[0] not in RENAMED else renamed((pair[0], pair[1] or ""))
-    return names if new == pair else (new[0].encode(), new[1].encode())
+    module, name = pair_of(names)
+    if module is None or name is None or module not in RENAMED:
+        return names
+    new = renamed((module, name))
+    return (new[0].encode(), new[1].encode())
 
 
 def verdict_at(source: Source, at: int, budget: Budget) -> Tuple[Verdict, bool]:
