@@ -213,16 +213,19 @@ static PyObject *pairs_of(PyObject *module, PyObject *args) {
 
 static PyObject *begin_loads(PyObject *module, PyObject *args) {
     const struct state *state = PyModule_GetState(module);
-    PyObject *guard, *list, *reader;
+    PyObject *guard, *lists[2], *reader;
     int is_judging;
     if (!PyArg_ParseTuple(
-            args, "O!OOp", state->loads, &guard, &list, &reader, &is_judging))
+            args, "O!OOOp", state->loads, &guard, &lists[0], &lists[1], &reader, &is_judging))
         return NULL;
-    if (list != Py_None && !PyObject_TypeCheck(list, (PyTypeObject *)state->pairs)) {
-        type_error("the list must be a storklocker.AllowList or None", list);
-        return NULL;
+    for (int k = 0; k < 2; k++) {
+        int is_none = lists[0] == Py_None && lists[1] == Py_None;
+        if (!is_none && !PyObject_TypeCheck(lists[k], (PyTypeObject *)state->pairs)) {
+            type_error("the lists must be storklocker.AllowLists or None", lists[k]);
+            return NULL;
+        }
     }
-    return set_loads(guard, list, reader, is_judging) == 0 ? Py_BuildValue("") : NULL;
+    return set_loads(guard, lists, reader, is_judging) == 0 ? Py_BuildValue("") : NULL;
 }
 
 static PyObject *imports(PyObject *module, PyObject *const *given, Py_ssize_t count) {
@@ -265,8 +268,8 @@ static PyObject *read_list(PyObject *Py_UNUSED(module), PyObject *args) {
 
 static PyMethodDef methods[] = {
     {"begin_loads", begin_loads, METH_VARARGS,
-     "Says what `loads` of a guard checks with, or None, what it loads with, and whether a pickle\n"
-     "with imports is judged while it is loaded."},
+     "Says what `loads` of a guard checks new and old pickles with, or None, what it loads with,\n"
+     "and whether a pickle with imports is judged while it is loaded."},
     {"pairs_of", pairs_of, METH_VARARGS, "Pairs of a subclass, from its pairs and settings."},
     {"walked", walked, METH_VARARGS, "Where whole instructions end, and whether with STOP."},
     {"holds", holds, METH_VARARGS, "Whether one of the texts of a tuple stands in the bytes."},

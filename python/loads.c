@@ -11,7 +11,8 @@ typedef PyObject *fast_function(
 
 typedef struct {
     PyObject_HEAD
-    PyObject *list;   /* Pairs: a yes under them is enough to load a pickle as it is; or null */
+    PyObject *lists[2]; /* Pairs for pickles with names of Python 3, and of Python 2: a yes under
+                           them is enough to load a pickle as it is; or null */
     PyObject *reader; /* `pickle.loads` */
     PyObject *names;  /* ("fix_imports",) */
     fast_function *function; /* what the reader calls, if it is such a function of C */
@@ -37,12 +38,14 @@ static int loads_traverse(PyObject *self, visitproc visit, void *arg) {
     const Loads *own = (const Loads *)self;
     if (is_type_visited())
         Py_VISIT(Py_TYPE(self));
-    Py_VISIT(own->list);
+    Py_VISIT(own->lists[0]);
+    Py_VISIT(own->lists[1]);
     return 0; /* the reader refers to no guard */
 }
 
 static int loads_clear(PyObject *self) {
-    Py_CLEAR(((Loads *)self)->list);
+    Py_CLEAR(((Loads *)self)->lists[0]);
+    Py_CLEAR(((Loads *)self)->lists[1]);
     return 0;
 }
 
@@ -50,7 +53,8 @@ static void loads_dealloc(PyObject *self) {
     Loads *own = (Loads *)self;
     PyTypeObject *type = Py_TYPE(self);
     PyObject_GC_UnTrack(self);
-    Py_CLEAR(own->list);
+    Py_CLEAR(own->lists[0]);
+    Py_CLEAR(own->lists[1]);
     Py_CLEAR(own->reader);
     Py_CLEAR(own->names);
     Py_CLEAR(own->collector);
@@ -73,11 +77,11 @@ static void find_function(Loads *own) {
 #endif
 }
 
-int set_loads(PyObject *guard, PyObject *list, PyObject *reader, int is_judging) {
+int set_loads(PyObject *guard, PyObject *const lists[2], PyObject *reader, int is_judging) {
     Loads *own = (Loads *)guard;
     /* (interned, as the reader's own, which it compares by address first) */
     PyObject *names = Py_BuildValue("(N)", PyUnicode_InternFromString("fix_imports"));
-    PyObject *before = own->list;
+    PyObject *before[] = {own->lists[0], own->lists[1]};
     if (names == NULL)
         return -1;
     if (own->reader == NULL) { /* one that is loading in another thread goes on with it */
@@ -87,10 +91,13 @@ int set_loads(PyObject *guard, PyObject *list, PyObject *reader, int is_judging)
         find_function(own);
     } else
         Py_DECREF(names);
-    Py_XINCREF(list == Py_None ? NULL : list);
-    own->list = list == Py_None ? NULL : list;
+    for (int k = 0; k < 2; k++) {
+        own->lists[k] = lists[k] == Py_None ? NULL : lists[k];
+        Py_XINCREF(own->lists[k]);
+    }
     own->is_judging = is_judging;
-    Py_XDECREF(before);
+    Py_XDECREF(before[0]);
+    Py_XDECREF(before[1]);
     return 0;
 }
 
@@ -144,9 +151,17 @@ static PyObject *loaded_at_once(const Loads *own, PyObject *data) {
     return made;
 }
 
+/* Whether the first instruction of a pickle implies protocol 0, 1 or 2. */
+static int is_old(PyObject *data) {
+    if (!PyBytes_CheckExact(data) || PyBytes_Size(data) < 2)
+        return 1;
+    const uint8_t *bytes = (const uint8_t *)PyBytes_AsString(data);
+    return bytes[0] != 0x80 || bytes[1] < 3;
+}
+
 static PyObject *loads(PyObject *self, PyObject *const *given, Py_ssize_t count, PyObject *names) {
     const Loads *own = (const Loads *)self;
-    PyObject *list = own->list;
+    PyObject *list = own->lists[count == 1 && is_old(given[0])];
     if (list == NULL || count != 1 || names != NULL || !PyBytes_CheckExact(given[0])) {
         PyObject *method = PyObject_GetAttrString(self, "_loads");
         PyObject *made = called(method, given, count, names);

@@ -20,12 +20,13 @@ PyObject *refusal_of(PyObject *pairs, PyObject *data, uint64_t *imports);
 /* Makes the class. Returns null after an error. */
 PyObject *loads_type(void);
 
-/* Says what `loads` does, once `guard` is of the class and `list` is Pairs or None: under None it
-   leaves everything to the guard's `_loads`. `reader` is `pickle.loads`, which loads what is
+/* Says what `loads` does, once `guard` is of the class, and the lists, for pickles with names of
+   Python 3 and of Python 2, are Pairs or None: under None it leaves everything to the guard's
+   `_loads`. `reader` is `pickle.loads`, which loads what is
    accepted. What takes longer to judge is left to the guard's `_loads_accepted`: a pickle whose
    BUILD takes an imported object, and with `is_judging` one that imports something. Returns -1
    after an error. */
-int set_loads(PyObject *guard, PyObject *list, PyObject *reader, int is_judging);
+int set_loads(PyObject *guard, PyObject *const lists[2], PyObject *reader, int is_judging);
 
 /* Makes the function that an installed guard has in place of `pickle.load`, or with a true number
    `pickle.loads`: of the function that it calls, the module `_pickle` and its doc as bytes. */

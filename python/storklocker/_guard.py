@@ -68,9 +68,9 @@ class Guard(Loads):
         `Limits(levels=None, weight=None, work=None)` limits none of it.
     old_strings: how Python 2 strings are decoded, as for `check`. With "ascii" and "bytes" pickles
         are also loaded that way, and a different `encoding` or `errors` raises ValueError.
-    fix_imports: whether pickles of protocols 0 to 2 use the module names of Python 2. A pair is
-        then permitted exactly if the pair that CPython maps it to is on the list. This overrides
-        the `fix_imports` of a call.
+    fix_imports: whether pickles of protocols 0 to 2 use the module names of Python 2, as `pickle`
+        takes them and writes them. A pair is then permitted exactly if the pair that CPython maps
+        it to is on the list. This overrides the `fix_imports` of a call.
     on_refusal: called with a `Refusal` before Refused is raised. An exception that it raises
         replaces Refused.
     enforce: False reports a refusal to `on_refusal` and LOADS THE PICKLE ANYWAY. Use it to find out
@@ -118,7 +118,7 @@ class Guard(Loads):
         *,
         limits: "Optional[Limits]" = None,
         old_strings: str = "unknown",
-        fix_imports: bool = False,
+        fix_imports: bool = True,
         on_refusal: "Optional[Callable[[Refusal], Any]]" = None,
         enforce: bool = True,
         max_bytes: int = MAX_BYTES,
@@ -137,12 +137,12 @@ class Guard(Loads):
         self._build = build
         _later("_meant").require(allow)
         self._has_substitutes = has_substitutes(allow)
-        is_plain = not fix_imports and old_strings != "bytes"
-        self._is_plain = is_plain and not len(allow)
+        self._is_plain = not len(allow) and old_strings != "bytes"
         self._new = allow._for_loading()._under(settings)
         self._old = allow._for_old_names()._under(settings) if fix_imports else self._new
         self._unpickler: Optional[Type[GuardedUnpickler]] = None
-        begin_loads(self, self._new if is_plain else None, _loads, len(allow) > 0)
+        lists = (None, None) if old_strings == "bytes" else (self._new, self._old)
+        begin_loads(self, *lists, _loads, len(allow) > 0)
 
     @classmethod
     def from_file(
@@ -167,7 +167,8 @@ class Guard(Loads):
 
         Unless `enforce` is true, the guard LOADS WHAT IT REFUSES: use it where no stranger writes.
         """
-        hook = _later("_learning").Learner(file, getattr(self, "_hook", self._on_refusal))
+        own = getattr(self, "_hook", self._on_refusal)
+        hook = _later("_learning").Learner(file, own, self._fix_imports)
         return self._like(on_refusal=hook, enforce=enforce)
 
     @property
@@ -280,8 +281,7 @@ class Guard(Loads):
 
     def _judge(self, data: bytes) -> Verdict:
         """The verdict on the pickle at the front of `data`."""
-        listed = self._listed_for(data) if self._fix_imports else self._new
-        return verdict(data, listed, None)
+        return verdict(data, self._listed_for(data), None)
 
     def _decoding(self, encoding: "Optional[str]", errors: "Optional[str]") -> "Tuple[str, str]":
         """The encoding and errors for Python 2 strings: those of `old_strings`, or if that is

@@ -2,6 +2,7 @@
 
 from __future__ import annotations
 
+from . import _names
 from ._answers import Named, Refused
 from ._limits import without_costs
 from ._lists import STANDARD, AllowList, settings_of
@@ -38,10 +39,15 @@ class Import(Named):
 
 
 def imports(
-    data: bytes, *, limits: Optional[Limits] = None, old_strings: str = "unknown"
+    data: bytes,
+    *,
+    limits: Optional[Limits] = None,
+    old_strings: str = "unknown",
+    fix_imports: bool = True,
 ) -> List[Import]:
     """The imports of the pickle in any run, in order, each as often as it is made. Limits on what
-    loading costs are ignored.
+    loading costs are ignored. With `fix_imports` those of protocols 0 to 2 have the names of Python
+    3, which are imported.
 
     An import that the pickle doesn't reveal is `Import(None, None)`. Raises Refused if no list
     makes the pickle acceptable.
@@ -52,7 +58,18 @@ def imports(
 
         hint = hint_of(verdict, lambda at, count: data[at : at + count], limits or STANDARD)
         raise Refused(verdict, hint)
-    return imports_in(records(room))
+    return _fixed(data, imports_in(records(room)), fix_imports)
+
+
+def _fixed(data: bytes, found: List[Import], fix_imports: bool) -> List[Import]:
+    """The imports of a pickle under the names that are imported."""
+    if not (fix_imports and _names.are_old(data)):
+        return found
+    return [
+        it if it.module is None or it.name is None
+        else Import(*_names.renamed((it.module, it.name)))
+        for it in found
+    ]
 
 
 def missing(
@@ -61,13 +78,16 @@ def missing(
     *,
     limits: Optional[Limits] = None,
     old_strings: str = "unknown",
+    fix_imports: bool = True,
 ) -> List[Import]:
     """The imports of the pickle that the list doesn't permit, each once. The limits of the list
     apply. If no list makes the pickle acceptable, only those before its fault. If all names take
     more than 64 MiB, these are only the first of them, as `Verdict.missing_is_cut` says of a
     verdict.
     """
-    return missing_of(data, allow, settings_of(allow, limits, old_strings))[0]
+    listed = allow._listed_for(data, fix_imports)
+    found = missing_of(data, listed, settings_of(allow, limits, old_strings))[0]
+    return list(dict.fromkeys(_fixed(data, found, fix_imports)))
 
 
 def imports_of(

@@ -20,6 +20,7 @@ import time
 import weakref
 from typing import Any, Callable, Dict, Iterator, NamedTuple, Optional, Tuple, Union
 
+from . import _names
 from ._refusal import Refusal
 from ._writing import replace
 
@@ -110,8 +111,10 @@ class Learner:
         self,
         file: Union[str, os.PathLike[str]],
         hook: Optional[Callable[[Refusal], Any]] = None,
+        fix_imports: bool = True,
     ) -> None:
         self._file, self._hook = os.path.abspath(os.fspath(file)), hook
+        self._fixes = fix_imports
         self.forget()
         with open(os.open(self._file, os.O_RDWR | os.O_CREAT, 0o666), "rb") as opened:
             if opened.read(1) not in (b"", b"{", b"\n"):
@@ -126,7 +129,7 @@ class Learner:
         self._has_failed = False
 
     def __reduce__(self) -> Tuple[Any, ...]:
-        return (Learner, (self._file, self._hook))
+        return (Learner, (self._file, self._hook, self._fixes))
 
     def __call__(self, refusal: Refusal) -> None:
         if self._lock.acquire(timeout=1):  # (a signal handler may come in the middle)
@@ -139,10 +142,12 @@ class Learner:
 
     def _take(self, refusal: Refusal) -> None:
         now, key, is_new = int(time.time()), _shown(refusal.context), False
+        is_old = self._fixes and _names.are_old(refusal._data)
         for module, name in itertools.islice(refusal.missing, _OF_ONE):
             if module is None or name is None or not is_name(module, name):
                 continue
             pair, seen = (module, name), Seen(key, 1, now, now)
+            pair = _names.renamed(pair) if is_old else pair
             before = self._known.get(pair)
             if pair not in self._known:
                 if len(self._known) >= MOST:

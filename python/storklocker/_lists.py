@@ -107,8 +107,13 @@ class AllowList(_Pairs):
         section `[substitutes]` has a name that isn't listed.
 
         If its limits leave out `numbers` or one on costs, the limit of `STANDARD` applies. The
-        greatest number for a limit on costs is none.
+        greatest number for a limit on costs is none. A name that only Python 2 has stands for that
+        of Python 3, which the log tells once.
         """
+        return cls._parsed(text, "")
+
+    @classmethod
+    def _parsed(cls, text: "Union[str, bytes]", file: str) -> "AllowList":
         if not isinstance(text, (str, bytes, bytearray)):
             raise TypeError(f"the text of a list file must be str or bytes, not {type(text)!r}")
         data = bytes_of(text) if isinstance(text, str) else bytes(text)
@@ -126,7 +131,12 @@ class AllowList(_Pairs):
         own = limits_of(*numbers)._replace(**dict(zip(COSTS, heard)))
         limits = own if _has_limits(data) else None
         is_ruled = builds == 0 or _says(data, b"build", "Shape(RuleKey)")
-        return cls._saying(cls._of(pairs, limits, BUILDS[builds] if is_ruled else None), *said)
+        made = cls._of(pairs, limits, BUILDS[builds] if is_ruled else None)
+        if made._for_loading() is not made:
+            from ._old_lines import tell
+
+            tell(made, data, file)
+        return cls._saying(made, *said)
 
     @classmethod
     def from_file(cls, file: "Union[str, os.PathLike[str]]") -> "AllowList":
@@ -135,7 +145,7 @@ class AllowList(_Pairs):
         with open(name, "rb") as opened:
             text = opened.read()
         try:
-            return cls.from_text(text)
+            return cls._parsed(text, os.fsdecode(name))
         except ListFault as fault:
             raise ListFault(fault.fault, os.fsdecode(name), fault.line, fault.hint) from None
 
@@ -187,6 +197,10 @@ class AllowList(_Pairs):
         place = bisect_left(self._pairs, names)
         return place < len(self._pairs) and self._pairs[place] == names
 
+    def _permits(self, names: "Names") -> bool:
+        """Whether a guard imports a pair of encoded names, as Python 3 has them."""
+        return self._for_loading()._has(names)
+
     def __or__(self, other: object) -> "AllowList":
         """The union of the pairs, under the limits of both."""
         if not isinstance(other, AllowList):
@@ -228,22 +242,32 @@ class AllowList(_Pairs):
         return self._of(self._pairs, self._limits, self._build, settings)
 
     def _for_loading(self) -> "AllowList":
-        """The pairs that this Python can import, without those of modules that only Python 2 has.
+        """The pairs that this Python can import: those of modules that only Python 2 has, under the
+        names that Python 3 has given them.
         """
         if self._loaded is None:
             lost = [pair for pair in self if _names.is_lost(pair)]
-            self._loaded = _AS_IT_IS if not lost else self._without(lost)
+            self._loaded = _AS_IT_IS if not lost else self._renaming(lost)
         return self if self._loaded is _AS_IT_IS else self._loaded
 
     def _for_old_names(self) -> "AllowList":
         """The pairs that CPython maps to a pair of this list, with `fix_imports`."""
         if self._fixed is None:
-            pairs = (bytes_of_pair(old) for pair in self for old in _names.old_names(pair))
-            self._fixed = self._of(pairs, self._limits, self._build)
-        return self._fixed
+            own = self._for_loading()
+            pairs = [bytes_of_pair(old) for pair in own for old in _names.old_names(pair)]
+            is_same = sorted(set(pairs)) == sorted(set(self._pairs))
+            self._fixed = _AS_IT_IS if is_same else self._of(pairs, self._limits, self._build)
+        return self if self._fixed is _AS_IT_IS else self._fixed
 
-    def _without(self, lost: "List[Pair]") -> "AllowList":
+    def _listed_for(self, data: bytes, fix_imports: bool = True) -> "AllowList":
+        """The list that applies to the pickle that begins the bytes."""
+        if fix_imports and _names.are_old(data):
+            return self._for_old_names()
+        return self._for_loading() if fix_imports else self
+
+    def _renaming(self, lost: "List[Pair]") -> "AllowList":
         left = set(self._pairs) - {bytes_of_pair(pair) for pair in lost}
+        left.update(bytes_of_pair(_names.renamed(pair)) for pair in lost)
         return self._of(left, self._limits, self._build)
 
 
@@ -285,9 +309,10 @@ def has_substitutes(allow: AllowList) -> bool:
     """Whether a list has a name that is loaded through a substitute, which any of NumPy may be."""
     from bisect import bisect_left
 
-    pairs = allow._pairs
     if allow._meant is not None and allow._meant.substitutes:
         return True
+    allow = allow._for_loading()
+    pairs = allow._pairs
     if any(pair in allow for pair in SUBSTITUTED):
         return True
     for front in (b"numpy", b"numpy."):

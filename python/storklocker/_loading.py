@@ -16,7 +16,7 @@ def loads(
     *,
     limits: "Optional[Limits]" = None,
     old_strings: str = "unknown",
-    fix_imports: bool = False,
+    fix_imports: bool = True,
     encoding: "Optional[str]" = None,
     errors: "Optional[str]" = None,
     buffers: "Optional[Iterable[Any]]" = None,
@@ -28,7 +28,7 @@ def loads(
     `pickle.loads` raises. A buffer other than `bytes` is copied first, so that exactly the checked
     bytes are loaded.
     """
-    if limits is None and old_strings == "unknown" and fix_imports is False and build == "made":
+    if limits is None and old_strings == "unknown" and fix_imports is True and build == "made":
         guard = _plain_guard(allow)
     else:
         words: Any = {"limits": limits, "old_strings": old_strings, "fix_imports": fix_imports}

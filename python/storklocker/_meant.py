@@ -5,6 +5,7 @@ from __future__ import annotations
 from typing import Any, Dict, FrozenSet, Iterable, Iterator, Mapping, NamedTuple, Tuple
 
 from ._lists import AllowList
+from ._names import today
 from ._substitute import Substitute
 
 Pair = Tuple[str, str]
@@ -93,8 +94,10 @@ def require(allow: AllowList) -> None:
     to be meant.
     """
     held = of(allow)
-    for pair in sorted(EVERYTHING - held.substitutes.keys() - held.dangerous):
-        if pair in allow:
+    said = {today(pair) for pair in (*held.substitutes, *held.dangerous)}
+    listed = allow._for_loading()
+    for pair in sorted(EVERYTHING - said - held.substitutes.keys() - held.dangerous):
+        if pair in listed or pair in allow:
             name = ".".join(pair)
             raise ValueError(
                 f"{name} on the list permits everything: give it one of storklocker.substitutes, "

@@ -29,6 +29,11 @@ def renamed(pair: "Pair") -> "Pair":
     return (tables.IMPORT_MAPPING.get(pair[0], pair[0]), pair[1])
 
 
+def today(pair: "Pair") -> "Pair":
+    """The name that a list means: that of Python 3 if only Python 2 has a module of this name."""
+    return renamed(pair) if is_lost(pair) else pair
+
+
 def modules_of(module: str) -> "List[str]":
     """The modules of Python 3 that have the names of one of Python 2."""
     moved = [new for (old, _), (new, _) in tables.NAME_MAPPING.items() if old == module]
@@ -56,12 +61,16 @@ def old_names(pair: "Pair") -> "Iterator[Pair]":
             yield (module, pair[1])
 
 
-def hint_of(pair: "Pair", allow: "Container[Pair]") -> str:
-    """The hint for a refused pair that Python 3 has renamed."""
+def hint_of(pair: "Pair", allow: "Container[Pair]", fixes: bool) -> str:
+    """The hint for a refused pair that Python 3 has renamed, and whether it is read under its new
+    name.
+    """
     new = renamed(pair) if pair[0] in RENAMED else pair
     if new == pair or not (new in allow or pair in allow):
         return ""
     named = ".".join(new)
+    if fixes:
+        return "" if new in allow else f"Python 3 calls it {named}, which is to be listed"
     listed = "which is listed" if new in allow else "which is to be listed"
     return f"Python 3 calls it {named}, {listed}: fix_imports=True"
 

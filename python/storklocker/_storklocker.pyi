@@ -29,7 +29,12 @@ class AuditHook:
     def audit(self, *event: Any) -> None: ...
 
 def begin_loads(
-    guard: Loads, allow: Optional[Pairs], loads: Callable[..., Any], is_judging: bool, /
+    guard: Loads,
+    new: Optional[Pairs],
+    old: Optional[Pairs],
+    loads: Callable[..., Any],
+    is_judging: bool,
+    /,
 ) -> None: ...
 def pairs_of(
     kind: Type[_P], pairs: Tuple[Tuple[bytes, bytes], ...], settings: bytes, /

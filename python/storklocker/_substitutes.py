@@ -101,8 +101,11 @@ class Judged(NamedTuple):
 
 
 def declared(allow: AllowList) -> Dict[Pair, Substitute]:
-    """The substitutes that a list declares."""
-    return {} if allow._meant is None else allow._meant.substitutes
+    """The substitutes that a list declares, by the names that Python 3 has."""
+    if allow._meant is None:
+        return {}
+    said = allow._meant.substitutes
+    return {**{_names.today(pair): said[pair] for pair in said}, **said}
 
 
 class Reader(pickle.Unpickler):

@@ -23,7 +23,7 @@ def told(guard: Guard, verdict: Verdict, data: bytes, length: int, start: int) -
     if verdict.accepted:
         return MoreBytes(verdict, length or len(data))
     if verdict.pair is not None:
-        hint = "" if guard._fix_imports else _names.hint_of(verdict.pair, guard._allow)
+        hint = _names.hint_of(verdict.pair, guard._allow, guard._fix_imports)
         return Refused(verdict, hint)
     return Refused(verdict, _hint_for(guard, verdict, data, start))
 

@@ -203,7 +203,7 @@ class GuardedUnpickler(pickle.Unpickler):
         if self._pickles == 0:
             return verdict(data, allow, None)
         words: Any = {name: getattr(guard, f"_{name}") for name in JUDGING}
-        return check_row(data, allow, one_unpickler=True, **words)
+        return check_row(data, allow, one_unpickler=True, fix_imports=False, **words)
 
     def _find_place(self) -> None:
         """Drops what was read ahead if the file is no longer at the end of the last pickle."""

@@ -1,12 +1,21 @@
 """A list is made from a log of what pickles asked for, or from trusted pickles."""
 
+import collections
 import contextlib
 import pickle
 import unittest
 
 import storklocker
-from storklocker import AllowList, Guard, Limits, _learning
+from storklocker import AllowList, Guard, Limits, _learning, _names
 from test_learning import EARLY, NOTHING, UNLISTED, Learning, named
+
+
+class Order:
+    """A class of a program."""
+
+    def __repr__(self):
+        return "an order"
+
 
 
 class Lists(Learning):
@@ -27,6 +36,27 @@ class Lists(Learning):
         self.assertIn("asked 4 times", out)
         self.assertEqual(self.run_command("learn")[0], 2)
         self.assertEqual(self.run_command("learn", "--from-log", self.folder / "none")[0], 2)
+
+    def test_a_list_permits_what_it_was_learned_from(self):
+        values = ({1}, KeyError("x"), range(3), bytearray(b"a"), frozenset({1}), [1],
+                  collections.OrderedDict(a=1), Order())
+        for value in values:
+            for protocol in range(6):
+                data = pickle.dumps(value, protocol)
+                (self.folder / "it").write_bytes(data)
+                log = self.folder / f"log-{protocol}-{len(data)}"
+                NOTHING.learning(log).loads(data)
+                for words in (["it"], ["--from-log", log.name]):
+                    words = [self.folder / it if it[0] != "-" else it for it in words]
+                    allow = AllowList.from_text(self.run_command("learn", *words)[1])
+                    self.assertEqual([*allow], sorted(map(_names.renamed, allow)))
+                    self.assertEqual(repr(Guard(allow).loads(data)), repr(value))
+                    self.assertTrue(storklocker.check(data, allow))
+                    allow.to_file(self.folder / "list.toml")
+                    status, out, _ = self.run_command(
+                        "check", "--allow", self.folder / "list.toml", self.folder / "it"
+                    )
+                    self.assertEqual((status, out[:3]), (0, "yes"))
 
     def test_no_list_permits_everything_by_learning(self):
         from storklocker._meant import EVERYTHING

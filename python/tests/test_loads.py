@@ -73,6 +73,8 @@ class Words(unittest.TestCase):
         data = b"c__builtin__\nset\n."
         guard = Guard(AllowList([("__builtin__", "set"), ("builtins", "set")]))
         self.assertIs(pickle.loads(data), set)
+        self.assertIs(guard.loads(data), set)
+        guard = guard._like(fix_imports=False)
         self.assertRaises(Refused, guard.loads, data)  # only Python 2 has that module
 
 

@@ -152,8 +152,8 @@ def _unpickler(guard: Guard, storages: _Storages) -> Any:
             return self._storage_of(storages.judged(saved))
 
         def find_class(self, module: str, name: str, /) -> Any:
-            pair = (module, name)
-            listed = pair in guard.allow or _names.renamed(pair) in guard.allow
+            pair, allow = (module, name), guard.allow._for_loading()
+            listed = pair in allow or guard._fix_imports and _names.renamed(pair) in allow
             if guard.enforce and not listed:
                 raise guard.UnpicklingError(f"PyTorch imports {module}.{name}, which isn't listed")
             return super().find_class(module, name)

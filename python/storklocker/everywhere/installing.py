@@ -33,8 +33,7 @@ _CHANGING = threading.RLock()
 def install(guard: Guard, *, own: Iterable[str] = ()) -> Installed:
     """Guards every load of this interpreter from now on.
 
-    Call it at the start of the program, before other modules are imported. `pickle` writes names of
-    Python 2 in protocols 0 to 2, which load under a guard with `fix_imports=True`.
+    Call it at the start of the program, before other modules are imported.
 
     guard: the Guard. With `enforce=False` everything is loaded and reported.
     own: modules that load what processes of this program send, and whose loads stay unchecked, in

@@ -68,7 +68,8 @@ class State:
 def permitted_by(allow: AllowList) -> FrozenSet[Tuple[str, str]]:
     """The names of a list, but for those that stand for something else while a guard loads."""
     meant: Iterable[Tuple[str, str]] = allow._meant.substitutes if allow._meant else ()
-    return frozenset(allow).difference(meant)
+    listed = frozenset(allow).union(allow._for_loading())
+    return listed.difference(meant, map(_names.today, meant))
 
 
 class _Now:

@@ -11,6 +11,8 @@ from .._answers import Verdict
 from .._hints import CHANGES
 from .._limits import COSTS, Limits
 from .._lists import STANDARD, AllowList, settings_of
+from .._names import old_names
+from .._pairs import bytes_of_pair
 from .._reasons import Reason
 from .._storklocker import bill, row_verdict, verdict, walked
 from .names import NOTHING, WIDEST
@@ -99,7 +101,11 @@ def permitting(names: Iterable[Names]) -> AllowList:
 
 
 def _permitting_all(pairs: Tuple[Tuple[bytes, bytes], ...]) -> AllowList:
-    return AllowList._of(pairs, None, None, _SETTINGS)
+    """The list of these names, however a pickle spells them."""
+    texts = [(module.decode("utf-8", "replace"), name.decode("utf-8", "replace"))
+             for module, name in pairs]
+    old = [bytes_of_pair(it) for pair in texts for it in old_names(pair)]
+    return AllowList._of([*pairs, *old], None, None, _SETTINGS)
 
 
 # (the files of a scan mostly import the same names)

@@ -188,7 +188,7 @@ def _told_together(it: Together, allow: Optional[AllowList], place: Place) -> Re
 def _counts(row: Row, allow: Optional[AllowList]) -> bool:
     """Whether an import of a broken pickle is off the list; without one, known to do harm."""
     if allow is not None:
-        return not (row.is_complete and all(map(allow._has, row.names)))
+        return not (row.is_complete and all(map(allow._permits, row.names)))
     found = import_findings(map(pair_of, row.names))
     return not row.is_complete or any(finding.severity != NOTE for finding in found)
 
@@ -288,7 +288,7 @@ def _shown_names(
 ) -> Tuple[Tuple[Pair, ...], Tuple[Pair, ...]]:
     """The imports, and those off the list, as far as there is room for them: the latter first."""
     def is_off(both: "Names") -> bool:
-        return allow is not None and not allow._has(both)
+        return allow is not None and not allow._permits(both)
 
     kept: Dict["Names", Pair] = {}
     off = () if allow is None or row.refusal is None else filter(is_off, row.names)

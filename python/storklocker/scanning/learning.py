@@ -6,6 +6,7 @@ import time
 from typing import Dict, Iterable, Iterator, List, Tuple
 
 from .._learning import LARGEST, Seen, read_log
+from .._names import today
 from .._writing import quoted
 from .dangers import danger_of
 from .report import Report, shown
@@ -40,7 +41,8 @@ class Learned:
         """Adds the names of a file that a guard's `learning` has written."""
         with open(path, "rb") as opened:
             text = opened.read(2 * LARGEST).decode("utf-8", "replace")
-        for pair, seen in read_log(text).items():
+        for named, seen in read_log(text).items():
+            pair = today(named)  # (of a log of an earlier version)
             self.seen[pair] = self.seen[pair].and_(seen) if pair in self.seen else seen
             self.pairs.setdefault(pair, [])
 

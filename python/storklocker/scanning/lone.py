@@ -13,7 +13,7 @@ from .costs import with_costs
 from .dangers import import_findings
 from .joblib_files import WRAPPER_NAMES
 from .marks import is_plain
-from .names import NOTHING, limits_under, pair_of
+from .names import NOTHING, limits_under, named_today, pair_of
 from .readings import all_asked
 from .report import LONGEST, Finding, Pair, sorted_findings
 from .rows import CLAIM, limits_costs, may_be_listed
@@ -58,7 +58,7 @@ class Lone:
         verdict, wanted, room = imports(data, NOTHING, self._settings, _ROOM)
         if verdict.taken != len(data) or wanted > _ROOM:
             return None
-        return self._known(room[:wanted])
+        return self._known(room[:wanted], data[:2])
 
     def told_of_value(self, data: bytes) -> Tuple[int, Optional[Told]]:
         """The length of the pickle at the front of these bytes, and what is to be told of it; 0 and
@@ -67,7 +67,7 @@ class Lone:
         if self._is_limited:
             return 0, None
         verdict, wanted, room = imports(data, NOTHING, self._settings, _ROOM)
-        told = self._known(room[:wanted]) if verdict and wanted <= _ROOM else None
+        told = self._known(room[:wanted], data[:2]) if verdict and wanted <= _ROOM else None
         if told is None or not self.is_quiet(told):
             return 0, None
         return verdict.taken, told
@@ -77,12 +77,12 @@ class Lone:
         is_foreseen = self._is_foreseen and bool(told.imports)
         return not is_foreseen and all(it.severity == NOTE for it in told.findings)
 
-    def _judged(self, room: bytes) -> Optional[Told]:
-        """What is to be told of these encoded imports; None if one isn't permitted, or is an array
-        of joblib's.
+    def _judged(self, room: bytes, front: bytes) -> Optional[Told]:
+        """What is to be told of these encoded imports of a pickle that begins so; None if one isn't
+        permitted, or is an array of joblib's.
         """
-        names = tuple(dict.fromkeys(records(room)))
-        is_permitted = may_be_listed if self.allow is None else self.allow._has
+        names = tuple(dict.fromkeys(named_today(records(room), front)))
+        is_permitted = may_be_listed if self.allow is None else self.allow._permits
         if not all(map(is_permitted, names)) or WRAPPER_NAMES.intersection(names):
             return None
         pairs = tuple(map(pair_of, names))

@@ -3,11 +3,12 @@
 from __future__ import annotations
 
 import functools
-from typing import TYPE_CHECKING, Dict, NamedTuple, Optional, Tuple
+from typing import TYPE_CHECKING, Dict, Iterable, NamedTuple, Optional, Tuple
 
 from .._answers import Verdict
 from .._limits import NO_COSTS, UNBOUND, Limits, without_costs
 from .._lists import STANDARD, AllowList, settings_of
+from .._names import RENAMED, are_old, renamed
 from .._pairs import records
 from .._reasons import Reason
 from .._storklocker import imports as _imports
@@ -78,7 +79,21 @@ def imports_within(data: bytes, allow: AllowList, limits: Limits = WIDE) -> Impo
     if wanted > size:
         verdict, wanted, room = _imports(data, allow, settings, wanted)
     its = records(room[:wanted]) if wanted > _FEW else _few_of(room[:wanted])
-    return Imports(verdict, dict.fromkeys(its))
+    return Imports(verdict, dict.fromkeys(named_today(its, data)))
+
+
+def named_today(names: Iterable[Names], data: bytes) -> Iterable[Names]:
+    """The imports of the pickle that begins the bytes, as Python 3 names them."""
+    return map(_renamed, names) if are_old(data) else names
+
+
+@functools.lru_cache(maxsize=1024)
+def _renamed(names: Names) -> Names:
+    module, name = pair_of(names)
+    if module is None or name is None or module not in RENAMED:
+        return names
+    new = renamed((module, name))
+    return (new[0].encode(), new[1].encode())
 
 
 def verdict_at(source: Source, at: int, budget: Budget) -> Tuple[Verdict, bool]:

@@ -13,7 +13,8 @@ from .._lists import AllowList, settings_of
 from .._reasons import Reason
 from .budget import LOOKED_AT, STEP, Budget, TooMuch
 from .costs import COUNTED, KINDS, LIMITS, Exceeded, exceeded, exceeded_in_row, with_costs
-from .names import NOTHING, WIDEST, Imports, imports_within, limits_under, refused_with
+from .names import NOTHING, WIDEST, Imports, imports_within, limits_under
+from .names import named_today, refused_with
 from .reaching import READERS_STOP, reached
 from .readings import Piece, is_text
 from .spelled import is_module
@@ -113,7 +114,7 @@ class Row:
         if not verdict:
             names = dict.fromkeys((*names, *self._refused(verdict, found)))
         self.is_complete &= found.is_complete
-        is_listed = found.is_complete and all(map(self._listed._has, names))
+        is_listed = found.is_complete and all(map(self._listed._permits, names))
         is_listed = is_listed and is_within and not self._is_limited
         if not (verdict and is_listed) and self.refusal is None:
             self._judge(data, verdict)
@@ -132,7 +133,7 @@ class Row:
         taken, names = found.verdict.taken, found.names
         if taken >= _AT_ONCE or not found.is_complete or self._is_limited:
             return False
-        if not all(map(may_be_listed if self._allow is None else self._allow._has, names)):
+        if not all(map(may_be_listed if self._allow is None else self._allow._permits, names)):
             return False
         self.names, self.pickles, self.taken = dict(names), 1, taken
         self._uncosted = (taken, 1)
@@ -219,7 +220,8 @@ class Row:
         if beyond.is_ended or not beyond.is_complete:
             self.stop = -1
         self.is_cut = verdict.reason is Reason.Truncated
-        return (*names, *beyond.names)
+        front = self._source.read(begin, 2)
+        return (*names, *named_today(beyond.names, front))
 
     def guarded(self) -> Optional[Verdict]:
         """Why a guard with the list refuses the one that costs much; None if it doesn't."""
