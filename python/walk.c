@@ -5,7 +5,7 @@
 #define LENT (1 << 14) /* so many bytes in a row that don't change aren't copied */
 #define FIRST 64       /* the room for the first notes */
 
-enum { BUILD = 'b', FRAME = 0x95 };
+enum { FRAME = 0x95 };
 uint8_t layouts[256];
 
 /* When the module is loaded, before any call. */
@@ -110,26 +110,11 @@ static void put_stretch(struct writing *w, size_t begin, size_t end) {
     }
 }
 
-/* Puts an instruction in other words. Returns how long it was. */
-static size_t put_changed(struct writing *w, uint8_t code) {
-    switch (code) {
-    case FRAME:
-        return 9;
-    case BUILD:
-        return put(w, "\x86Q", 2), 1;
-    case 's':
-        return put(w, "\x86\x88\x87Q", 4), 1;
-    case 'u':
-        return put(w, "t\x88\x87Q", 4), 1;
-    case 'a':
-        return put(w, "\x85\x89\x87Q", 4), 1;
-    case 'e':
-        return put(w, "t\x89\x87Q", 4), 1;
-    case 0x90:
-        return put(w, "t)\x87Q", 4), 1;
-    }
-    return put(w, "\x85Q", 2), 1;
-}
+/* Instructions in other words, behind their length. */
+static const char words[256][6] = {
+    [FRAME] = "\0", ['b'] = "\2\x86Q", ['Q'] = "\2\x85Q", ['s'] = "\4\x86\x88\x87Q",
+    ['u'] = "\4t\x88\x87Q", ['a'] = "\4\x85\x89\x87Q", ['e'] = "\4t\x89\x87Q",
+    [0x90] = "\4t)\x87Q"};
 
 /* Writes the instructions between two places. A real object comes before what changes there. */
 static void write_pieces(
@@ -148,7 +133,9 @@ static void write_pieces(
         }
         put_stretch(w, at, change);
         if (change < end) {
-            at = change + put_changed(w, w->bytes[change]);
+            const char *other = words[w->bytes[change]];
+            put(w, other + 1, (size_t)other[0]);
+            at = change + (w->bytes[change] == FRAME ? 9 : 1);
         }
     } while (change < end);
     add_piece(w, w->made, w->begin, w->size);
