@@ -351,11 +351,13 @@ static int followed_one(struct uses *u, uint8_t code, size_t last) {
     return is == DONE && !(effect & KEEPS) ? push(u, code == 'l' ? LIST : OTHER) : is;
 }
 
-/* Whether a reader is given an instruction in other words: also one that puts items into an object
-   which may be another one than a list, a dict or a set that the pickle has made. */
+/* Whether a reader is given an instruction in other words: also NEWOBJ of a name, and one that puts
+   items into an object which may be another one than a list, a dict or a set of the pickle. */
 static int is_changed(const struct uses *u, uint8_t code, int is) {
     size_t below = u->size;
     unsigned kind = code == 'a' || code == 'e' ? LIST : code == 0x90 ? SET : DICT;
+    if (code == 0x81) /* of a name: a substitute is no class */
+        return is == DONE && below > 1 && kind_of(u->stack[below - 2]) == NAME;
     if (code == 'a' || code == 's')
         below = u->size - (code == 'a' ? 1 : 2);
     else if (code == 'e' || code == 'u' || code == 0x90)

@@ -114,7 +114,7 @@ static void put_stretch(struct writing *w, size_t begin, size_t end) {
 static const char words[256][6] = {
     [FRAME] = "\0", ['b'] = "\2\x86Q", ['Q'] = "\2\x85Q", ['s'] = "\4\x86\x88\x87Q",
     ['u'] = "\4t\x88\x87Q", ['a'] = "\4\x85\x89\x87Q", ['e'] = "\4t\x89\x87Q",
-    [0x90] = "\4t)\x87Q"};
+    [0x90] = "\4t)\x87Q", [0x81] = "\3]\x87Q"};
 
 /* Writes the instructions between two places. A real object comes before what changes there. */
 static void write_pieces(
