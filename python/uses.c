@@ -209,9 +209,9 @@ static int make_dict(struct uses *u, size_t index, size_t below) {
 }
 
 /* Notes a call, and pushes what it makes. */
-static int push_made(struct uses *u, int is_judged, int is_wrapper) {
+static int push_made(struct uses *u, unsigned how, int is_wrapper) {
     struct notes *notes = &u->changes;
-    if (!note_call(notes, is_judged ? OF_JUDGED : 0))
+    if (!note_call(notes, (uint8_t)how))
         return FAILED;
     return push(u, is_wrapper ? WRAPPER : SLOT(MADE, 0, u->kept->calls + notes->count - 1));
 }
@@ -235,8 +235,9 @@ static int change(struct uses *u, slot s, uint8_t how) {
 }
 
 /* Calls an object with arguments, or makes an object of a class with them. */
-static int call(struct uses *u, slot called, slot words, int is_new) {
-    unsigned role = role_of(u, called);
+static int call(struct uses *u, slot called, slot words, uint8_t code) {
+    unsigned role = role_of(u, called), how = kind_of(called) == NAME && code == 0x81 ? IS_NEW : 0;
+    int is_new = code != 'R';
     int is_known = kind_of(called) == GIVEN || kind_of(called) == NAME;
     int is_wrapper = is_new ? (role & WRAPS) != 0 : kind_of(words) == WRAPPER;
     int is = mask_of(words) & ~(is_new ? 0 : role >> TAKES) ? use(u, words) : DONE;
@@ -244,7 +245,8 @@ static int call(struct uses *u, slot called, slot words, int is_new) {
         is = use(u, words);
     if (is == DONE && kind_of(called) != NAME)
         is = use(u, called);
-    return is == DONE ? push_made(u, !is_known || role & IS_JUDGED, is_wrapper) : is;
+    how |= !is_known || role & IS_JUDGED ? OF_JUDGED : 0;
+    return is == DONE ? push_made(u, how, is_wrapper) : is;
 }
 
 /* Follows an instruction that makes, calls or changes an object, and takes what lies from an index
@@ -270,7 +272,7 @@ static int made(struct uses *u, uint8_t code, size_t index, size_t below) {
     case 'R':
     case 0x81:
         top = pop(u);
-        return is == DONE ? call(u, pop(u), top, code != 'R') : is;
+        return is == DONE ? call(u, pop(u), top, code) : is;
     }
     return make_tuple(u, index, below);
 }
@@ -395,7 +397,7 @@ static int followed_one(struct uses *u, uint8_t code, size_t last) {
     if (is == DONE && (code == 'a' || code == 'e' || code == 0x90))
         is = change(u, u->stack[u->size - 1], HAS_ITEMS);
     if (is == DONE && (code == 'i' || code == 'o'))
-        return push_made(u, 1, 0);
+        return push_made(u, OF_JUDGED, 0);
     return is == DONE && !(effect & KEEPS) ? push(u, is_given(code) ? GIVEN : OTHER) : is;
 }
 

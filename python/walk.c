@@ -156,9 +156,12 @@ static void write_pieces(
             uint8_t code = w->bytes[change];
             at = change + length_of(w->bytes + change, end - change);
             if (is_call(code)) {
-                uint8_t judged[] = {'N', 'K', how, 0x87, 'Q'};
-                put_stretch(w, change, at);
-                put(w, judged, sizeof judged);
+                uint8_t judged[] = {'N', 'K', how & (uint8_t)~IS_NEW, 0x87, 'Q'};
+                if (how & IS_NEW)
+                    put(w, "]\x87Q", 3);
+                else
+                    put_stretch(w, change, at);
+                put(w, judged, how == IS_NEW ? 0 : sizeof judged);
             } else {
                 put(w, code == BUILD ? "\x86Q" : "\x85Q", code == FRAME ? 0 : 2);
             }

@@ -34,7 +34,8 @@ PyObject *followed(PyObject *module, PyObject *args);
    The reader is given the whole instructions up to STOP, also those that it can't get to: BUILD as
    TUPLE2 BINPERSID, BINPERSID as TUPLE1 BINPERSID, no frames, where a value becomes the real
    object, behind the instruction that pushes it, NONE NONE TUPLE3 BINPERSID, and behind a call
-   whose object is judged or changed, NONE BININT1 TUPLE3 BINPERSID. These are pieces:
+   whose object is judged or changed, NONE BININT1 TUPLE3 BINPERSID. NEWOBJ of a name that has a
+   substitute is EMPTY_LIST TUPLE3 BINPERSID. These are pieces:
    bytes, and the begin and end of what counts of them. Long ones are the bytes of the pickle. */
 PyObject *begin_uses(PyObject *module, PyObject *args);
 PyObject *uses(PyObject *module, PyObject *args);
@@ -70,8 +71,9 @@ struct notes {
     int is_more;              /* whether more than a call is noted, or of one that more is done */
 };
 
-/* What happens to the object that a call makes: it gets a state, or items; it is judged. */
-enum { HAS_STATE = 1, HAS_ITEMS = 2, OF_JUDGED = 4 };
+/* What happens to the object that a call makes: it gets a state, or items; it is judged; what stands
+   for a class makes it. */
+enum { HAS_STATE = 1, HAS_ITEMS = 2, OF_JUDGED = 4, IS_NEW = 8 };
 
 /* Notes a place, or a call. Returns 0, and sets an error, if there is no memory. */
 int note(struct notes *notes, size_t place);

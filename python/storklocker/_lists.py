@@ -19,11 +19,6 @@ if TYPE_CHECKING:
     from ._pairs import Item, Names, Pair
     from ._substitute import Substitute
 
-SUBSTITUTED = (
-    *(("builtins", "bytes"), ("builtins", "bytearray")),
-    *(("copyreg", "_reconstructor"), ("_codecs", "encode")),
-)
-"""The pairs of the standard library that are always loaded through substitutes."""
 STANDARD = Limits()
 
 
@@ -306,20 +301,12 @@ def _heard(text: bytes, name: str, number: int) -> "Optional[int]":
 
 
 def has_substitutes(allow: AllowList) -> bool:
-    """Whether a list has a name that is loaded through a substitute, which any of NumPy may be."""
-    from bisect import bisect_left
-
+    """Whether a list has a name that is loaded through a substitute."""
     if allow._meant is not None and allow._meant.substitutes:
         return True
-    allow = allow._for_loading()
-    pairs = allow._pairs
-    if any(pair in allow for pair in SUBSTITUTED):
-        return True
-    for front in (b"numpy", b"numpy."):
-        at = bisect_left(pairs, (front, b""))
-        if at < len(pairs) and (pairs[at][0] == b"numpy" or pairs[at][0][:6] == b"numpy."):
-            return True
-    return False
+    from ._substituted import has_any
+
+    return has_any(allow._for_loading()._pairs)
 
 
 def _list_of(

@@ -4,7 +4,7 @@ from __future__ import annotations
 
 import functools
 import importlib
-from typing import Any, Callable
+from typing import Any, Callable, Optional, Tuple
 
 from ._answers import Misused
 
@@ -24,6 +24,16 @@ def takes(*places: int) -> int:
     return sum(16 << place for place in places)
 
 
+def nothing(name: str, given: Tuple[Any, ...]) -> None:
+    """Takes no arguments."""
+    if given:
+        raise Misused(f"{name} is made with other arguments")
+
+
+def _refuse(name: str, *given: Any) -> Any:
+    raise Misused(f"{name} is called, as no pickler does")
+
+
 class Substitute:
     """What a pickle gets for a name. It can be called, and passed on as its role says."""
 
@@ -37,6 +47,10 @@ class Substitute:
 
     def __repr__(self) -> str:
         return f"<substitute for {self.name}>"
+
+    def new(self, *given: Any) -> Any:
+        """What NEWOBJ makes of it."""
+        raise Misused(f"NEWOBJ of {self.name}, which picklers only call")
 
     def within(self, reader: Any) -> Substitute:
         """What a pickle gets that this reader loads."""
@@ -56,6 +70,15 @@ class Remembering(Substitute):
         return _Within(self, reader.itself)
 
 
+class Value(Substitute):
+    """A function or a class that picklers write as a value, and never call."""
+
+    __slots__ = ()
+
+    def __init__(self, name: str) -> None:
+        super().__init__(name, functools.partial(_refuse, name), BECOMES_REAL)
+
+
 class _Within(Substitute):
     """A substitute as one reader's pickle has it."""
 
@@ -70,6 +93,30 @@ class _Within(Substitute):
         if reader is None:
             raise Misused(f"{self.name} is called after the pickle was loaded")
         return self._call(reader, *given)
+
+
+class Class(Substitute):
+    """A class that picklers give to NEWOBJ. They call few of these."""
+
+    __slots__ = ("_kind", "_news")
+
+    def __init__(
+        self,
+        name: str,
+        kind: Any = None,
+        news: Callable[..., Any] = nothing,
+        call: Optional[Callable[..., Any]] = None,
+    ) -> None:
+        super().__init__(name, call or functools.partial(_refuse, name), BECOMES_REAL)
+        self._kind, self._news = kind, news
+
+    def new(self, *given: Any) -> Any:
+        self._news(self.name, given)
+        kind = self.real()
+        return kind.__new__(kind, *given)
+
+    def real(self) -> Any:
+        return self._kind if self._kind is not None else super().real()
 
 
 @functools.lru_cache(maxsize=None)

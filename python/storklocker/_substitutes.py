@@ -28,13 +28,16 @@ from typing import (
     TYPE_CHECKING,
 )
 
-from . import _arrays, _builtins, _compiled, _names, _random
+from . import (
+    _arrays, _builtins, _calls, _collections, _compiled, _names, _of_packages, _random
+)
 from ._answers import Misused
 from ._guard import _later, plain_loads
 from ._lists import AllowList
 from ._objects import found
 from ._states import build, judge_made
 from ._substitute import Substitute
+from ._weighing import Scales
 
 if TYPE_CHECKING:
     from ._uses import Uses
@@ -137,6 +140,8 @@ class Reader(pickle.Unpickler):
         self._room = 0
         self.itself = weakref.ref(self)
         """It, for what its memo may hold."""
+        self.keys = Scales(self, True)
+        """What the keys weigh that functions were given."""
 
     def loaded(self, data: bytes, at: int, is_old: bool) -> Any:
         """The object of the accepted pickle at an offset. `is_old`: whether its names are those of
@@ -171,7 +176,7 @@ class Reader(pickle.Unpickler):
         substitute = self.own[pair] if pair in self.own else TABLE.get(pair)
         if substitute is None:
             it = super().find_class(module, name)
-            substitute = _by_object().get(id(it))
+            substitute = _for_object(it)
             if substitute is None:
                 return it
         return substitute.within(self)
@@ -184,8 +189,11 @@ class Reader(pickle.Unpickler):
                 if not self._uses.is_whole:
                     raise Misused(_UNFOLLOWED)
                 build(self, asked[0], asked[1])
+                _compiled.check(self, asked[0])
         elif len(asked) != 3:
             return self.persistent(asked[0])
+        elif type(asked[2]) is list:
+            return _new(asked[0], asked[1])
         elif asked[2] is not None:
             judge_made(self, asked)
         elif isinstance(asked[0], Substitute):
@@ -232,24 +240,35 @@ def named(module: str, name: str, allow: AllowList) -> Any:
     return reader.find_class(module, name)
 
 
-TABLE = {**_arrays.TABLE, **_random.TABLE, **_builtins.TABLE}
+TABLE = {
+    **_arrays.TABLE, **_random.TABLE, **_builtins.TABLE, **_calls.TABLE, **_collections.TABLE,
+    **_of_packages.TABLE,
+}
 """The substitutes, by the pair that imports them."""
 _by_id: Dict[int, Substitute] = {}
+_known_modules: List[int] = []
 
 
 def _by_object() -> Dict[int, Substitute]:
     """The substitutes by the id of what they stand for, which other pairs may name too."""
-    if not _by_id and "numpy" in sys.modules:
-        _by_id.update(_arrays.by_object())
+    if _known_modules != [len(sys.modules)]:
+        _known_modules[:] = [len(sys.modules)]
+        if "numpy" in sys.modules:
+            _by_id.update(_arrays.by_object())
+        for (module, name), substitute in TABLE.items():
+            it = getattr(sys.modules.get(module), name, None)
+            if it is not None and (module, name) not in _arrays.TABLE:
+                _by_id[id(it)] = substitute
     return _by_id
+
+
+def _for_object(it: Any) -> Optional[Substitute]:
+    return _by_object().get(id(it)) or _of_packages.substitute_for(it)
 
 
 def substitute_of(pair: Pair) -> Optional[Substitute]:
     """The substitute for a name under all lists, if it has one."""
-    if pair in TABLE:
-        return TABLE[pair]
-    it = found(*pair)  # (may import NumPy)
-    return _by_object().get(id(it))
+    return TABLE[pair] if pair in TABLE else _for_object(found(*pair))  # (may import NumPy)
 
 
 def _lent_by(buffers: Iterable[Any], lent: Dict[int, Any]) -> Iterator[Any]:
@@ -257,3 +276,13 @@ def _lent_by(buffers: Iterable[Any], lent: Dict[int, Any]) -> Iterator[Any]:
     for it in buffers:
         lent[id(it)] = it
         yield it
+
+
+def _new(kind: Any, given: Any) -> Any:
+    """What NEWOBJ makes of a class, or of what stands for it."""
+    if type(given) is not tuple or not isinstance(kind, (Substitute, type)):
+        raise pickle.UnpicklingError("NEWOBJ class argument must be a type")
+    if isinstance(kind, Substitute):
+        return kind.new(*given)
+    maker: Any = kind
+    return maker.__new__(maker, *given)

@@ -1,0 +1,74 @@
+"""Substitutes for the containers of the standard library: they are filled from plain containers."""
+
+from __future__ import annotations
+
+import collections
+from typing import TYPE_CHECKING, Any, Dict, Tuple
+
+from ._calls import plain, takes_text, wrong
+from ._substitute import BECOMES_REAL, Class, Remembering, Substitute
+from ._weighing import keys_of
+
+if TYPE_CHECKING:
+    from ._substitutes import Reader
+
+
+def _pairs(reader: Reader, name: str, given: Tuple[Any, ...]) -> Tuple[Any, ...]:
+    """What a dict is made from: nothing, another dict, or pairs of keys and values."""
+    if len(given) > 1:
+        raise wrong(name)
+    for it in given:
+        rows = plain(reader, name, it)
+        if type(it) is dict:
+            keys_of(reader, rows)
+            continue
+        if type(it) not in (list, tuple):
+            raise wrong(name)
+        if any(type(row) not in (list, tuple) or len(row) != 2 for row in rows):
+            raise wrong(name)
+        keys_of(reader, [row[0] for row in rows])
+    return given
+
+
+def _dict(reader: Reader, *given: Any) -> Any:
+    return dict(*_pairs(reader, "dict", given))
+
+
+def _ordered(reader: Reader, *given: Any) -> Any:
+    return collections.OrderedDict(*_pairs(reader, "OrderedDict", given))
+
+
+def _defaults(reader: Reader, *given: Any) -> Any:
+    if given and given[0] is not None and not callable(given[0]):
+        raise wrong("defaultdict")
+    return collections.defaultdict(*given[:1], *_pairs(reader, "defaultdict", given[1:]))
+
+
+def _counter(reader: Reader, *given: Any) -> Any:
+    if len(given) > 1:
+        raise wrong("Counter")
+    for it in given:
+        keys_of(reader, plain(reader, "Counter", it))
+    return collections.Counter(*given)
+
+
+def _deque(reader: Reader, *given: Any) -> Any:
+    if len(given) > 2 or len(given) == 2 and type(given[1]) not in (int, type(None)):
+        raise wrong("deque")
+    return collections.deque(*(plain(reader, "deque", it) for it in given[:1]), *given[1:])
+
+
+TABLE: Dict[Tuple[str, str], Substitute] = {
+    (module, name): Remembering(f"{module}.{name}", judged, BECOMES_REAL)
+    for module, name, judged in (
+        ("builtins", "dict", _dict),
+        ("collections", "OrderedDict", _ordered),
+        ("collections", "defaultdict", _defaults),
+        ("collections", "Counter", _counter),
+        ("collections", "deque", _deque),
+    )
+}
+TABLE.update(
+    (("collections", name), Class(f"collections.{name}", news=takes_text))
+    for name in ("ChainMap", "UserDict", "UserList", "UserString")
+)

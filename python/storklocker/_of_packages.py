@@ -1,0 +1,186 @@
+"""Substitutes for names of packages, most of which picklers write in one way only.
+
+A class without a `__reduce__` of its own is given to NEWOBJ, and never called: so none of its calls
+has to be judged. What is left are functions and classes that say themselves how they are called.
+"""
+
+from __future__ import annotations
+
+import functools
+import sys
+import types
+from typing import TYPE_CHECKING, Any, Callable, Dict, Optional, Tuple
+
+from . import _of_pandas, _of_sklearn
+from ._calls import row, shown, takes_text, wrong
+from ._substitute import BECOMES_REAL, Class, Remembering, Substitute, Value
+from ._weighing import SCALARS, values
+
+if TYPE_CHECKING:
+    from ._substitutes import Reader
+
+PACKAGES = ("sklearn", "scipy", "pandas", "django", "celery", "kombu", "billiard")
+_LIBRARY = ("http.cookies",)
+"""Modules of the standard library for whose names the same holds."""
+_REDUCE = ("__reduce__", "__reduce_ex__")
+
+
+def substitute_for(it: Any) -> Optional[Substitute]:
+    """The substitute for what a name of a package means, if it has one."""
+    module = getattr(it, "__module__", None)
+    if type(module) is not str:
+        return None
+    package = module.partition(".")[0]
+    if package not in PACKAGES and package != "numpy" and module not in _LIBRARY:
+        return None
+    try:
+        return _found(it, module, package)
+    except TypeError:  # (an object that can't be hashed)
+        return None
+
+
+@functools.lru_cache(maxsize=4096)
+def _found(it: Any, module: str, package: str) -> Optional[Substitute]:
+    name = f"{module}.{getattr(it, '__qualname__', '')}"
+    if package == "numpy":
+        numpy: Any = sys.modules["numpy"]
+        is_scalar = isinstance(it, type) and issubclass(it, numpy.generic)
+        return _scalar(name, it) if is_scalar else None
+    if isinstance(it, types.FunctionType):
+        return Value(name) if package in ("sklearn", "scipy") else None
+    if not isinstance(it, type):
+        return None
+    if issubclass(it, BaseException):
+        return shown(module, it.__qualname__)
+    if _says_how(it):
+        return None
+    return Class(name, it, _fields if issubclass(it, tuple) else takes_text)
+
+
+def _says_how(kind: type) -> bool:
+    """Whether a class says itself how its objects are pickled."""
+    return any(word in vars(base) for base in kind.__mro__[:-1] for word in _REDUCE)
+
+
+def _fields(name: str, given: Tuple[Any, ...]) -> None:
+    """Takes the fields of a named tuple."""
+
+
+def _scalar(name: str, kind: Any) -> Substitute:
+    def judged(reader: Reader, *given: Any) -> Any:
+        if len(given) > 1 or given and (
+            type(given[0]) not in SCALARS or type(given[0]) is str and len(given[0]) > 4_300
+        ):
+            raise wrong(name)
+        return kind(*given)
+
+    return Remembering(name, judged, BECOMES_REAL)
+
+
+def _model(reader: Reader, *given: Any) -> Any:
+    """An empty instance of a model of Django."""
+    from django.db.models import Model, base
+
+    if len(given) != 1:
+        raise wrong("model_unpickle")
+    asked: Any = given[0]
+    is_pair = type(asked) is tuple and len(asked) == 2 and all(type(it) is str for it in asked)
+    if not is_pair and not (isinstance(asked, type) and issubclass(asked, Model)):
+        raise wrong("model_unpickle")
+    return base.model_unpickle(asked)
+
+
+def _signature(reader: Reader, *given: Any) -> Any:
+    """A signature of Celery, which goes through its tasks."""
+    import celery.canvas
+
+    if not given or type(given[0]) not in (dict, str):
+        raise wrong("signature")
+    values(reader, given)
+    return celery.canvas.signature(*given)
+
+
+def _raised(reader: Reader, *given: Any) -> Any:
+    from billiard.einfo import rebuild_exc
+
+    if len(given) != 2 or not isinstance(given[0], BaseException) or type(given[1]) is not str:
+        raise wrong("rebuild_exc")
+    return rebuild_exc(*given)
+
+
+def _wrapped(reader: Reader, *given: Any) -> Any:
+    from celery.utils.serialization import UnpickleableExceptionWrapper
+
+    if len(given) not in (3, 4) or type(given[2]) not in (list, tuple):
+        raise wrong("UnpickleableExceptionWrapper")
+    if any(type(it) not in (str, type(None)) for it in (*given[:2], *given[3:])):
+        raise wrong("UnpickleableExceptionWrapper")
+    values(reader, given)
+    return UnpickleableExceptionWrapper(*given)
+
+
+def _nothing(name: str) -> Callable[..., Any]:
+    def judged(reader: Reader, *given: Any) -> Any:
+        if given:
+            raise wrong(name)
+        import pytz
+
+        return vars(pytz)[name]()
+
+    return judged
+
+
+def _hooks(name: str, given: Any) -> None:
+    """No function that is to be called later."""
+    if given is not None and not (isinstance(given, dict) and len(given) == 0):
+        raise wrong(name)
+
+
+def _tensor(reader: Reader, *given: Any) -> Any:
+    """A tensor within its storage."""
+    import torch._utils
+
+    name = "_rebuild_tensor_v2"
+    if len(given) not in (6, 7) or not isinstance(given[4], bool):
+        raise wrong(name)
+    storage, offset, size, stride = given[:4]
+    if "Storage" not in type(storage).__name__ or type(offset) is not int or offset < 0:
+        raise wrong(name)
+    if type(size) is not tuple or type(stride) is not tuple or len(size) != len(stride):
+        raise wrong(name)
+    if any(type(it) is not int or not 0 <= it < 1 << 48 for it in (*size, *stride)):
+        raise wrong(name)
+    last = offset + sum((many - 1) * step for many, step in zip(size, stride))
+    if 0 not in size and last >= storage.size() or len(size) > 64:
+        raise wrong(name)
+    _hooks(name, given[5])
+    return torch._utils._rebuild_tensor_v2(*given)
+
+
+def _parameter(reader: Reader, *given: Any) -> Any:
+    import torch._utils
+
+    if len(given) != 3 or type(given[0]) is not torch.Tensor or type(given[1]) is not bool:
+        raise wrong("_rebuild_parameter")
+    _hooks("_rebuild_parameter", given[2])
+    return torch._utils._rebuild_parameter(*given)
+
+
+_STORAGES = "BFloat16 Bool Byte Char ComplexDouble ComplexFloat Double Float Half Int Long Short"
+TABLE: Dict[Tuple[str, str], Substitute] = {
+    **_of_sklearn.TABLE,
+    **_of_pandas.TABLE,
+    **dict(
+        [
+            row("django.db.models.base", "model_unpickle", _model),
+            row("celery.canvas", "signature", _signature),
+            row("billiard.einfo", "rebuild_exc", _raised),
+            row("celery.utils.serialization", "UnpickleableExceptionWrapper", _wrapped),
+            row("pytz", "_UTC", _nothing("_UTC")),
+            row("torch._utils", "_rebuild_tensor_v2", _tensor),
+            row("torch._utils", "_rebuild_parameter", _parameter),
+            (("numpy", "mean"), Value("numpy.mean")),
+        ]
+    ),
+    **{("torch", f"{it}Storage"): Value(f"torch.{it}Storage") for it in _STORAGES.split()},
+}

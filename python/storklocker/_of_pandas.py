@@ -1,0 +1,334 @@
+"""Compiled code of pandas: blocks that fill a frame, indexes of arrays, and values of numbers."""
+
+from __future__ import annotations
+
+import datetime
+import sys
+from typing import TYPE_CHECKING, Any, Callable, Dict, Tuple
+
+from ._answers import Misused
+from ._calls import row, wrong
+from ._of_sklearn import whole
+from ._substitute import Class, Substitute
+from ._weighing import SCALARS, Scales
+
+if TYPE_CHECKING:
+    from ._substitutes import Reader
+
+_MOST = 1 << 48
+_I8 = (1 << 63) - 1
+_INDEXES = {
+    "data", "name", "names", "start", "stop", "step", "levels", "codes", "sortorder", "freq", "tz",
+    "left", "right", "closed",
+}
+
+
+def is_array(reader: Reader, it: Any) -> bool:
+    """Whether this is an array, of NumPy or of pandas, whose state is set."""
+    import numpy
+    from pandas.api.extensions import ExtensionArray
+
+    is_one = type(it) is numpy.ndarray or isinstance(it, ExtensionArray)
+    return is_one and id(it) not in reader.unbuilt
+
+
+def _is_label(reader: Reader, it: Any) -> bool:
+    if type(it) is tuple:
+        Scales(reader, True).weigh(it)
+    return True
+
+
+def _whole(*bounds: Tuple[int, int]) -> Callable[..., bool]:
+    return lambda *given: len(given) <= len(bounds) and all(
+        type(it) in (int, bool) and least <= it <= most for it, (least, most) in zip(given, bounds)
+    )
+
+
+def _index_words(reader: Reader, given: Tuple[Any, ...]) -> Tuple[Any, Dict[str, Any]]:
+    """The class of an index and what it is made from."""
+    import pandas
+
+    if len(given) != 2 or not isinstance(given[0], type) or type(given[1]) is not dict:
+        raise wrong("_new_Index")
+    kind, words = given
+    if not issubclass(kind, pandas.Index) or not _INDEXES >= set(words):
+        raise wrong("_new_Index")
+    for word in ("start", "stop", "step"):
+        if word in words:
+            whole(words[word], -_MOST, _MOST)
+    if "data" in words and not (is_array(reader, words["data"]) or _is_index(words["data"])):
+        raise wrong("_new_Index")
+    if "name" in words:
+        _is_label(reader, words["name"])
+    if "levels" in words or "codes" in words:
+        _check_levels(reader, words)
+    return kind, dict(words)
+
+
+def _is_index(it: Any) -> bool:
+    import pandas
+
+    return isinstance(it, pandas.Index)
+
+
+def _check_levels(reader: Reader, words: Dict[str, Any]) -> None:
+    """The codes of an index of several levels, which pandas takes as they are."""
+    import numpy
+
+    levels, codes = words.get("levels"), words.get("codes")
+    if type(levels) is not list or type(codes) is not list or len(levels) != len(codes):
+        raise wrong("_new_Index")
+    for level, code in zip(levels, codes):
+        own: Any = code
+        if not isinstance(own, numpy.ndarray) or own.dtype.kind != "i" or own.ndim != 1:
+            raise wrong("_new_Index")
+        if not _is_index(level) or len(own) != len(codes[0]) or id(own) in reader.unbuilt:
+            raise wrong("_new_Index")
+        reader.pay(own.nbytes)
+        if len(own) and (own.min() < -1 or own.max() >= len(level)):
+            raise wrong("_new_Index")
+
+
+def _index(reader: Reader, *given: Any) -> Any:
+    from pandas.core.indexes import base
+
+    return base._new_Index(*_index_words(reader, given))
+
+
+def _times(reader: Reader, *given: Any) -> Any:
+    from pandas.core.indexes import datetimes
+
+    return datetimes._new_DatetimeIndex(*_index_words(reader, given))
+
+
+def _intervals(reader: Reader, *given: Any) -> Any:
+    from pandas.core.indexes import interval
+
+    kind, words = _index_words(reader, given)
+    if not all(_is_index(words.get(word)) for word in ("left", "right")):
+        raise wrong("_new_IntervalIndex")
+    if type(words.get("closed", "")) is not str or set(words) - {"left", "right", "closed", "name"}:
+        raise wrong("_new_IntervalIndex")
+    return interval._new_IntervalIndex(kind, words)
+
+
+def _placed(given: Any) -> range:
+    """Places of the columns of a block, as a slice says them."""
+    if type(given) is not slice:
+        raise wrong("_unpickle_block")
+    start, stop, step = given.start, given.stop, 1 if given.step is None else given.step
+    if whole(step, -_MOST, _MOST) == 0:
+        raise wrong("_unpickle_block")
+    return range(whole(start, 0, _MOST), whole(stop, -1, _MOST), step)
+
+
+def _check_places(reader: Reader, places: Any, count: int) -> None:
+    """Whether these are as many places of columns, none twice."""
+    import numpy
+
+    if type(places) is not numpy.ndarray:
+        placed = _placed(places)
+        if len(placed) != count or count and min(placed[0], placed[-1]) < 0:
+            raise wrong("_unpickle_block")
+        return
+    is_one = places.dtype.kind == "i" and places.shape == (count,) and id(places) not in reader.unbuilt
+    if not is_one or len(numpy.unique(places)) != count or count and places.min() < 0:
+        raise wrong("_unpickle_block")
+
+
+def _block(reader: Reader, *given: Any) -> Any:
+    """A block: a value for each of its places."""
+    from pandas._libs import internals
+
+    if len(given) != 3 or not is_array(reader, given[0]) or whole(given[2], 1, 2) != given[2]:
+        raise wrong("_unpickle_block")
+    values, ndim = given[0], given[2]
+    own = getattr(values, "ndim", 1)
+    if own > ndim:
+        raise wrong("_unpickle_block")
+    if ndim == 2:
+        _check_places(reader, given[1], len(values) if own == 2 else 1)
+    else:
+        _check_places(reader, given[1], len(values))
+    return internals._unpickle_block(*given)
+
+
+def _manager(reader: Reader, *given: Any) -> Any:
+    """A frame: blocks whose places are those of all its columns."""
+    import numpy
+    from pandas.core.internals import Block
+    from pandas.core.internals.managers import BlockManager
+
+    if len(given) != 2 or type(given[0]) is not tuple or type(given[1]) is not list:
+        raise wrong("BlockManager")
+    blocks, axes = given
+    if len(axes) != 2 or not all(map(_is_index, axes)):
+        raise wrong("BlockManager")
+    if not all(isinstance(it, Block) for it in blocks):
+        raise wrong("BlockManager")
+    count, height = len(axes[0]), len(axes[1])
+    if any(it.ndim != 2 or it.shape[1] != height for it in blocks):
+        raise wrong("BlockManager")
+    places = [numpy.asarray(it.mgr_locs.as_array) for it in blocks]
+    both = numpy.sort(numpy.concatenate(places)) if places else numpy.arange(0)
+    reader.pay(16 * len(both))
+    if len(both) != count or (both != numpy.arange(count)).any():
+        raise Misused("the blocks of a frame don't fill it")
+    return BlockManager(blocks, axes)
+
+
+def _array(reader: Reader, *given: Any) -> Any:
+    """An empty array of pandas, whose state follows."""
+    from pandas._libs import arrays
+
+    if len(given) != 3 or not isinstance(given[0], type) or type(given[1]) is not int:
+        raise wrong("__pyx_unpickle_NDArrayBacked")
+    if not issubclass(given[0], arrays.NDArrayBacked) or given[2] is not None:
+        raise wrong("__pyx_unpickle_NDArrayBacked")
+    made = vars(arrays)["__pyx_unpickle_NDArrayBacked"](*given)
+    reader.unbuilt[id(made)] = made
+    return made
+
+
+def _sparse(reader: Reader, *given: Any) -> Any:
+    import numpy
+    from pandas._libs.sparse import IntIndex
+
+    if len(given) != 2 or type(given[1]) is not numpy.ndarray or id(given[1]) in reader.unbuilt:
+        raise wrong("IntIndex")
+    places = given[1]
+    if places.dtype != numpy.int32 or places.ndim != 1:
+        raise wrong("IntIndex")
+    return IntIndex(whole(given[0], 0, (1 << 31) - 1), places.copy())
+
+
+def _value(module: str, name: str, fits: Callable[..., bool]) -> Tuple[Any, Substitute]:
+    def judged(reader: Reader, *given: Any) -> Any:
+        if not fits(*given):
+            raise wrong(name)
+        return getattr(sys.modules[module], name)(*given)
+
+    return row(module, name, judged)
+
+
+def _is_offset(it: Any) -> bool:
+    from pandas._libs.tslibs import BaseOffset
+
+    return isinstance(it, BaseOffset)
+
+
+def _is_timestamp(*given: Any) -> bool:
+    if len(given) not in (3, 4) or not _whole((-_I8 - 1, _I8), (0, 14))(given[0], *given[3:]):
+        return False
+    is_zone = given[2] is None or isinstance(given[2], datetime.tzinfo)
+    return is_zone and (given[1] is None or _is_offset(given[1]))
+
+
+def _is_period(*given: Any) -> bool:
+    return len(given) == 3 and given[0] is None and _is_offset(given[1]) and (
+        _whole((-_I8 - 1, _I8))(given[2])
+    )
+
+
+def _is_interval(*given: Any) -> bool:
+    import numpy
+
+    ends = (int, float, numpy.number, datetime.datetime, datetime.timedelta)
+    return len(given) == 3 and type(given[2]) is str and all(
+        isinstance(it, ends) for it in given[:2]
+    )
+
+
+def _are_scalars(*given: Any) -> bool:
+    return len(given) < 3 and all(type(it) in SCALARS for it in given)
+
+
+_TSLIBS = "pandas._libs.tslibs"
+TABLE: Dict[Tuple[str, str], Substitute] = dict(
+    [
+        row("pandas.core.indexes.base", "_new_Index", _index),
+        row("pandas.core.indexes.datetimes", "_new_DatetimeIndex", _times),
+        row("pandas.core.indexes.interval", "_new_IntervalIndex", _intervals),
+        row("pandas._libs.internals", "_unpickle_block", _block),
+        row("pandas.core.internals.managers", "BlockManager", _manager),
+        row("pandas._libs.arrays", "__pyx_unpickle_NDArrayBacked", _array),
+        row("pandas._libs.sparse", "IntIndex", _sparse),
+        _value("pandas._libs.interval", "Interval", _is_interval),
+        _value(f"{_TSLIBS}.nattype", "__nat_unpickle", _are_scalars),
+        _value(f"{_TSLIBS}.offsets", "Day", _whole((-_I8 - 1, _I8), (0, 1))),
+        _value(f"{_TSLIBS}.offsets", "MonthEnd", _whole((-_I8 - 1, _I8), (0, 1))),
+        _value(f"{_TSLIBS}.period", "Period", _is_period),
+        _value(f"{_TSLIBS}.timedeltas", "_timedelta_unpickle", _whole((-_I8 - 1, _I8), (0, 14))),
+        _value(f"{_TSLIBS}.timestamps", "_unpickle_timestamp", _is_timestamp),
+        _value("pandas.core.dtypes.dtypes", "PeriodDtype", lambda *given: (
+            len(given) == 1 and _is_offset(given[0]))),
+        (("pandas.core.internals.managers", "SingleBlockManager"),
+         Class("pandas.core.internals.managers.SingleBlockManager")),
+    ]
+)
+
+
+def array_state(reader: Reader, array: Any, state: Any) -> Any:
+    """The state of an array of pandas over one of NumPy."""
+    import numpy
+
+    if reader.unbuilt.pop(id(array), None) is not array:
+        raise Misused("the state of an array is set a second time, or of one made elsewhere")
+    if type(state) is not tuple or len(state) != 3 or type(state[2]) is not dict:
+        raise Misused("the state of an array of pandas is of no known kind")
+    held = [it for it in state[:2] if type(it) is numpy.ndarray and id(it) not in reader.unbuilt]
+    kinds = [it for it in state[:2] if not isinstance(it, numpy.ndarray)]
+    if len(held) != 1 or not set(state[2]) <= {"_freq", "_cache", "_readonly"}:
+        raise Misused("the state of an array of pandas is of no known kind")
+    name = type(array).__name__
+    wanted = {"DatetimeArray": "M", "TimedeltaArray": "m", "PeriodArray": "i", "Categorical": "i",
+              "StringArray": "O"}.get(name, held[0].dtype.kind)
+    if held[0].dtype.kind != wanted or held[0].dtype.kind in "Mmi" and not held[0].dtype.isnative:
+        raise Misused("the state of an array of pandas has another type")
+    if name == "Categorical" and len(held[0]):
+        reader.pay(held[0].nbytes)
+        if held[0].min() < -1 or held[0].max() >= len(kinds[0].categories):
+            raise Misused("a code of an array of pandas is of no category")
+    return state
+
+
+def manager_state(reader: Reader, state: Any) -> Any:
+    """The state of a series: one block, as long as its index."""
+    row: Any = state[3] if type(state) is tuple and len(state) == 4 else None
+    inner = row.get("0.14.1") if type(row) is dict else None
+    if type(inner) is not dict or set(inner) != {"axes", "blocks"}:
+        raise Misused("the state of a series is of no known kind")
+    axes, blocks = inner["axes"], inner["blocks"]
+    if type(axes) is not list or type(blocks) is not list or len(axes) != 1 or len(blocks) != 1:
+        raise Misused("the state of a series is of no known kind")
+    block = blocks[0]
+    if not _is_index(axes[0]) or type(block) is not dict or set(block) != {"values", "mgr_locs"}:
+        raise Misused("the state of a series is of no known kind")
+    if not is_array(reader, block["values"]) or len(block["values"]) != len(axes[0]):
+        raise Misused("the state of a series is of no known kind")
+    _check_places(reader, block["mgr_locs"], len(axes[0]))
+    made = {"axes": list(axes), "blocks": [dict(block)]}
+    return (*state[:3], {"0.14.1": made})
+
+
+def check_masked(reader: Reader, array: Any) -> None:
+    """Whether an array of pandas with a mask has one of its length."""
+    import numpy
+
+    own = vars(array)
+    data, mask = own.get("_data"), own.get("_mask")
+    for it in (data, mask):
+        if type(it) is not numpy.ndarray or id(it) in reader.unbuilt:
+            raise Misused("the state of an array of pandas is of no known kind")
+    if data.shape != mask.shape or mask.dtype != bool or data.dtype.hasobject:
+        raise Misused("the state of an array of pandas is of no known kind")
+
+
+def check_sparse(reader: Reader, array: Any) -> None:
+    """Whether a sparse array of pandas has a value for each of its places."""
+    from pandas._libs.sparse import SparseIndex
+
+    own = vars(array)
+    places, held = own.get("_sparse_index"), own.get("_sparse_values")
+    if not isinstance(places, SparseIndex) or not is_array(reader, held) or len(held) != places.npoints:
+        raise Misused("the state of a sparse array of pandas is of no known kind")

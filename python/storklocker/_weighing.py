@@ -1,0 +1,111 @@
+"""What values cost that functions hash, compare, copy or show as trees, though a pickle shares their
+parts.
+"""
+
+from __future__ import annotations
+
+import datetime
+import gc
+import sys
+import types
+from collections import deque
+from typing import TYPE_CHECKING, Any, Dict, Iterable, List, Tuple
+
+from ._answers import Misused
+from ._substitute import STEP
+
+if TYPE_CHECKING:
+    from ._substitutes import Reader
+
+MOST, DEEPEST = 1_000_000, 1_000
+"""The most parts and levels of a value, as a tree: those that a key may have by default."""
+SCALARS = (
+    type(None), bool, int, float, complex, str, bytes, bytearray, type(...), datetime.date,
+    datetime.datetime, datetime.time, datetime.timedelta, datetime.timezone,
+)
+CONTAINERS = (list, tuple, set, frozenset, dict)
+"""The classes of containers that a pickle fills itself."""
+_ROWS = (str, bytes, bytearray, list, tuple, dict, set, frozenset, deque)
+_NAMES = (type, types.ModuleType, types.FunctionType, types.BuiltinFunctionType, types.MethodType)
+_Cost = Tuple[int, int]
+
+
+class Scales:
+    """Weighs values, and remembers each part that it has seen."""
+
+    def __init__(self, reader: Reader, are_keys: bool) -> None:
+        self._held, self._are_keys = reader.itself, are_keys
+        self._costs: Dict[int, Tuple[Any, _Cost]] = {}
+        """The parts by id, each with the number of its parts as a tree, and of its levels."""
+
+    def weigh(self, value: Any) -> int:
+        """The number of parts of a value. Raises Misused if it has too many, or contains itself."""
+        size, levels = self._cost(value)
+        if size > MOST or levels > DEEPEST:
+            raise Misused("a value has too many parts, counted as often as they occur")
+        return size
+
+    def _cost(self, value: Any) -> _Cost:
+        left: List[Tuple[Any, Any]] = [(value, None)]
+        while left:
+            part, inside = left.pop()
+            if inside is None:
+                if type(part) in SCALARS or id(part) in self._costs:
+                    self._check_open(part)
+                    continue
+                inside = self._parts_of(part)
+                reader: Any = self._held()
+                reader.pay(STEP * (1 + len(inside)))
+                self._costs[id(part)] = (part, (-1, 0))  # (as long as it is open)
+                left.append((part, inside))
+                left += [(it, None) for it in inside]
+            else:
+                self._costs[id(part)] = (part, self._sum(inside))
+        return self._of(value)
+
+    def _check_open(self, part: Any) -> None:
+        if self._of(part)[0] < 0:
+            raise Misused("a value that is copied or shown contains itself")
+
+    def _sum(self, inside: Iterable[Any]) -> _Cost:
+        size, levels = 1, 0
+        for it in inside:
+            own, deep = self._of(it)
+            size, levels = min(size + own, MOST + 1), max(levels, deep)
+        return size, min(levels + 1, DEEPEST + 1)
+
+    def _of(self, part: Any) -> _Cost:
+        return (1, 0) if type(part) in SCALARS else self._costs[id(part)][1]
+
+    def _parts_of(self, part: Any) -> List[Any]:
+        """What a hash, or for other values anything, may look at."""
+        if self._are_keys:
+            if isinstance(part, slice):
+                return [part.start, part.stop, part.step]
+            if isinstance(part, tuple):
+                return list(tuple.__iter__(part))
+            return list(frozenset.__iter__(part)) if isinstance(part, frozenset) else []
+        kind = type(part)
+        if isinstance(part, _NAMES):
+            return []
+        numpy: Any = sys.modules.get("numpy")
+        if numpy is not None and isinstance(part, (numpy.ndarray, numpy.generic)):
+            return part.ravel().tolist() if part.dtype.hasobject else []
+        if not isinstance(part, _ROWS) and (hasattr(kind, "__iter__") or hasattr(kind, "__getitem__")):
+            raise Misused(f"a {kind.__name__} is given for a plain value")
+        return [it for it in gc.get_referents(part) if not isinstance(it, _NAMES)]
+
+
+def keys_of(reader: Reader, keys: Iterable[Any]) -> None:
+    """Judges what becomes keys, which are hashed again and again."""
+    total = 0
+    for key in keys:
+        total += 1
+        if type(key) not in SCALARS:
+            total += reader.keys.weigh(key)
+    reader.pay(total)
+
+
+def values(reader: Reader, given: Any) -> None:
+    """Judges values of any kind that a function looks through, copies or shows."""
+    reader.pay(Scales(reader, False).weigh(given))
