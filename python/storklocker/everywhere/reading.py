@@ -158,6 +158,9 @@ def _standing(name: str, front: Any) -> Any:
         return stand_in(name == "loads", front, plain.__self__, doc.encode())
     if plain.__module__ == pickle.__name__ and name in ("load", "loads"):  # as under PyPy
         front = _FRONTS["_" + name]
-    for each in ("__name__", "__qualname__", "__module__", "__doc__"):
+    for each in ("__name__", "__qualname__", "__module__", "__doc__", "__annotations__"):
         setattr(front, each, getattr(plain, each))
+    # (the pickle may be named before 3.9)
+    code, count = front.__code__, plain.__code__.co_posonlyargcount
+    front.__code__ = code.replace(co_posonlyargcount=min(count, code.co_posonlyargcount))
     return front
