@@ -172,7 +172,7 @@ impl PickleRow {
         ensures earlier { self.new.earlier ≡ length session.new.machine.imports }
     {
         self.pickles += 1;
-        let restarted = session.restart(self.memo, &mut self.apart);
+        let restarted = session.restart(self.alloc, self.memo, &mut self.apart);
         self.earlier = session.imported();
         let Ok(()) = restarted else {
             return Err(Refusal {
@@ -224,8 +224,8 @@ impl PickleRow {
         ensures imports { result.imports ≡ drop self.now.earlier session.old.machine.imports }
     {
         let NoWithImports { no, imports } = session.refuse_with_imports(
-            refusal.at,
-            refusal.reason,
+            self.alloc,
+            refusal,
             self.earlier,
         );
         RefusedPickle {

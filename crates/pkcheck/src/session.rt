@@ -28,6 +28,7 @@ use pkops::{Inst, Limits, Op, Reason, Refusal};
 use pkread::{Frames, Head, Next, Reader, Source, frame_argument, lend};
 use std::alloc::{AllocError, Global};
 use std::marker::Model;
+use std::mem;
 
 /// The frame rules and the machine of a check. If the frame rules refuse an instruction, the
 /// machine stays unchanged.
@@ -281,7 +282,12 @@ impl Session {
     }
 
     /// Continues at the first instruction of another pickle of a row, with no frame open.
-    pub fn restart(&mut self, memo: Memo, apart: &mut ImportTable) -> Result<(), AllocError>
+    pub fn restart(
+        &mut self,
+        alloc: Global,
+        memo: Memo,
+        apart: &mut ImportTable,
+    ) -> Result<(), AllocError>
         requires { self.old.machine.refused ≡ None }
         ensures next { OnOk result (self.new ≡ record {
           frame = 0;
@@ -291,25 +297,46 @@ impl Session {
             ≡ moved_apart memo apart.old.asked self.old.machine.imports) }
         ensures kept { OnErr result (self.new ≡ self.old) }
     {
-        self.machine.restart(memo, apart)?;
-        self.frames = Frames::new();
-        Ok(())
+        match self.take_machine(alloc).into_next(memo, apart) {
+            Ok(next) => {
+                self.machine = next;
+                self.frames = Frames::new();
+                Ok(())
+            }
+            Err(same) => {
+                self.machine = same;
+                Err(AllocError)
+            }
+        }
     }
 
-    /// The refusal of a pickle at this offset, for this reason, with the imports before the offset,
+    /// Moves the machine out, and leaves another in its place.
+    fn take_machine(&mut self, alloc: Global) -> Machine
+        ensures machine { result ≡ self.old.machine }
+        ensures frame { self.new.frame ≡ self.old.frame }
+    {
+        mem::replace(&mut self.machine, Machine::new(alloc, &Limits::STANDARD))
+    }
+
+    /// This refusal of a pickle, with the pair that is off the list, and the imports before it
     /// apart from so many earlier ones. This ends the session. By value it would need a stack slot,
     /// which the compiler clears at the start of every check.
     #[inline(never)]
-    pub fn refuse_with_imports(&mut self, at: u64, reason: Reason, earlier: usize) -> NoWithImports
-        ensures no { IsNoAt at reason self.old.machine.off result.no }
+    pub fn refuse_with_imports(
+        &mut self,
+        alloc: Global,
+        refusal: Refusal,
+        earlier: usize,
+    ) -> NoWithImports
+        ensures no { IsNoAt refusal.at refusal.reason self.old.machine.off result.no }
         ensures imports { result.imports ≡ drop earlier self.old.machine.imports }
     {
         let mut imports = self.machine.take_imports();
         imports.skip(earlier);
         let no = No {
-            at,
-            reason,
-            pair: self.machine.take_off_list(),
+            at: refusal.at,
+            reason: refusal.reason,
+            pair: self.take_machine(alloc).into_off_list(),
         };
         NoWithImports { no, imports }
     }

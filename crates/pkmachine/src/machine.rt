@@ -1,6 +1,6 @@
 //! The symbolic machine, which knows what holds in every run and executes nothing.
 
-ghost use Rattle.std.specs.Prelude.{◌≡◌, option_map, is_some, IfOk, IsTrue};
+ghost use Rattle.std.specs.Prelude.{◌≡◌, option_map, is_some, IfErr, IfOk, IsTrue};
 ghost use Rattle.std.specs.Prelude.{[], None, false, true, OnErr, OnOk};
 ghost use Rattle.pkmachine.specs.declared.old_strings.OldStrings.TheVariants as OldStrings;
 ghost use Rattle.pkops.specs.Inst.{instruction_of};
@@ -29,7 +29,6 @@ use pklist::laws::bounded_names;
 use pkops::{Inst, Limits, Op, Reason};
 use std::alloc::{AllocError, Global};
 use std::marker::Model;
-use std::mem;
 
 /// A machine that follows the instructions of a pickle and knows what is true in every run of it,
 /// whatever its operations answer. It executes nothing. It knows nothing about objects that
@@ -237,10 +236,26 @@ impl Machine {
         }
     }
 
-    /// Continues at the first instruction of another pickle. With a fresh memo it moves the imports
-    /// to `apart`, after those already there, and forgets everything else. With a kept memo it only
-    /// clears the stack, in constant time, because the memo may refer to any text.
-    pub fn restart(&mut self, memo: Memo, apart: &mut ImportTable) -> Result<(), AllocError>
+    /// The machine at the first instruction of another pickle, or this one if an allocation was
+    /// refused. With a fresh memo it moves the imports to `apart`, after those already there, and
+    /// forgets everything else. With a kept memo it only clears the stack, in constant time,
+    /// because the memo may refer to any text.
+    pub fn into_next(self, memo: Memo, apart: &mut ImportTable) -> Result<Machine, Machine>
+        requires { self.refused ≡ None }
+        ensures next { IfOk result (λ next. next ≡ restarted memo self) }
+        ensures apart { OnOk result (apart.new.asked
+            ≡ moved_apart memo apart.old.asked self.imports) }
+        ensures kept { IfErr result (λ same. same ≡ self) }
+    {
+        let mut machine = self;
+        match machine.restart(memo, apart) {
+            Ok(()) => Ok(machine),
+            Err(_) => Err(machine),
+        }
+    }
+
+    /// Continues at the first instruction of another pickle.
+    fn restart(&mut self, memo: Memo, apart: &mut ImportTable) -> Result<(), AllocError>
         requires { self.old.refused ≡ None }
         ensures next { OnOk result (self.new ≡ restarted memo self.old) }
         ensures apart { OnOk result (apart.new.asked
@@ -271,14 +286,11 @@ impl Machine {
         self.state.take_imports(self.config.alloc)
     }
 
-    /// Moves out the pair that was off the list. The machine then begins again.
-    pub fn take_off_list(&mut self) -> Option<Asked>
-        ensures off { option_map asked_shown result ≡ self.old.off }
-        ensures again { self.new ≡ fresh self.old.old_strings self.old.limits }
+    /// The pair that was off the list.
+    pub fn into_off_list(self) -> Option<Asked>
+        ensures { option_map asked_shown result ≡ self.off }
     {
-        let config = self.config;
-        let fresh = Machine::new_as(config.alloc, &config.limits, config.old_strings);
-        let Machine { off, .. } = mem::replace(self, fresh);
+        let Machine { off, .. } = self;
         off
     }
 
