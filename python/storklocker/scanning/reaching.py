@@ -26,12 +26,18 @@ mark, and a line without a line feed.
 """
 
 
+ALL_STOP = (Reason.UnknownOpcode, Reason.UnsupportedProtocol)
+"""Those at which there are no exceptions."""
+
+
 def reached(
     source: Source, begin: int, at: int, reason: Optional[Reason], budget: Budget
 ) -> Followed:
     """What a reader may get to in the pickle that begins at a place, which the checker refuses at
     another for this reason. All imports are told of a pickle of no more than `STEPS` instructions.
     """
+    if at == begin and reason in ALL_STOP:
+        return Followed({}, False, at, True, 0)
     found = followed_from(source, begin)
     budget.spend(found.steps + (found.end - begin) // LOOKED_AT)
     if found.is_complete or found.steps <= STEPS or found.end > at:

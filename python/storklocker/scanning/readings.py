@@ -160,11 +160,12 @@ def all_asked() -> Callable[[str, Source], Sequence[Tuple[str, Reading]]]:
 def examine(place: Place) -> Found:
     """All readings of a file or a member. Returns whether any reader takes it."""
     reports = place.budget.reports
-    place.budget.spend(12 * STEP)
     takers: List[str] = []
     if place.depth < 0:
         raise TooMuch(f"containers are more than {DEPTH} deep in one another")
-    for name, reading in all_asked()(place.path, place.source):
+    asked = all_asked()(place.path, place.source)
+    place.budget.spend(2 * STEP * (1 + len(asked)))
+    for name, reading in asked:
         if (yield from reading(place)):
             takers.append(name)
     for it in foreign_of(place.path, place.source):

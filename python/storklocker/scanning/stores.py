@@ -22,7 +22,7 @@ from .budget import LOOKED_AT, STEP, Budget
 from .dangers import is_harmful, is_suspect, suspect_heads
 from .marks import HDF5, LMDB
 from .names import NOTHING, imports_within
-from .reaching import reached
+from .reaching import ALL_STOP, reached
 from .readings import Found, Piece, Place, Reading, is_text
 from .source import BLOCK, Source, in_memory
 from .spelled import LENGTHS, is_module
@@ -75,8 +75,6 @@ _MAGICS: Dict[str, List[Tuple[int, Tuple[bytes, ...]]]] = {
     "Parquet": [(0, (b"PAR1",))],
 }
 """Where each format has one of which bytes."""
-_ALL_STOP = (Reason.UnknownOpcode, Reason.UnsupportedProtocol)
-"""Reasons at which no reader goes on."""
 _LEFT = ("GDBM", "LMDB")
 _SCHEMA = re.compile(rb"ARROW:schema.{0,16}?([A-Za-z0-9+/]{64,}={0,2})", re.DOTALL)
 """Where a Parquet file has the schema of Arrow, which may hold pickles."""
@@ -280,7 +278,7 @@ def imports_at(source: Source, at: int, budget: Budget) -> _Imports:
         if not is_cut:
             break
         size *= 16
-    if found.verdict.reason in _ALL_STOP:
+    if found.verdict.reason in ALL_STOP:
         return _Imports(*found, 0)
     beyond = reached(source, at, at + found.verdict.at, found.verdict.reason, budget)
     names = {**found.names, **beyond.names}

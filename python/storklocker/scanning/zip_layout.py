@@ -7,6 +7,7 @@ the end record, nothing follows that, and the members fill the file from its fir
 
 from __future__ import annotations
 
+import re
 import struct
 from typing import Any, Iterator, List, NamedTuple, Optional
 
@@ -17,11 +18,15 @@ _LOCATOR = struct.Struct("<4sLQL")
 _END64 = struct.Struct("<4sQ2H2L4Q")
 _CENTRAL = struct.Struct("<4s2B5H3L5H2L")
 _LOCAL = struct.Struct("<4s5H3L2H")
-END, LOCAL = b"PK\x05\x06", b"PK\x03\x04"
+END, LOCAL, _CENTRAL_MARK = b"PK\x05\x06", b"PK\x03\x04", b"PK\x01\x02"
 END_SIZE = _END.size
 _TAIL = END_SIZE + (1 << 16)
 _ENDS = 8
 """The most end records that are looked at."""
+_COMMENT, _COMMIT = 40, re.compile(rb"[0-9a-f]{40}")
+"""The comment of `git archive`, which no reader takes for a record."""
+_PREFIX = 1 << 24
+"""The longest program in front of a zip file that is looked through for headers."""
 _NONE16, _NONE32 = (1 << 16) - 1, (1 << 32) - 1
 _DESCRIBED = 8
 """The flag of a member whose sizes stand behind its data."""
@@ -76,7 +81,9 @@ def directories(source: Source) -> Iterator[Directory]:
 
 def _directories_at(source: Source, at: int) -> Iterator[Directory]:
     _, disk, first, here, count, size, start, comment = _END.unpack(source.read(at, _END.size))
-    fault = "bytes follow its end record" if at + _END.size < source.size or comment else ""
+    behind = source.read(at + _END.size, _COMMENT + 1)
+    is_right = not behind and not comment or comment == _COMMENT and _COMMIT.fullmatch(behind)
+    fault = "" if is_right else "bytes follow its end record"
     if disk or first or here != count:
         fault = "it is one of several disks"
     plain = Directory(at, at, start, size, count, fault)
@@ -115,7 +122,7 @@ def entries(source: Source, start: int, found: Directory) -> Iterator[Entry]:
     at, end = start, start + found.size
     while at + _CENTRAL.size <= end:
         record = source.read(at, _CENTRAL.size)
-        if len(record) < _CENTRAL.size or record[:4] != b"PK\x01\x02":
+        if len(record) < _CENTRAL.size or record[:4] != _CENTRAL_MARK:
             return
         (_, _, _, _, flags, method, _, _, crc, packed, size, names, extras, comments, disk, _, _,
          offset) = _CENTRAL.unpack(record)
@@ -167,22 +174,36 @@ def local_at(source: Source, at: int) -> Optional[Local]:
     return Local(_with_extra(entry, extra), at + _LOCAL.size + names + extras)
 
 
-def fault_of(source: Source, found: Directory, members: List[Entry]) -> str:
-    """Why readers differ about a zip file; an empty text if they agree."""
+def fault_of(source: Source, found: Directory, listed: List[Entry]) -> str:
+    """Why readers differ about a zip file; an empty text if they agree. A program may stand in
+    front, from whose end on the offsets may count, if there is no header in it and no directory
+    where the offset would be without it.
+    """
     if found.fault:
         return found.fault
-    if found.start + found.size != found.meets:
+    shift = found.meets - found.size - found.start
+    if shift and (shift < 0 or source.read(found.start, len(_CENTRAL_MARK)) == _CENTRAL_MARK):
         return "its directory doesn't meet its end record"
-    if len(members) != found.members:
-        return f"its directory has {len(members)} members, not {found.members}"
-    ends = [entry.at for entry in members[1:]] + [found.start]
-    if ends and (members[0].at if members else found.start) != 0:
+    if len(listed) != found.members:
+        return f"its directory has {len(listed)} members, not {found.members}"
+    members = [entry._replace(at=entry.at + shift) for entry in listed] if shift else listed
+    ends = [entry.at for entry in members[1:]] + [found.start + shift]
+    begin = members[0].at if members else ends[0]
+    if begin and not _is_program(source, begin, bool(members)):
         return "its first bytes are of no member"
     for entry, end in zip(members, ends):
         fault = _member_fault(source, entry, end)
         if fault:
             return f"{entry.text[:80]!r}: {fault}"
     return ""
+
+
+def _is_program(source: Source, size: int, has_members: bool) -> bool:
+    """Whether a zip file may begin behind so many bytes, in which no reader sees another one."""
+    front = source.read(0, min(size, _PREFIX + 1))
+    is_other = front[:2] in (b"#!", b"MZ", b"\x7fE", b"\xfe\xed", b"\xcf\xfa", b"\xca\xfe")
+    is_whole = len(front) == size <= _PREFIX
+    return has_members and is_other and is_whole and LOCAL not in front and END not in front
 
 
 def _member_fault(source: Source, entry: Entry, end: int) -> str:
