@@ -28,6 +28,9 @@ PyObject *loads_type(void);
    after an error. */
 int set_loads(PyObject *guard, PyObject *const lists[2], PyObject *reader, int is_judging);
 
+/* Says what `is_judged` asks of the names in new and old pickles that this guard accepts. */
+void set_numbers(PyObject *guard, PyObject *const numbers[2]);
+
 /* Adds the class of the audit hook of installed guards to the module. Returns -1 after an error. */
 int add_audit_hook(PyObject *module);
 
