@@ -228,6 +228,15 @@ static PyObject *begin_loads(PyObject *module, PyObject *args) {
     return set_loads(guard, lists, reader, is_judging) == 0 ? Py_BuildValue("") : NULL;
 }
 
+static PyObject *begin_judging(PyObject *module, PyObject *args) {
+    const struct state *state = PyModule_GetState(module);
+    PyObject *guard, *numbers[2];
+    if (!PyArg_ParseTuple(args, "O!OO", state->loads, &guard, &numbers[0], &numbers[1]))
+        return NULL;
+    set_numbers(guard, numbers);
+    return Py_BuildValue("");
+}
+
 static PyObject *imports(PyObject *module, PyObject *const *given, Py_ssize_t count) {
     struct request r;
     struct storklocker_verdict v;
@@ -270,6 +279,8 @@ static PyMethodDef methods[] = {
     {"begin_loads", begin_loads, METH_VARARGS,
      "Says what `loads` of a guard checks new and old pickles with, or None, what it loads with,\n"
      "and whether a pickle with imports is judged while it is loaded."},
+    {"begin_judging", begin_judging, METH_VARARGS,
+     "Says what `loads` of a guard asks to find out whether a pickle needs another reader."},
     {"pairs_of", pairs_of, METH_VARARGS, "Pairs of a subclass, from its pairs and settings."},
     {"walked", walked, METH_VARARGS, "Where whole instructions end, and whether with STOP."},
     {"holds", holds, METH_VARARGS, "Whether one of the texts of a tuple stands in the bytes."},

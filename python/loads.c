@@ -19,6 +19,7 @@ typedef struct {
     PyObject *receiver;      /* its first argument, borrowed from the reader */
     PyObject *collector;     /* the module `gc` if it collects while a reader reads, or null */
     int is_judging;     /* whether pickles with imports are judged while they are loaded */
+    PyObject *numbers[2]; /* what `is_judged` asks of the names of such pickles, or null */
 } Loads;
 
 /* The second number of the version, of which the first is 3. */
@@ -40,12 +41,17 @@ static int loads_traverse(PyObject *self, visitproc visit, void *arg) {
         Py_VISIT(Py_TYPE(self));
     Py_VISIT(own->lists[0]);
     Py_VISIT(own->lists[1]);
+    Py_VISIT(own->numbers[0]);
+    Py_VISIT(own->numbers[1]);
     return 0; /* the reader refers to no guard */
 }
 
 static int loads_clear(PyObject *self) {
-    Py_CLEAR(((Loads *)self)->lists[0]);
-    Py_CLEAR(((Loads *)self)->lists[1]);
+    Loads *own = (Loads *)self;
+    for (int k = 0; k < 2; k++) {
+        Py_CLEAR(own->lists[k]);
+        Py_CLEAR(own->numbers[k]);
+    }
     return 0;
 }
 
@@ -53,13 +59,22 @@ static void loads_dealloc(PyObject *self) {
     Loads *own = (Loads *)self;
     PyTypeObject *type = Py_TYPE(self);
     PyObject_GC_UnTrack(self);
-    Py_CLEAR(own->lists[0]);
-    Py_CLEAR(own->lists[1]);
+    loads_clear(self);
     Py_CLEAR(own->reader);
     Py_CLEAR(own->names);
     Py_CLEAR(own->collector);
     ((freefunc)PyType_GetSlot(type, Py_tp_free))(self);
     Py_DECREF(type);
+}
+
+void set_numbers(PyObject *guard, PyObject *const numbers[2]) {
+    Loads *own = (Loads *)guard;
+    for (int k = 0; k < 2; k++) {
+        PyObject *before = own->numbers[k];
+        Py_INCREF(numbers[k]);
+        own->numbers[k] = numbers[k];
+        Py_XDECREF(before);
+    }
 }
 
 static void find_function(Loads *own) {
@@ -161,7 +176,8 @@ static int is_old(PyObject *data) {
 
 static PyObject *loads(PyObject *self, PyObject *const *given, Py_ssize_t count, PyObject *names) {
     const Loads *own = (const Loads *)self;
-    PyObject *list = own->lists[count == 1 && is_old(given[0])];
+    int which = count == 1 && is_old(given[0]);
+    PyObject *list = own->lists[which];
     if (list == NULL || count != 1 || names != NULL || !PyBytes_CheckExact(given[0])) {
         PyObject *method = PyObject_GetAttrString(self, "_loads");
         PyObject *made = called(method, given, count, names);
@@ -170,10 +186,17 @@ static PyObject *loads(PyObject *self, PyObject *const *given, Py_ssize_t count,
     }
     Py_INCREF(list); /* the guard may get another one while a long check runs without the GIL */
     int is_judging = own->is_judging;
+    PyObject *number_of = which == 0 ? own->numbers[0] : NULL;
+    Py_XINCREF(number_of);
     uint64_t imports;
     PyObject *no = refusal_of(list, given[0], &imports), *made = NULL;
     Py_DECREF(list);
-    if (no == Py_None && is_judging && imports > 0)
+    if (no == Py_None && is_judging && imports > 0 && number_of != NULL)
+        is_judging = is_judged(given[0], number_of);
+    Py_XDECREF(number_of);
+    if (is_judging < 0)
+        Py_CLEAR(no);
+    else if (no == Py_None && is_judging && imports > 0)
         made = PyObject_CallMethod(self, "_loads_accepted", "O", given[0]);
     else if (no == Py_None) /* what imports nothing can't call anything */
         made = imports > 0 ? loaded(own, given[0]) : loaded_at_once(own, given[0]);

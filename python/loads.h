@@ -32,6 +32,9 @@ int set_loads(PyObject *guard, PyObject *const lists[2], PyObject *reader, int i
    `pickle.loads`: of the function that it calls, the module `_pickle` and its doc as bytes. */
 PyObject *stand_in(PyObject *self, PyObject *words);
 
+/* Says what `is_judged` asks of the names in new and old pickles that this guard accepts. */
+void set_numbers(PyObject *guard, PyObject *const numbers[2]);
+
 /* Adds the class of the audit hook of installed guards to the module. Returns -1 after an error. */
 int add_audit_hook(PyObject *module);
 

@@ -430,6 +430,7 @@ static int followed_all(struct uses *u) {
         if (effects[code] & CHANGES && !note(&u->changes, at))
             return FAILED;
         u->changes.is_more |= code == 'b';
+        u->is_named |= code == 'i'; /* which imports by itself */
         if (is == DONE && (is = followed_one(u, code, last)) != DONE
             && (is == FAILED || u->fault != ABSENT))
             return is;
@@ -437,6 +438,11 @@ static int followed_all(struct uses *u) {
         last = effects[code] == IS_PUT ? last : at;
     }
     return is_stopped ? is : LOST;
+}
+
+/* What a reader has to judge in the pickle: 0 nothing, 1 objects, 2 what its names stand for. */
+static int judged_in(const struct uses *u, int is) {
+    return is != DONE || u->is_named ? 2 : u->changes.is_more;
 }
 
 PyObject *uses(PyObject *Py_UNUSED(module), PyObject *args) {
@@ -460,8 +466,27 @@ PyObject *uses(PyObject *Py_UNUSED(module), PyObject *args) {
     PyMem_Free(u.changes.bytes);
     PyMem_Free(u.changes.calls);
     Py_DECREF(u.real);
-    int is_changed = is != DONE || u.is_named || u.changes.is_more;
     return pieces == NULL ? NULL : Py_BuildValue(
-        "NOinO", pieces, is == DONE ? Py_True : Py_False, (int)name_of(u.fault),
-        u.fault != ABSENT ? (Py_ssize_t)place_of(u.fault) : -1, is_changed ? Py_True : Py_False);
+        "NOini", pieces, is == DONE ? Py_True : Py_False, (int)name_of(u.fault),
+        u.fault != ABSENT ? (Py_ssize_t)place_of(u.fault) : -1, judged_in(&u, is));
+}
+
+int is_judged(PyObject *data, PyObject *number_of) {
+    struct uses u = {.fault = ABSENT, .number_of = number_of};
+    if ((u.kept = PyMem_Calloc(1, sizeof *u.kept)) == NULL || (u.real = PyList_New(0)) == NULL) {
+        PyMem_Free(u.kept);
+        PyErr_NoMemory();
+        return -1;
+    }
+    u.bytes = (const uint8_t *)PyBytes_AsString(data);
+    u.length = (size_t)PyBytes_Size(data);
+    int is = followed_all(&u);
+    PyMem_Free(u.stack);
+    PyMem_Free(u.changes.bytes);
+    PyMem_Free(u.changes.calls);
+    PyMem_Free(u.kept->memo);
+    PyMem_Free(u.kept->dicts);
+    PyMem_Free(u.kept);
+    Py_DECREF(u.real);
+    return is == FAILED ? -1 : judged_in(&u, is);
 }

@@ -29,7 +29,7 @@ PyObject *followed(PyObject *module, PyObject *args);
    whether BUILD may take what the pickle hasn't made. The number is 0 where only what the name
    makes is judged. Returns what the reader is given in place of the pickle; whether it got to STOP;
    the number of a name that is a value and can't be real, or 0 of what can't be changed, and its
-   place, or -1; and whether another reader would do something else.
+   place, or -1; and what a reader has to judge: 0 nothing, 1 objects, 2 what names stand for.
 
    The reader is given the whole instructions up to STOP, also those that it can't get to: BUILD as
    TUPLE2 BINPERSID, BINPERSID as TUPLE1 BINPERSID, no frames, where a value becomes the real
@@ -39,6 +39,9 @@ PyObject *followed(PyObject *module, PyObject *args);
    bytes, and the begin and end of what counts of them. Long ones are the bytes of the pickle. */
 PyObject *begin_uses(PyObject *module, PyObject *args);
 PyObject *uses(PyObject *module, PyObject *args);
+
+/* What a reader has to judge in a pickle, as `uses` says it, or -1 after an error. */
+int is_judged(PyObject *data, PyObject *number_of);
 
 /* The library's number of the layout of an opcode's argument: its bytes; 16 for each line; or 64
    and the bytes of the count before a payload. 0 if no opcode has the code. */

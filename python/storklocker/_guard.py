@@ -7,6 +7,7 @@ from . import _names
 from ._answers import Refused, Verdict
 from ._limits import Limits, flag, number
 from ._lists import AllowList, has_substitutes, settings_of
+from ._plain import loads as plain_loads
 from ._storklocker import Loads, begin_loads, verdict
 
 TYPE_CHECKING = False
@@ -31,16 +32,6 @@ def _later(module: str) -> "Any":
     from importlib import import_module
 
     return import_module(f"{__package__}.{module}")
-
-
-def plain_loads(data: bytes, is_old: bool, **named: "Any") -> "Any":
-    """`pickle.loads`, which imports each pair of an old pickle under its Python 3 name. `pickle`
-    goes by the current protocol, which another PROTO could change.
-    """
-    if is_old and data.find(b"\x80", 2 if data[:1] == b"\x80" else 0) >= 0:
-        renaming: Any = _later("_unpickler").loads_renaming
-        return renaming(data, fix_imports=False, **named)
-    return _loads(data, fix_imports=is_old, **named)
 
 
 def _view_of(data: "Any") -> memoryview:
@@ -108,6 +99,7 @@ class Guard(Loads):
         "_new",
         "_old",
         "_unpickler",
+        "_quick",
         # (PyPy gives the base class one)
         *(() if hasattr(Loads, "__weakref__") else ("__weakref__",)),
     )
@@ -141,6 +133,7 @@ class Guard(Loads):
         self._new = allow._for_loading()._under(settings)
         self._old = allow._for_old_names()._under(settings) if fix_imports else self._new
         self._unpickler: Optional[Type[GuardedUnpickler]] = None
+        self._quick: Optional[Callable[[bytes], Any]] = None
         lists = (None, None) if old_strings == "bytes" else (self._new, self._old)
         begin_loads(self, *lists, _loads, len(allow) > 0)
 
@@ -218,6 +211,10 @@ class Guard(Loads):
 
     def _loads_accepted(self, data: bytes, is_accepted: bool = True) -> "Any":
         """`loads` of a pickle that is accepted, or loaded all the same."""
+        if self._quick is not None and is_accepted:
+            made = self._quick(data)
+            if made is not self._quick:
+                return made
         return self._loaded(data, *self._decoding(None, None), None, is_accepted)
 
     def load(
@@ -384,6 +381,8 @@ class Guard(Loads):
         if not (len(self._allow) if is_accepted else self._has_substitutes):
             return plain_loads(data, is_old, **words)
         its: Any = _later("_substitutes")
+        if self._quick is None:
+            its.begin(self)
         how = its.Judged(is_old, self._takes_any)
         if self._on_refusal is None:
             return its.loads(data, self._allow, how, **words)

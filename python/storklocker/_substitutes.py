@@ -32,9 +32,10 @@ from . import (
     _arrays, _builtins, _calls, _collections, _compiled, _names, _of_packages, _random
 )
 from ._answers import Misused
-from ._guard import _later, plain_loads
+from ._guard import _later
 from ._lists import AllowList
 from ._objects import found
+from ._plain import loads as plain_loads
 from ._states import build, judge_made
 from ._substitute import Substitute
 from ._weighing import Scales
@@ -221,6 +222,16 @@ class _Renaming(Reader):
         return super().find_class(*_names.renamed((module, name)))
 
 
+def begin(guard: Any) -> None:
+    """Has a guard find out by itself whether a pickle needs a reader of these, from the second
+    pickle on.
+    """
+    if not declared(guard._allow):
+        _later("_uses").begin(guard)
+        if guard._on_refusal is None and guard._old_strings == "unknown" and not guard._takes_any:
+            guard._quick = _later("_judging").quick
+
+
 def loads(data: bytes, allow: AllowList, how: Judged, **named: Any) -> Any:
     """The object of a pickle that is accepted under the list."""
     if named == _DEFAULTS:
@@ -228,9 +239,11 @@ def loads(data: bytes, allow: AllowList, how: Judged, **named: Any) -> Any:
     uses: Uses = _later("_uses").Uses(declared(allow), frozenset())
     uses.takes_any = how.takes_any
     pieces = uses.respelled(data, 0, how.is_old)
-    if uses.is_changed:
+    if not uses.judges:
+        return plain_loads(data, how.is_old, **named)
+    if uses.judges > 1 or named or how.is_old or how.takes_any:
         return (_Renaming if how.is_old else Reader)(allow, uses, **named).read(pieces)
-    return plain_loads(data, how.is_old, **named)
+    return _later("_judging").judged(pieces)
 
 
 def named(module: str, name: str, allow: AllowList) -> Any:

@@ -13,8 +13,8 @@ from typing import Any, Dict, FrozenSet, List, Mapping, Optional, Tuple
 
 from . import _names
 from ._answers import Misused
-from ._guard import _loads
-from ._storklocker import begin_uses, uses
+from ._guard import Guard, _loads
+from ._storklocker import begin_judging, begin_uses, uses
 from ._objects import found
 from ._substitute import IS_JUDGED, IS_WRAPPER, Substitute
 from ._substitutes import Piece, substitute_of
@@ -46,6 +46,8 @@ class _Numbers:
         return number + role * _MOST
 
 
+NOTHING, OBJECTS, NAMES = 0, 1, 2
+"""What is judged while a pickle is loaded, as `walk.h` has it."""
 _UNNAMED = IS_JUDGED * _MOST
 """The role of a class without a substitute, and of what calls one, of which objects are judged."""
 _MAKERS = frozenset((("copyreg", "__newobj__"), ("copyreg", "__newobj_ex__")))
@@ -58,7 +60,7 @@ _ROOM = _MOST // 2
 class Uses:
     """Follows the pickles that one reader loads."""
 
-    __slots__ = ("is_whole", "is_changed", "takes_any", "_own", "_kept", "_numbers", "_is_old")
+    __slots__ = ("is_whole", "judges", "takes_any", "_own", "_kept", "_numbers", "_is_old")
 
     def __init__(
         self,
@@ -68,8 +70,8 @@ class Uses:
     ) -> None:
         self.is_whole = True
         """Whether each instruction of the last pickle was followed."""
-        self.is_changed = True
-        """Whether something of the last pickle is judged while it is loaded."""
+        self.judges = NAMES
+        """What of the last pickle is judged while it is loaded."""
         self.takes_any = False
         """Whether BUILD may take what the pickle hasn't made."""
         self._own: Dict[Pair, int] = {}
@@ -89,7 +91,7 @@ class Uses:
         number_of = self._number_of
         if self._numbers is _SHARED:
             number_of = _shared_old if is_old else _shared_new
-        pieces, self.is_whole, number, place, self.is_changed = uses(
+        pieces, self.is_whole, number, place, self.judges = uses(
             self._kept, data, at, number_of, self.takes_any
         )
         if place >= 0 and number == 0:
@@ -111,6 +113,12 @@ class Uses:
         """
         pair, role = _asked(module, name, self._is_old)
         return self._numbers.number(pair, self._own.get(pair, role))
+
+
+def begin(guard: Guard) -> None:
+    """Has a guard find out by itself whether a pickle needs another reader than that of `pickle`.
+    """
+    begin_judging(guard, _shared_new, _shared_old)
 
 
 @functools.lru_cache(maxsize=4096)
