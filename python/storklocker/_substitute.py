@@ -110,8 +110,12 @@ class Class(Substitute):
         super().__init__(name, call or functools.partial(_refuse, name), BECOMES_REAL)
         self._kind, self._news = kind, news
 
-    def new(self, *given: Any) -> Any:
+    def judge_new(self, given: Tuple[Any, ...]) -> None:
+        """Refuses what NEWOBJ isn't given by picklers."""
         self._news(self.name, given)
+
+    def new(self, *given: Any) -> Any:
+        self.judge_new(given)
         kind = self.real()
         return kind.__new__(kind, *given)
 

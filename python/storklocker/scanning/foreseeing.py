@@ -15,12 +15,14 @@ import sys
 from typing import Any, Dict, List, NamedTuple, Optional, Tuple
 
 from .._answers import Misused
-from .._lists import AllowList
+from .._lists import AllowList, has_substitutes
 from .._names import are_old, renamed
 from .._objects import found
 from .._storklocker import walked
-from .._substitute import Substitute
-from .._substitutes import TABLE, Reader, _by_object
+from .._of_packages import PACKAGES
+from .._states import HAS_ITEMS, HAS_STATE
+from .._substitute import Class, Substitute
+from .._substitutes import TABLE, Reader, _for_object
 from .._types import Kind
 from .._uses import Uses, named_by
 from .dangers import is_in_shipped_list
@@ -36,8 +38,12 @@ _MOST = 10_000_000
 _MAKING = ("attrgetter", "methodcaller")
 """Substitutes of a list that import nothing to judge what they are given. What they make is called
 by nobody here."""
-_OPEN = ("numpy", "operator", "_operator", "types")
-"""Packages whose classes and functions may make arrays, types, modules or functions."""
+_OPEN = frozenset(("numpy", "operator", "_operator", "types", "torch", *PACKAGES))
+"""Packages whose classes and functions may make arrays, types, modules or functions, or objects
+whose states a guard judges by what they hold.
+"""
+_ONE = (("pytz", "_UTC"),)
+"""Classes of which there is one object."""
 _LAST_WORDS = frozenset(name for _, name in TABLE)
 _ATOMS = frozenset((type(None), bool, int, float, complex, str, bytes, bytearray))
 _HELD = frozenset((tuple, list, set, frozenset))
@@ -78,12 +84,17 @@ def foreseen(source: Source, most: int, allow: AllowList) -> Foreseen:
     return worst
 
 
+def is_loaded(data: bytes, allow: AllowList) -> bool:
+    """Whether a guard with this list loads a pickle whose names and costs it permits."""
+    return _of_one(data, allow).fate is Fate.LOADED
+
+
 def _of_one(data: bytes, allow: AllowList) -> Foreseen:
     """What a guard does with one pickle. Strings of Python 2 are decoded as its reader would."""
     for encoding in ("ASCII", "latin-1"):
         reader = _Foreseer(allow, are_old(data), encoding)
         try:
-            reader.loaded(data, 0, False)
+            reader.foresee(data)
         except UnicodeDecodeError:
             continue
         except Misused as error:
@@ -150,13 +161,25 @@ class _Watched(Substitute):
         self._reader, self._is_kept = reader, is_kept
 
     def __call__(self, *given: Any) -> Any:
-        reader = self._reader
         if self.name == "copyreg._reconstructor" and _is_wrapper(given[:1]):
             return given[0].__new__(given[0])  # as old protocols make it
-        if not reader.knows(given):
-            return reader.put_off(f"{self.name} is given what only a load makes")
+        if not self._reader.knows(given):
+            return self._put_off()
         made = self._call(*given)
         return made if self._is_kept else _UNKNOWN
+
+    def new(self, *given: Any) -> Any:
+        own: Any = self._call
+        if not self._reader.knows(given):
+            return self._put_off()
+        if not isinstance(own, Class):
+            return own.new(*given)
+        own.judge_new(given)
+        module, _, name = self.name.rpartition(".")
+        return self._reader.named((module, name)).__new__(None)
+
+    def _put_off(self) -> Any:
+        return self._reader.put_off(f"{self.name} is given what only a load makes")
 
 
 class _ForeseenUses(Uses):
@@ -183,10 +206,17 @@ class _Foreseer(Reader):
         super().__init__(allow, encoding=encoding, buffers=itertools.repeat(_UNKNOWN))
         self._is_old = is_old
         self._uses = _ForeseenUses(self)
+        self._uses.takes_any = allow.build == "any" and not has_substitutes(allow)
         self._named: Dict[Pair, Named] = {}
         self._steps = 0
         self.late = ""
         """Why it is undecided, if it is."""
+
+    def foresee(self, data: bytes) -> None:
+        """Reads one pickle, if a guard judges anything of it while it is loaded."""
+        pieces = self._uses.respelled(data, 0, False)
+        if self._uses.judges:
+            self.read(pieces)
 
     def put_off(self, why: str) -> Answer:
         """What something answers that isn't judged here."""
@@ -203,7 +233,7 @@ class _Foreseer(Reader):
         import numpy  # noqa: F401 # (raises ImportError, where nothing of it is known)
 
         it = found(*pair) if pair[0] in sys.modules else None
-        return _by_object().get(id(it))
+        return _for_object(it)
 
     def find_class(self, module: str, name: str, /) -> Any:
         pair = module, name
@@ -213,27 +243,33 @@ class _Foreseer(Reader):
         within = substitute.within(self)
         if isinstance(within, Kind):
             return within
-        if pair in self.own and substitute.name not in _MAKING:
+        is_imported = pair[0].partition(".")[0] in PACKAGES and not isinstance(substitute, Class)
+        if is_imported or pair in self.own and substitute.name not in _MAKING:
             return _PutOff(substitute, self)
         return _Watched(within, self, pair not in self.own)
 
-    def _stand_in(self, pair: Pair) -> Any:
+    def named(self, pair: Pair) -> Named:
+        """What stands for a name."""
         if pair not in self._named:
             held = {"__slots__": (), "pair": pair, "__getinitargs__": None}
             self._named[pair] = Named("Named", (Answer,), held)
-        if pair[1].rpartition(".")[2] in _LAST_WORDS:
-            self.put_off(f"{pair[0]}.{pair[1]} may be what a guard substitutes")
         return self._named[pair]
 
+    def _stand_in(self, pair: Pair) -> Any:
+        if pair[1].rpartition(".")[2] in _LAST_WORDS:
+            self.put_off(f"{pair[0]}.{pair[1]} may be what a guard substitutes")
+        return self.named(pair)
+
     def persistent_load(self, asked: Any, /) -> Any:
-        # (no variable has the receiver, because references to a type of NumPy are counted)
-        if type(asked) is tuple and len(asked) == 2:
-            if isinstance(asked[0], (Named, Answer)):
+        # (no variable has the receiver, because references to it are counted)
+        if type(asked) is tuple and len(asked) > 1 and isinstance(asked[0], (Named, Answer)):
+            if len(asked) == 2 or type(asked[2]) is int and asked[2] & (HAS_STATE | HAS_ITEMS):
                 if not _is_own(asked[0]):
-                    self.put_off(f"BUILD is on what {_told(asked[0])}")
+                    self.put_off(f"a state or items are for what {_told(asked[0])}")
+            if len(asked) == 2 or type(asked[2]) is int:
                 return asked[0]
-            if not self.knows(asked[1]):
-                raise _Late("the state of an array has what only a load makes")
+        if type(asked) is tuple and len(asked) == 2 and not self.knows(asked[1]):
+            raise _Late("the state of an array has what only a load makes")
         return super().persistent_load(asked)
 
     def persistent(self, number: Any) -> Any:
@@ -272,6 +308,8 @@ class _PutOff(Substitute):
     def __call__(self, *given: Any) -> Any:
         return self._reader.put_off(f"{self.name} judges what it is given when it is loaded")
 
+    new = __call__
+
 
 def _is_wrapper(given: Tuple[Any, ...]) -> bool:
     """Whether this is joblib's wrapper of arrays, for which a guard has a class of its own."""
@@ -301,7 +339,9 @@ def _is_own(receiver: Any) -> bool:
     nothing of NumPy.
     """
     pair: Optional[Pair] = receiver.pair
-    if isinstance(receiver, Named) or pair is None or pair[0].partition(".")[0] in _OPEN:
+    if isinstance(receiver, Named) or pair is None or pair in _ONE:
+        return False
+    if pair[0].partition(".")[0] in _OPEN:
         return False
     return bool(receiver.is_bare or pair in WRAPPERS or is_in_shipped_list(*pair))
 

@@ -9,7 +9,7 @@ import re
 from typing import TYPE_CHECKING, BinaryIO, Dict, Iterator, List, NamedTuple, Optional, Tuple
 
 from .._hints import hint_of
-from .._lists import AllowList, has_substitutes, within
+from .._lists import AllowList, within
 from .budget import STEP, UNPACKED, Budget, TooMuch
 from .costs import COUNTED, bill_of, cost_finding
 from .dangers import import_findings
@@ -90,7 +90,7 @@ def lone_report(path: str, data: bytes, question: Question) -> Optional[Report]:
     sha256 = _sha256(source) if question.with_sha256 else ""
     report = Report(path, "pickle", status, why, size, sha256, 1, imports, file=path)
     findings = list(told.findings)
-    if imports and question.allow is not None and has_substitutes(question.allow):
+    if imports and question.allow is not None:
         report = _foreseen(report, [(source, 1)], question.allow, findings)
     return judged(report, findings) if findings else report
 
@@ -226,7 +226,7 @@ def _judged(piece: Piece, row: Row, question: Question, place: Place) -> Report:
         0 if no is None else no.at,
         place.path,
     )
-    if status is Word.ACCEPTED and row.names and allow is not None and has_substitutes(allow):
+    if status is Word.ACCEPTED and row.names and allow is not None:
         held = [(source, max(row.pickles, 1)) for source in row.sources]
         report = _foreseen(report, held, allow, findings)
     return judged(_raw(report, row.raw, findings) if row.raw else report, findings)

@@ -6,7 +6,7 @@ import functools
 import io
 from typing import NamedTuple, Optional, Tuple
 
-from .._lists import AllowList, has_substitutes, settings_of, within
+from .._lists import AllowList, settings_of, within
 from .._pairs import records
 from .._storklocker import imports
 from .costs import with_costs
@@ -39,7 +39,6 @@ class Lone:
     def __init__(self, allow: Optional[AllowList]) -> None:
         self.allow, listed = allow, NOTHING if allow is None else allow
         self._is_limited = limits_costs(listed)
-        self._is_foreseen = allow is not None and has_substitutes(allow)
         limits = within(limits_under(allow, BLOCK), listed.limits)
         assert limits is not None
         # (whatever the list says of BUILD, what an import answers is not to be changed)
@@ -68,14 +67,21 @@ class Lone:
             return 0, None
         verdict, wanted, room = imports(data, NOTHING, self._settings, _ROOM)
         told = self._known(room[:wanted], data[:2]) if verdict and wanted <= _ROOM else None
-        if told is None or not self.is_quiet(told):
+        if told is None or not self.is_quiet(told, data[: verdict.taken]):
             return 0, None
         return verdict.taken, told
 
-    def is_quiet(self, told: Told) -> bool:
-        """Whether nothing in it is known to do harm, or is judged by what it is given."""
-        is_foreseen = self._is_foreseen and bool(told.imports)
-        return not is_foreseen and all(it.severity == NOTE for it in told.findings)
+    def is_quiet(self, told: Told, data: bytes) -> bool:
+        """Whether nothing in a pickle of which this is told is known to do harm, and a guard with
+        the list loads it.
+        """
+        if any(it.severity != NOTE for it in told.findings):
+            return False
+        if self.allow is None or not told.imports:
+            return True
+        from .foreseeing import is_loaded  # most scans have no need of it
+
+        return is_loaded(data, self.allow)
 
     def _judged(self, room: bytes, front: bytes) -> Optional[Told]:
         """What is to be told of these encoded imports of a pickle that begins so; None if one isn't

@@ -50,7 +50,7 @@ class Values:
         data = source.front()
         told = self._lone.told(place.path, data)
         self._budget.spend(STEP + len(data) // LOOKED_AT)
-        if told is None or not self._lone.is_quiet(told):
+        if told is None or not self._lone.is_quiet(told, data):
             return False
         return self._kept(source.size, told) > 0
 
