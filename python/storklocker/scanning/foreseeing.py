@@ -264,7 +264,7 @@ class _Foreseer(Reader):
         # (no variable has the receiver, because references to it are counted)
         if type(asked) is tuple and len(asked) > 1 and isinstance(asked[0], (Named, Answer)):
             if len(asked) == 2 or type(asked[2]) is int and asked[2] & (HAS_STATE | HAS_ITEMS):
-                if not _is_own(asked[0]):
+                if not (_is_own(asked[0]) or self.takes_any):
                     self.put_off(f"a state or items are for what {_told(asked[0])}")
             if len(asked) == 2 or type(asked[2]) is int:
                 return asked[0]
