@@ -12,6 +12,7 @@ import sys
 import zlib
 from typing import Any, Callable, NamedTuple, Optional, Tuple, Type
 
+from .budget import STEP
 from .readings import Answer, Found, Nothing, Place, Reading, examine
 from .source import BLOCK, Source, in_memory
 
@@ -118,6 +119,11 @@ def _reading(form: _Format, start: Callable[[bytes], int] = lambda front: 0) -> 
         if gap > 0:  # where some readers stop
             first = place.inside("", unpacked.part(0, gap), form.name)
             is_taken |= yield from _without_nothing(examine(first))
+        if form.goes_on_at:
+            joined = _joined_streams(place)
+            if joined.getvalue() not in (b"", _whole(unpacked)):
+                other = place.inside("", in_memory(joined), form.name, True)
+                is_taken |= yield from _without_nothing(examine(other))
         is_meant = _is_meant(unpacked) or gap >= 0 and _is_usual(front)
         is_taken |= form.is_certain or bool(fault) and is_meant
         if fault and is_taken:
@@ -177,6 +183,26 @@ def _unpacked(place: Place, at: int, form: _Format) -> Tuple[Source, str, int]:
             fault = "something else is packed behind it: readers differ"
         if at > found.end or not (form.is_certain and is_same):
             gap = out.tell() if gap <= 0 else gap
+
+
+def _joined_streams(place: Place) -> io.BytesIO:
+    """What `lzma` unpacks: each stream begins where the last one ends, also one of zeros."""
+    source, out, at = place.source, io.BytesIO(), 0
+    while source.size - at >= _LZMA_HEADER:
+        make, taken = _lzma(source.read(at, 32))
+        found = unpack(source, at + taken, make, place.budget.spend_bytes)
+        place.budget.spend(3 * STEP)
+        out.write(found.data.getbuffer())
+        if found.fault:
+            break
+        at = found.end
+        zeros = behind_zeros(source, at) - at
+        at += max(0, zeros // _EMPTY - 1) * _EMPTY  # each is a stream of nothing
+    return out
+
+
+def _whole(source: Source) -> bytes:
+    return source.read(0, source.size)
 
 
 def behind_zeros(source: Source, at: int) -> int:
@@ -247,7 +273,8 @@ def _zlib(kind: int) -> Callable[[bytes], _Begun]:
     return lambda front: _Begun(lambda: zlib.decompressobj(kind))
 
 
-_LZMA_HEADER = 14
+_LZMA_HEADER, _EMPTY = 14, 18
+"""The bytes that a stream has at least, and those of one that unpacks to nothing."""
 _BZIP2 = re.compile(rb"BZh[1-9](1AY&SY|\x17rE8P\x90)")
 GZIP, ZLIB = 31, 15
 """What zlib calls its formats."""
