@@ -10,7 +10,7 @@ from unittest import mock
 
 from common import OBJECTS, SEEDS
 from storklocker import AllowList, Limits
-from storklocker.scanning import judging
+from storklocker.scanning import budget, judging
 from storklocker.scanning.condensing import condensed
 from storklocker.scanning.files import File
 from storklocker.scanning.judging import Question, reports_of
@@ -67,9 +67,10 @@ def both(data, allow, path="file"):
     def said():
         return list(condensed(reports_of(path, io.BytesIO(data), Question(allow, True))))
 
-    with mock.patch.object(judging.Lone, "told", lambda *_: None):
-        long = said()
-    return said(), long
+    with mock.patch.object(budget, "SECONDS", 10_000):  # a slow machine reads all of it too
+        with mock.patch.object(judging.Lone, "told", lambda *_: None):
+            long = said()
+        return said(), long
 
 
 class Short(unittest.TestCase):
