@@ -278,7 +278,7 @@ class Guard(Loads):
 
     def _judge(self, data: bytes) -> Verdict:
         """The verdict on the pickle at the front of `data`."""
-        return verdict(data, self._listed_for(data), None)
+        return verdict(data, self._listed_for(data) if type(data) is bytes else self._new, None)
 
     def _decoding(self, encoding: "Optional[str]", errors: "Optional[str]") -> "Tuple[str, str]":
         """The encoding and errors for Python 2 strings: those of `old_strings`, or if that is

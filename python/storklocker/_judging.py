@@ -10,7 +10,7 @@ import io
 import pickle
 import sys
 import weakref
-from typing import Any, Dict, FrozenSet, List, Tuple
+from typing import Any, Dict, FrozenSet, List, cast
 
 from . import _arrays
 from ._names import are_old
@@ -18,7 +18,7 @@ from ._states import (
     _ALONE, _COUNTS, _OWN, _SHARED, _TELLING, HAS_STATE, _has_own, _set_state_of, build, judge_made
 )
 from ._storklocker import begin_uses, uses
-from ._substitutes import Feed, Piece
+from ._substitutes import Feed, Piece, Reader
 from ._uses import OBJECTS, _shared_new
 
 _SMALL = 1 << 13
@@ -28,7 +28,7 @@ _DICTS = frozenset(("own", "unbuilt", "types", "states", "errors"))
 
 
 class Judging(pickle.Unpickler):
-    """Loads an accepted pickle that is respelled."""
+    """Loads an accepted pickle that is respelled. It stands for a `Reader` where it is judged."""
 
     takes_any = False
     looked = 0
@@ -41,7 +41,7 @@ class Judging(pickle.Unpickler):
         return made
 
     def persistent_load(self, asked: Any, /) -> Any:
-        # (no variable has the object, because references to it are counted)
+        # (no variable has the object: references to it are counted)
         if type(asked) is not tuple or len(asked) < 2:
             raise pickle.UnpicklingError(
                 "A load persistent id instruction was encountered, "
@@ -53,16 +53,12 @@ class Judging(pickle.Unpickler):
             if not (asked[2] == HAS_STATE and is_plain or kind in _OF_ITEMS) or not (
                 _references(asked[0]) == _ALONE and _weak_references(asked[0]) == 0
             ):
-                judge_made(self, asked)
-        elif not is_plain:
-            self._build(asked)
-        elif type(asked[1]) is not dict or not _is_set(asked[0], asked[1]):
-            build(self, asked[0], asked[1])
+                judge_made(cast(Reader, self), asked)
+        elif not is_plain or type(asked[1]) is not dict or not _is_set(asked[0], asked[1]):
+            own = cast(Reader, self)
+            if "numpy" not in sys.modules or not _arrays.is_built(own, asked):
+                build(own, asked[0], asked[1])
         return asked[0]
-
-    def _build(self, asked: Tuple[Any, ...]) -> None:
-        if "numpy" not in sys.modules or not _arrays.is_built(self, asked):
-            build(self, asked[0], asked[1])
 
     def copied_memo(self) -> Dict[int, Any]:
         """A copy of the memo."""
@@ -135,7 +131,8 @@ def judged(pieces: List[Piece]) -> Any:
     """The object of a pickle that its uses have respelled."""
     data, begin, end = pieces[0]
     if len(pieces) == 1 and begin == 0 and end == len(data) < _SMALL:
-        return Judging(io.BufferedReader(io.BytesIO(data)), fix_imports=False).load()
+        file: Any = io.BytesIO(data)
+        return Judging(io.BufferedReader(file), fix_imports=False).load()
     feed = Feed()
     feed.fill(pieces)
     return Judging(feed, fix_imports=False).load()

@@ -304,8 +304,8 @@ class Follows(unittest.TestCase):
                       (kept_, "N.", 0, len, False)):
             with self.subTest(given=given), self.assertRaises((TypeError, ValueError)):
                 uses(*given)
-        self.assertEqual(uses(kept_, b"N.", -1, len, False), ([], False, 0, -1, True))
-        self.assertEqual(uses(kept_, b"N.", 5, len, False), ([], False, 0, -1, True))
+        self.assertEqual(uses(kept_, b"N.", -1, len, False), ([], False, 0, -1, 2))
+        self.assertEqual(uses(kept_, b"N.", 5, len, False), ([], False, 0, -1, 2))
         with self.assertRaises(ZeroDivisionError):
             uses(kept_, b"ca\nb\n.", 0, lambda *given: 1 // 0, False)
 
@@ -315,11 +315,11 @@ class Follows(unittest.TestCase):
         for second in (b"h\0.", b"N" * 2000 + b"h\0."):
             kept_ = begin_uses()
             number_of = lambda *given: 1 + 3 * 1024  # (two roles, which no name has at once)
-            self.assertEqual(uses(kept_, first, 0, number_of, False)[1:], (True, 0, -1, True))
+            self.assertEqual(uses(kept_, first, 0, number_of, False)[1:], (True, 0, -1, 2))
             told = uses(kept_, second, 0, number_of, False)
-            self.assertEqual(told, ([], False, 1, len(first) - 8, True))
+            self.assertEqual(told, ([], False, 1, len(first) - 8, 2))
             told = uses(kept_, first + second, len(first), number_of, False)
-            self.assertEqual(told, ([], False, 1, len(first) - 8, True))
+            self.assertEqual(told, ([], False, 1, len(first) - 8, 2))
 
     @unittest.skipIf(sys.implementation.name == "pypy", "PyPy shows no such lists")
     def test_places_that_are_changed_meanwhile(self):

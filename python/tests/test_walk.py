@@ -186,7 +186,7 @@ class Respelled(unittest.TestCase):
         for fault in (b"R", b"h\5", b"t", b"\x93", b"u"):
             data = b"\x80\x04" + fault + b"NNb" * 3 + b"NQ."
             told = uses(begin_uses(), data, 0, len, False)
-            self.assertEqual(told[1:], (False, 0, -1, True))
+            self.assertEqual(told[1:], (False, 0, -1, 2))
             self.assertEqual(respelled(data), b"\x80\x04" + fault + b"NN\x86Q" * 3 + b"N\x85Q.")
 
     def test_long_stretches_are_lent(self):
