@@ -136,10 +136,8 @@ def _hooks(name: str, given: Any) -> None:
         raise wrong(name)
 
 
-def _tensor(reader: Reader, *given: Any) -> Any:
-    """A tensor within its storage."""
-    import torch._utils
-
+def judge_tensor(given: Tuple[Any, ...]) -> None:
+    """Refuses a tensor that isn't within its storage."""
     name = "_rebuild_tensor_v2"
     if len(given) not in (6, 7) or not isinstance(given[4], bool):
         raise wrong(name)
@@ -154,6 +152,13 @@ def _tensor(reader: Reader, *given: Any) -> Any:
     if 0 not in size and last >= storage.size() or len(size) > 64:
         raise wrong(name)
     _hooks(name, given[5])
+
+
+def _tensor(reader: Reader, *given: Any) -> Any:
+    """A tensor within its storage."""
+    import torch._utils
+
+    judge_tensor(given)
     return torch._utils._rebuild_tensor_v2(*given)
 
 

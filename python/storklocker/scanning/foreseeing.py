@@ -19,9 +19,9 @@ from .._lists import AllowList, has_substitutes
 from .._names import are_old, renamed
 from .._objects import found
 from .._storklocker import walked
-from .._of_packages import PACKAGES
+from .._of_packages import PACKAGES, judge_tensor
 from .._states import HAS_ITEMS, HAS_STATE
-from .._substitute import Class, Substitute
+from .._substitute import Class, Substitute, Value
 from .._substitutes import TABLE, Reader, _for_object
 from .._types import Kind
 from .._uses import Uses, named_by
@@ -42,6 +42,9 @@ _OPEN = frozenset(("numpy", "operator", "_operator", "types", "torch", *PACKAGES
 """Packages whose classes and functions may make arrays, types, modules or functions, or objects
 whose states a guard judges by what they hold.
 """
+_IMPORTED, _MADE = frozenset(("torch", *PACKAGES)), (Class, Value)
+"""Packages whose functions are judged when a guard has imported them, and what is judged before."""
+_TENSORS = ("torch._utils", "_rebuild_tensor_v2")
 _ONE = (("pytz", "_UTC"),)
 """Classes of which there is one object."""
 _LAST_WORDS = frozenset(name for _, name in TABLE)
@@ -168,6 +171,11 @@ class _Watched(Substitute):
         made = self._call(*given)
         return made if self._is_kept else _UNKNOWN
 
+    def real(self) -> Any:
+        """The object, of a module that is there; what stands for others."""
+        module, _, name = self.name.rpartition(".")
+        return super().real() if module in sys.modules else self._reader.named((module, name))
+
     def new(self, *given: Any) -> Any:
         own: Any = self._call
         if not self._reader.knows(given):
@@ -243,7 +251,9 @@ class _Foreseer(Reader):
         within = substitute.within(self)
         if isinstance(within, Kind):
             return within
-        is_imported = pair[0].partition(".")[0] in PACKAGES and not isinstance(substitute, Class)
+        if pair == _TENSORS and pair not in self.own:
+            return _Tensors(substitute)
+        is_imported = pair[0].partition(".")[0] in _IMPORTED and not isinstance(substitute, _MADE)
         if is_imported or pair in self.own and substitute.name not in _MAKING:
             return _PutOff(substitute, self)
         return _Watched(within, self, pair not in self.own)
@@ -273,7 +283,8 @@ class _Foreseer(Reader):
         return super().persistent_load(asked)
 
     def persistent(self, number: Any) -> Any:
-        return _UNKNOWN
+        is_storage = type(number) is tuple and len(number) == 5 and number[0] == "storage"
+        return _Storage(number[4]) if is_storage and type(number[4]) is int else _UNKNOWN
 
     def knows(self, given: Any) -> bool:
         """Whether all of these values is what a guard's reader would have here."""
@@ -294,6 +305,32 @@ class _Foreseer(Reader):
             if self._steps > _MOST:
                 raise _Late("it has too many values to look through")
         return True
+
+
+class _Storage(Answer):
+    """A storage of PyTorch."""
+
+    __slots__ = ("_count",)
+
+    def __init__(self, count: int) -> None:
+        self._count = count
+
+    def size(self) -> int:
+        """How many numbers it has. The reader of a checkpoint asks whether the file has as many."""
+        return self._count
+
+
+class _Tensors(Substitute):
+    """Judges tensors without PyTorch."""
+
+    __slots__ = ()
+
+    def __init__(self, own: Substitute) -> None:
+        super().__init__(own.name, own, own.role)
+
+    def __call__(self, *given: Any) -> Answer:
+        judge_tensor(given)
+        return Answer(None)
 
 
 class _PutOff(Substitute):
