@@ -164,7 +164,7 @@ class _Watched(Substitute):
         self._reader, self._is_kept = reader, is_kept
 
     def __call__(self, *given: Any) -> Any:
-        if self.name == "copyreg._reconstructor" and _is_wrapper(given[:1]):
+        if self.name == "copyreg._reconstructor" and (_is_wrapper(given[:1]) or _is_plain(given)):
             return given[0].__new__(given[0])  # as old protocols make it
         if not self._reader.knows(given):
             return self._put_off()
@@ -200,7 +200,7 @@ class _ForeseenUses(Uses):
         self._reader = reader
 
     def _number_of(self, module: bytes, name: bytes) -> int:
-        pair = named_by(module, name, False)
+        pair = named_by(module, name, self._reader.is_old)
         own = self._own.get(pair)
         substitute = self._reader.substitute_for(pair)
         role = None if substitute is None else substitute.role
@@ -212,7 +212,8 @@ class _Foreseer(Reader):
 
     def __init__(self, allow: AllowList, is_old: bool, encoding: str) -> None:
         super().__init__(allow, encoding=encoding, buffers=itertools.repeat(_UNKNOWN))
-        self._is_old = is_old
+        self.is_old = is_old
+        """Whether its names are those of Python 2."""
         self._uses = _ForeseenUses(self)
         self._uses.takes_any = allow.build == "any" and not has_substitutes(allow)
         self._named: Dict[Pair, Named] = {}
@@ -234,8 +235,6 @@ class _Foreseer(Reader):
     def substitute_for(self, pair: Pair) -> Optional[Substitute]:
         """The substitute for a name, if it has one, found without importing anything but NumPy."""
         own = self.own.get(pair) or TABLE.get(pair)
-        if own is None and self._is_old:  # a guard may load it by its name in Python 3
-            own = TABLE.get(renamed(pair))
         if own is not None or pair[0].partition(".")[0] != "numpy":
             return own
         import numpy  # noqa: F401 # (raises ImportError, where nothing of it is known)
@@ -244,7 +243,7 @@ class _Foreseer(Reader):
         return _for_object(it)
 
     def find_class(self, module: str, name: str, /) -> Any:
-        pair = module, name
+        pair = renamed((module, name)) if self.is_old else (module, name)
         substitute = self.substitute_for(pair)
         if substitute is None:
             return self._stand_in(pair)
@@ -346,6 +345,15 @@ class _PutOff(Substitute):
         return self._reader.put_off(f"{self.name} judges what it is given when it is loaded")
 
     new = __call__
+
+
+def _is_plain(given: Tuple[Any, ...]) -> bool:
+    """Whether old protocols make an object of a class that is no subclass of a container."""
+    named = [it.pair if isinstance(it, Named) else it for it in given]
+    return len(named) == 3 and type(named[0]) is tuple and named[1:] == [_OBJECT, None]
+
+
+_OBJECT = ("builtins", "object")
 
 
 def _is_wrapper(given: Tuple[Any, ...]) -> bool:
