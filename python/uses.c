@@ -344,20 +344,23 @@ static int followed_one(struct uses *u, uint8_t code, size_t last) {
         return made(u, code, index, below);
     if (effect & MOVES)
         return moved(u, code, below);
-    if (code == 'o' && index < u->size) /* a class that OBJ calls isn't to become real */
-        u->stack[index] |= kind_of(u->stack[index]) == NAME ? MASK(1) : 0;
+    if (code == 'o' && index < u->size && kind_of(u->stack[index]) == NAME)
+        index++; /* the name that OBJ calls isn't to become real */
     int is = use_from(u, index, below);
     is = is == DONE && effect & STAYS && !are_there(u, 1) ? LOST : is;
     return is == DONE && !(effect & KEEPS) ? push(u, code == 'l' ? LIST : OTHER) : is;
 }
 
-/* Whether a reader is given an instruction in other words: also NEWOBJ of a name, and one that puts
-   items into an object which may be another one than a list, a dict or a set of the pickle. */
+/* Whether a reader is given an instruction in other words: also one that makes an object of a name,
+   or puts items into one which may be another than a list, a dict or a set of the pickle. */
 static int is_changed(const struct uses *u, uint8_t code, int is) {
     size_t below = u->size;
     unsigned kind = code == 'a' || code == 'e' ? LIST : code == 0x90 ? SET : DICT;
-    if (code == 0x81) /* of a name: a substitute is no class */
-        return is == DONE && below > 1 && kind_of(u->stack[below - 2]) == NAME;
+    size_t class = code == 0x81 ? 2 : code == 0x92 ? 3 : 0; /* a substitute is none */
+    if (class > 0)
+        return is == DONE && below >= class && kind_of(u->stack[below - class]) == NAME;
+    if (code == 'o' && is == DONE && (below = last_mark(u) + 1) < u->size)
+        return kind_of(u->stack[below]) == NAME;
     if (code == 'a' || code == 's')
         below = u->size - (code == 'a' ? 1 : 2);
     else if (code == 'e' || code == 'u' || code == 0x90)

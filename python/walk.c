@@ -111,10 +111,11 @@ static void put_stretch(struct writing *w, size_t begin, size_t end) {
 }
 
 /* Instructions in other words, behind their length. */
-static const char words[256][6] = {
+static const char words[256][7] = {
     [FRAME] = "\0", ['b'] = "\2\x86Q", ['Q'] = "\2\x85Q", ['s'] = "\4\x86\x88\x87Q",
     ['u'] = "\4t\x88\x87Q", ['a'] = "\4\x85\x89\x87Q", ['e'] = "\4t\x89\x87Q",
-    [0x90] = "\4t)\x87Q", [0x81] = "\3]\x87Q"};
+    [0x90] = "\4t)\x87Q", [0x81] = "\3]\x87Q", ['o'] = "\5tN]\x87Q",
+    [0x92] = "\5\x87\x88]\x87Q"};
 
 /* Writes the instructions between two places. A real object comes before what changes there. */
 static void write_pieces(
