@@ -236,7 +236,7 @@ static int change(struct uses *u, slot s, uint8_t how) {
 
 /* Calls an object with arguments, or makes an object of a class with them. */
 static int call(struct uses *u, slot called, slot words, uint8_t code) {
-    unsigned role = role_of(u, called), how = kind_of(called) == NAME && code == 0x81 ? IS_NEW : 0;
+    unsigned role = role_of(u, called), how = kind_of(called) == NAME && code != 'R' ? IS_NEW : 0;
     int is_new = code != 'R';
     int is_known = kind_of(called) == GIVEN || kind_of(called) == NAME;
     int is_wrapper = is_new ? (role & WRAPS) != 0 : kind_of(words) == WRAPPER;
@@ -390,14 +390,17 @@ static int followed_one(struct uses *u, uint8_t code, size_t last) {
         return made(u, code, index, below);
     if (effect & MOVES)
         return moved(u, code, below);
-    if (code == 'o' && index < u->size) /* a class that OBJ calls isn't to become real */
-        u->stack[index] |= kind_of(u->stack[index]) == NAME ? MASK(1) : 0;
+    unsigned how = OF_JUDGED;
+    if (code == 'o' && index < u->size && kind_of(u->stack[index]) == NAME) {
+        index++; /* the name that OBJ calls isn't to become real */
+        how |= IS_NEW;
+    }
     int is = use_from(u, index, below);
     is = is == DONE && effect & STAYS && !are_there(u, 1) ? LOST : is;
     if (is == DONE && (code == 'a' || code == 'e' || code == 0x90))
         is = change(u, u->stack[u->size - 1], HAS_ITEMS);
     if (is == DONE && (code == 'i' || code == 'o'))
-        return push_made(u, OF_JUDGED, 0);
+        return push_made(u, how, 0);
     return is == DONE && !(effect & KEEPS) ? push(u, is_given(code) ? GIVEN : OTHER) : is;
 }
 

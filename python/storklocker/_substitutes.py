@@ -292,7 +292,18 @@ def _lent_by(buffers: Iterable[Any], lent: Dict[int, Any]) -> Iterator[Any]:
 
 
 def _new(kind: Any, given: Any) -> Any:
-    """What NEWOBJ makes of a class, or of what stands for it."""
+    """What NEWOBJ makes of a class, or of what stands for it; OBJ or NEWOBJ_EX, if these are all in
+    a tuple.
+    """
+    if given is None:
+        kind, *given = kind
+        if given or not isinstance(kind, (Substitute, type)):
+            return kind(*given)
+        given = ()
+    elif given is True:
+        kind, given, words = kind
+        if words != {}:
+            raise Misused(f"NEWOBJ_EX of {kind!r:.80} with words")
     if type(given) is not tuple or not isinstance(kind, (Substitute, type)):
         raise pickle.UnpicklingError("NEWOBJ class argument must be a type")
     if isinstance(kind, Substitute):

@@ -90,7 +90,8 @@ class Scales:
             return []
         numpy: Any = sys.modules.get("numpy")
         if numpy is not None and isinstance(part, (numpy.ndarray, numpy.generic)):
-            return part.ravel().tolist() if part.dtype.hasobject else []
+            held: List[Any] = part.ravel().tolist() if part.dtype.hasobject else []
+            return held
         if not isinstance(part, _ROWS) and (hasattr(kind, "__iter__") or hasattr(kind, "__getitem__")):
             raise Misused(f"a {kind.__name__} is given for a plain value")
         return [it for it in gc.get_referents(part) if not isinstance(it, _NAMES)]

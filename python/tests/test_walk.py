@@ -16,9 +16,9 @@ except ImportError:  # (PyPy has none)
 
 import storklocker
 from common import SEEDS
-from storklocker._builtins import TABLE
-from storklocker._lists import SUBSTITUTED
 from storklocker._storklocker import begin_uses, holds, uses, walked
+from storklocker._substituted import NAMES, PACKAGES
+from storklocker._substitutes import TABLE, substitute_of
 
 LENT = 1 << 14
 
@@ -215,8 +215,12 @@ class Respelled(unittest.TestCase):
 
 class Listed(unittest.TestCase):
     def test_the_names_that_always_have_substitutes(self):
-        self.assertEqual(set(SUBSTITUTED), set(TABLE))
-        for pair in SUBSTITUTED:
+        said = {(module, name) for module in NAMES for name in NAMES[module].split()}
+        for pair in TABLE.keys() - said:
+            self.assertIn(pair[0].partition(".")[0], PACKAGES)
+        for pair in said - TABLE.keys():
+            self.assertIsNotNone(substitute_of(pair), pair)
+        for pair in said | {("pandas", "DataFrame"), ("numpy.linalg", "norm")}:
             guard = storklocker.Guard(storklocker.AllowList([pair]))
             self.assertTrue(guard._has_substitutes)
         self.assertFalse(storklocker.Guard(storklocker.AllowList([("a", "b")]))._has_substitutes)
