@@ -79,6 +79,8 @@ REAL = b"NN\x87Q"
 """What has the reader put a real object in place of a name."""
 JUDGED = re.compile(b"NK[\1-\7]\x87Q")
 """What has the reader judge what a call has made."""
+MADE = {b"\x87\x88]\x87Q": b"\x92", b"tN]\x87Q": b"o", b"]\x87Q": b"\x81"}
+"""What has the reader make an object of what stands for a class, and in place of what."""
 NEW = {b"b": b"\x86Q", b"Q": b"\x85Q", b"\x95": b""}
 WIDTHS = {
     pickletools.TAKEN_FROM_ARGUMENT1: 1,
@@ -174,6 +176,8 @@ class Respelled(unittest.TestCase):
                     continue
                 spelled = respelled(data, 0, role)
                 plain = JUDGED.sub(b"", spelled.replace(REAL, b""))
+                for made, by in MADE.items():
+                    plain = plain.replace(made, by)
                 self.assertEqual(plain, JUDGED.sub(b"", in_other_words(data)), data)
                 real += REAL in spelled
                 lost += not told[1] and NEW[b"b"] in spelled

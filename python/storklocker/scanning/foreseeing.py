@@ -184,7 +184,8 @@ class _Watched(Substitute):
             return own.new(*given)
         own.judge_new(given)
         module, _, name = self.name.rpartition(".")
-        return self._reader.named((module, name)).__new__(None)
+        kind: Any = self._reader.named((module, name))
+        return kind.__new__(kind)
 
     def _put_off(self) -> Any:
         return self._reader.put_off(f"{self.name} is given what only a load makes")
