@@ -103,7 +103,7 @@ def judge_error(levels: _Levels, error: Any) -> None:
                 raise Misused(f"{kind!r:.80} has {value!r:.80} as its {name}")
     if issubclass(kind, UnicodeError):
         _judge_places(error)
-    levels.pop(id(error), None)
+    levels[id(error)] = (error, 0)  # (some have themselves as an argument)
     level = 1 + max(_levels_in(levels, value, LEVELS) for value in held)
     if level > LEVELS:
         raise Misused(f"more than {LEVELS} exceptions lie within one another")

@@ -191,3 +191,28 @@ class Reduced:
 
 
 STATUS = http.HTTPStatus.OK
+
+
+class Listing(Exception):
+    """An exception that has itself among its arguments and attributes."""
+
+    def __init__(self, why):
+        super().__init__(self, why)
+        self.why, self.listed, self.named = why, [self], {"me": (self,)}
+
+    def __reduce__(self):
+        return (Listing, (self.why,), {"label": self.why})
+
+
+LISTED = []
+
+
+class Registered:
+    """Is known to a list of its module, and to its own attributes."""
+
+    def __init__(self, name):
+        self.label, self.all = name, LISTED
+        LISTED.append(self)
+
+    def __reduce__(self):
+        return (Registered, (self.label,), {"label": self.label})

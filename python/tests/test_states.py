@@ -7,6 +7,7 @@ import enum
 import http
 import io
 import pickle
+import pickletools
 import re
 import signal
 import sys
@@ -193,6 +194,15 @@ class Changes(Case):
                 load(held)
             self.assertEqual(shop.Weak("a").label, "a")
 
+    @unittest.skipIf(IS_PYPY, "references aren't counted")
+    def test_what_its_own_attribute_shares(self):
+        data = pickle.dumps(shop.Registered("a"))
+        self.addCleanup(shop.LISTED.clear)
+        self.assertIs(pickle.loads(data), shop.LISTED[-1])
+        for load in self.loaders():
+            with self.assertRaises(Misused):
+                load(data)
+
     def test_a_member_wherever_references_are_not_counted(self):
         for what, (instructions, shown) in SHARED.items():
             if "member" in what or "flag" in what:
@@ -265,7 +275,7 @@ def honest():
     yield shop.Wrapper(shop.called)
     failure = shop.Failure("why", job)
     failure.label, failure.inner = (1, b"a", None), KeyError("b")
-    yield from (failure, [failure, failure])
+    yield from (failure, [failure, failure], shop.Listing("a"))
 
 
 class Honest(Case):
@@ -299,15 +309,9 @@ class Honest(Case):
 
 def shown(value):
     """What can be compared of a value."""
-    return re.sub("0x[0-9a-f]+", "", pickle_shown(value))
-
-
-def pickle_shown(value):
-    import pickletools
-
     out = io.StringIO()
     pickletools.dis(pickle.dumps(value, 4), out)
-    return out.getvalue()
+    return re.sub("0x[0-9a-f]+", "", out.getvalue())
 
 
 if __name__ == "__main__":
