@@ -12,18 +12,18 @@ import sys
 import weakref
 from typing import Any, Dict, FrozenSet, List, cast
 
-from . import _arrays
+from . import _compiled
 from ._names import are_old
 from ._states import (
     _ALONE, _COUNTS, _OWN, _SHARED, _TELLING, HAS_STATE, _has_own, _set_state_of, build, judge_made
 )
 from ._storklocker import begin_uses, uses
-from ._substitutes import Feed, Piece, Reader
+from ._substitutes import MOST_FREE, Feed, Piece, Reader
 from ._uses import OBJECTS, _shared_new
 
 _SMALL = 1 << 13
 """A pickle of fewer bytes is given to the reader at once."""
-_DICTS = frozenset(("own", "unbuilt", "types", "states", "errors"))
+_DICTS = frozenset(("own", "unbuilt", "types", "states", "errors", "lent"))
 """Attributes of a `Reader`, which are seldom needed."""
 
 
@@ -32,6 +32,8 @@ class Judging(pickle.Unpickler):
 
     takes_any = False
     looked = 0
+    _room = MOST_FREE
+    pay = Reader.pay
 
     def __getattr__(self, name: str) -> Dict[Any, Any]:
         if name not in _DICTS:
@@ -56,8 +58,9 @@ class Judging(pickle.Unpickler):
                 judge_made(cast(Reader, self), asked)
         elif not is_plain or type(asked[1]) is not dict or not _is_set(asked[0], asked[1]):
             own = cast(Reader, self)
-            if "numpy" not in sys.modules or not _arrays.is_built(own, asked):
+            if not _compiled.is_built(own, asked):
                 build(own, asked[0], asked[1])
+                _compiled.check(own, asked[0])
         return asked[0]
 
     def copied_memo(self) -> Dict[int, Any]:
@@ -91,7 +94,7 @@ def _is_plain(kind: Any) -> bool:
         and type(kind) is type
         and not issubclass(kind, tuple(_JUDGED))
         and kind.__flags__ & _IS_OF_PYTHON != 0
-        and not any(base.__module__.partition(".")[0] == "numpy" for base in kind.__mro__)
+        and not any(map(_compiled.is_of_package, kind.__mro__))
         and "__class__" not in {name for base in kind.__mro__[:-1] for name in vars(base)}
         and _has_own(kind)
         and _set_state_of(kind) is None
