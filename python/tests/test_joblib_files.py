@@ -1,6 +1,7 @@
 """`scan` on files of joblib, whose arrays stand raw between the instructions of a pickle."""
 
 import bz2
+import importlib.util
 import io
 import pathlib
 import pickle
@@ -99,8 +100,11 @@ class JoblibFiles(unittest.TestCase):
     def test_what_joblib_writes(self):
         for name, data in GOOD.items():
             (found,) = self.reports(data)
-            self.assertEqual((found.kind, found.status), ("joblib", "accepted"), name)
-            self.assertEqual(found.findings, (), name)
+            self.assertEqual(found.kind, "joblib", name)
+            if found.status != "undecided":
+                self.assertEqual((found.status, found.findings), ("accepted", ()), name)
+            elif importlib.util.find_spec("numpy") is not None:  # which its substitutes need
+                self.fail(f"{name}: {found.why}")
 
     def test_what_it_does_not_write(self):
         for name, data in HOSTILE.items():

@@ -67,13 +67,17 @@ def both(data, allow, path="file"):
     def said():
         return list(condensed(reports_of(path, io.BytesIO(data), Question(allow, True))))
 
-    with mock.patch.object(budget, "SECONDS", 10_000):  # a slow machine reads all of it too
-        with mock.patch.object(judging.Lone, "told", lambda *_: None):
-            long = said()
-        return said(), long
+    with mock.patch.object(judging.Lone, "told", lambda *_: None):
+        long = said()
+    return said(), long
 
 
 class Short(unittest.TestCase):
+    def setUp(self):
+        patience = mock.patch.object(budget, "SECONDS", 10_000)  # a slow machine reads all of it
+        patience.start()
+        self.addCleanup(patience.stop)
+
     def test_reports_are_those_of_the_long_way(self):
         for data in pickles():
             for allow in LISTS:
