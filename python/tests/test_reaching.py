@@ -53,7 +53,7 @@ class Stopping:
     """A reader that imports nothing."""
 
     def find_class(self, module, name):
-        if not module.replace(".", "").isidentifier():
+        if not module.replace(".", "").isidentifier() or not name.isidentifier():
             raise ImportError  # as it does of each name that no module has
         raise Reached
 

@@ -18,6 +18,7 @@ from .._names import RENAMED, modules_of, renamed
 from .known import HARMLESS, Known, Row
 from .report import LONGEST, Finding, Pair, shown
 from .severity import DANGER, WARNING
+from .spelled import is_module
 
 MOST = 100
 """The most findings of each kind on the names of one pickle. A further one counts the rest."""
@@ -81,6 +82,19 @@ def is_harmful(module: str, name: str) -> bool:
     """Whether a name is known to do harm."""
     row = judged(module, name)
     return row is not None and row.severity != HARMLESS
+
+
+def may_be_there(module: str, name: str) -> bool:
+    """Whether a module may have something of this name. A `__main__` needs none: its import runs
+    it.
+    """
+    is_name = all(word.isidentifier() for word in name.split("."))
+    return is_module(module) and (is_name or module.endswith("__main__"))
+
+
+def may_be_imported(module: str, name: str) -> bool:
+    """Whether a reader may get this from a module, or at least import one that leads to harm."""
+    return may_be_there(module, name) or is_module(module) and is_suspect(module)
 
 
 @functools.lru_cache(maxsize=4096)

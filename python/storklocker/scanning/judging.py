@@ -10,7 +10,7 @@ from typing import TYPE_CHECKING, BinaryIO, Dict, Iterator, List, NamedTuple, Op
 
 from .._hints import hint_of
 from .._lists import AllowList, within
-from .budget import STEP, UNPACKED, Budget, TooMuch
+from .budget import NAMES, STEP, UNPACKED, Budget, TooMuch
 from .costs import COUNTED, bill_of, cost_finding
 from .dangers import import_findings
 from .joblib_files import WRAPPER_NAMES, without_arrays
@@ -293,6 +293,8 @@ def _shown_names(
     kept: Dict["Names", Pair] = {}
     off = () if allow is None or row.refusal is None else filter(is_off, row.names)
     for both in itertools.chain(off, row.names):
+        if budget.names < 1 and len(row.names) > NAMES:
+            break  # a hostile file has very many
         pair = _text_of(both[0]), _text_of(both[1])
         if both not in kept and budget.spend_name(pair):
             kept[both] = pair

@@ -13,11 +13,11 @@ from .._lists import AllowList, settings_of
 from .._reasons import Reason
 from .budget import LOOKED_AT, STEP, Budget, TooMuch
 from .costs import COUNTED, KINDS, LIMITS, Exceeded, exceeded, exceeded_in_row, with_costs
+from .dangers import may_be_imported
 from .names import NOTHING, WIDEST, Imports, imports_within, limits_under
 from .names import named_today, refused_with
 from .reaching import READERS_STOP, reached
 from .readings import Piece, is_text
-from .spelled import is_module
 
 if TYPE_CHECKING:
     from .._limits import Limits
@@ -55,6 +55,7 @@ class Row:
     stop: the offset in the piece at which every reader stops in the refused one, perhaps behind the
         import that is there; -1 if one may go on.
     is_cut: whether it stops there because the bytes end.
+    is_misread: whether a reader reads other bytes than are shown.
     refused: the bytes of the refused one, and its offset.
     too_much: why the rest was not read.
     sources: the bytes with these pickles, one behind another; of joblib's files also those of
@@ -62,7 +63,7 @@ class Row:
     raw: why arrays that stand between the instructions could not be left out.
     """
 
-    is_complete, is_reached, is_cut = True, False, False
+    is_complete, is_reached, is_cut, is_misread = True, False, False, False
     refusal: Optional[Verdict] = None
     costly: Optional[Exceeded] = None
     costly_at = costly_number = 0
@@ -220,6 +221,7 @@ class Row:
         if beyond.is_ended or not beyond.is_complete:
             self.stop = -1
         self.is_cut = verdict.reason is Reason.Truncated
+        self.is_misread |= beyond.is_misread
         front = self._source.read(begin, 2)
         return (*names, *named_today(beyond.names, front))
 
@@ -233,8 +235,11 @@ class Row:
 
     def forget_impossible(self) -> None:
         """Leaves out the names from the first on that no module has: a reader stops there."""
-        for place, (module, _) in enumerate(self.names):
-            if module is not None and not is_module(module.decode("utf-8", "replace")):
+        for place, (module, name) in enumerate(self.names):
+            if module is None or name is None:
+                continue
+            texts = (it.decode("utf-8", "replace") for it in (module, name))
+            if not may_be_imported(*texts):
                 self.names = dict.fromkeys(itertools.islice(self.names, place))
                 self.is_reached = False
                 if not place and self.costly and self.costly.verdict.reason is Reason.BuildsImport:
@@ -303,7 +308,7 @@ def row_of(piece: Piece, allow: Optional[AllowList], budget: Budget) -> Optional
     row = Row(piece._replace(is_claimed=is_claimed), allow, budget)
     if not is_claimed and row.refusal is None and not row.pickles:
         return None
-    if not is_claimed and row.refusal is not None:
+    if not is_claimed and row.refusal is not None and not row.is_misread:
         row.forget_impossible()
     is_reached = bool(row.names) or row.is_reached or not row.is_complete or row.costly is not None
     return row if is_claimed or row.refusal is None or is_reached else None

@@ -19,13 +19,13 @@ from typing import (
 from .._answers import Verdict
 from .._reasons import Reason
 from .budget import LOOKED_AT, STEP, Budget
-from .dangers import is_harmful, is_suspect, suspect_heads
+from .dangers import is_harmful, is_suspect, may_be_there, suspect_heads
 from .marks import HDF5, LMDB
 from .names import NOTHING, imports_within
 from .reaching import ALL_STOP, reached
 from .readings import Found, Piece, Place, Reading, is_text
 from .source import BLOCK, Source, in_memory
-from .spelled import LENGTHS, is_module
+from .spelled import LENGTHS
 from .trails import Trail, Trails, texts_in
 from .values import Values
 
@@ -295,7 +295,10 @@ def is_in_words(source: Source) -> bool:
 
 def _may_be(names: "Names") -> bool:
     """Whether a module may have such a name."""
-    return names[0] is None or is_module(names[0].decode("utf-8", "replace"))
+    module, name = names
+    if module is None or name is None:
+        return True
+    return may_be_there(module.decode("utf-8", "replace"), name.decode("utf-8", "replace"))
 
 
 def is_harmful_pair(names: "Names") -> bool:
