@@ -10,7 +10,7 @@ from unittest import mock
 
 from common import OBJECTS, SEEDS
 from storklocker import AllowList, Limits
-from storklocker.scanning import budget, judging
+from storklocker.scanning import judging
 from storklocker.scanning.condensing import condensed
 from storklocker.scanning.files import File
 from storklocker.scanning.judging import Question, reports_of
@@ -73,11 +73,6 @@ def both(data, allow, path="file"):
 
 
 class Short(unittest.TestCase):
-    def setUp(self):
-        patience = mock.patch.object(budget, "SECONDS", 10_000)  # a slow machine reads all of it
-        patience.start()
-        self.addCleanup(patience.stop)
-
     def test_reports_are_those_of_the_long_way(self):
         for data in pickles():
             for allow in LISTS:
