@@ -12,7 +12,7 @@ from __future__ import annotations
 import enum
 import itertools
 import sys
-from typing import Any, Dict, List, NamedTuple, Optional, Tuple
+from typing import Any, Dict, Iterable, List, NamedTuple, Optional, Tuple
 
 from .._answers import Misused
 from .._lists import AllowList
@@ -31,8 +31,11 @@ Pair = Tuple[str, str]
 
 _LARGEST = 1 << 28
 """The most bytes of a file whose pickles are read here."""
-_MOST = 10_000_000
-"""The most values that are looked through in a pickle."""
+_MOST, _MOST_READ = 10_000_000, 10_000
+"""The most values that are looked through in a pickle, and the most pickles of a file that are read
+here.
+"""
+_BUILD = b"b"
 _MAKING = ("attrgetter", "methodcaller")
 """Substitutes of a list that import nothing to judge what they are given. What they make is called
 by nobody here."""
@@ -61,21 +64,34 @@ class Foreseen(NamedTuple):
 _LOADED = Foreseen(Fate.LOADED)
 
 
-def foreseen(source: Source, most: int, allow: AllowList) -> Foreseen:
+def foreseen(
+    source: Source, most: int, names: Iterable[Pair], allow: AllowList
+) -> Foreseen:
     """What a guard with this list does with the pickles that follow one another from the first byte
-    on, at most so many, whose names and costs the list permits.
+    on, at most so many, whose names, which are these, and whose costs the list permits.
     """
     if source.size > _LARGEST:
         return Foreseen(Fate.UNDECIDED, f"its {source.size:,} bytes are too many to foresee it")
-    data, at, worst = source.read(0, source.size), 0, _LOADED
+    is_asked = any(_may_be_asked(pair, allow) for pair in names)
+    data, at, left, worst = source.read(0, source.size), 0, _MOST_READ, _LOADED
     for _ in range(most):
         end, is_stopped = walked(data, at)
         if not is_stopped or worst.fate is Fate.REFUSED:
             break
-        one = _of_one(data[at:end], allow)
-        worst = worst if one.fate is Fate.LOADED else one
+        if is_asked or data.find(_BUILD, at, end) >= 0:  # otherwise nothing is judged
+            if not left:
+                return Foreseen(Fate.UNDECIDED, "its pickles are too many to foresee them")
+            left, one = left - 1, _of_one(data[at:end], allow)
+            worst = worst if one.fate is Fate.LOADED else one
         at = end
     return worst
+
+
+def _may_be_asked(pair: Pair, allow: AllowList) -> bool:
+    """Whether a name may have a substitute."""
+    own = () if allow._meant is None else allow._meant.substitutes
+    is_numpy = pair[0].partition(".")[0] == "numpy"
+    return is_numpy or pair in own or pair[1].rpartition(".")[2] in _LAST_WORDS
 
 
 def _of_one(data: bytes, allow: AllowList) -> Foreseen:

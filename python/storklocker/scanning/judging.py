@@ -6,7 +6,9 @@ import functools
 import io
 import itertools
 import re
-from typing import TYPE_CHECKING, BinaryIO, Dict, Iterator, List, NamedTuple, Optional, Tuple
+from typing import (
+    TYPE_CHECKING, BinaryIO, Dict, Iterable, Iterator, List, NamedTuple, Optional, Tuple
+)
 
 from .._hints import hint_of
 from .._lists import AllowList, has_substitutes, within
@@ -94,7 +96,8 @@ def lone_report(path: str, data: bytes, question: Question) -> Optional[Report]:
     report = Report(path, "pickle", status, why, size, sha256, 1, imports, file=path)
     findings = list(told.findings)
     if imports and question.allow is not None and has_substitutes(question.allow):
-        report = _foreseen(report, [(source, 1)], question.allow, findings)
+        pairs = ((it[0] or "", it[1] or "") for it in imports)
+        report = _foreseen(report, [(source, 1)], pairs, question.allow, findings)
     return judged(report, findings) if findings else report
 
 
@@ -106,16 +109,20 @@ def _accepted(taken: int, count: int, allow: Optional[AllowList]) -> Tuple[Word,
 
 
 def _foreseen(
-    report: Report, held: List[Tuple[Source, int]], allow: AllowList, findings: List[Finding]
+    report: Report,
+    held: List[Tuple[Source, int]],
+    names: Iterable[Tuple[str, str]],
+    allow: AllowList,
+    findings: List[Finding],
 ) -> Report:
-    """The report on accepted pickles, of which each source has so many, under a list with names
-    that a guard loads through substitutes.
+    """The report on accepted pickles with these names, of which each source has so many, under a
+    list with names that a guard loads through substitutes.
     """
     from .foreseeing import Fate, foreseen  # most scans have no need of it
 
-    words = {Fate.REFUSED: Word.REFUSED, Fate.UNDECIDED: Word.UNDECIDED}
+    words, pairs = {Fate.REFUSED: Word.REFUSED, Fate.UNDECIDED: Word.UNDECIDED}, tuple(names)
     for source, most in held:
-        fate, why = foreseen(source, most, allow)
+        fate, why = foreseen(source, most, pairs, allow)
         if fate is not Fate.LOADED:
             front = "no" if fate is Fate.REFUSED else words[fate].value
             findings.append(Finding(words[fate].value, why))
@@ -193,7 +200,8 @@ def _judged(piece: Piece, row: Row, question: Question, place: Place) -> Report:
     )
     if status is Word.ACCEPTED and row.names and allow is not None and has_substitutes(allow):
         held = [(source, max(row.pickles, 1)) for source in row.sources]
-        report = _foreseen(report, held, allow, findings)
+        pairs = ((it[0] or "", it[1] or "") for it in map(pair_of, row.names))
+        report = _foreseen(report, held, pairs, allow, findings)
     return judged(_raw(report, row.raw, findings) if row.raw else report, findings)
 
 
