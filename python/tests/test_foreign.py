@@ -76,7 +76,6 @@ FILES = {
     "a.onnx": (b"\x08\x07j\x1b\n\x08location\x12\x0f../../etc/passwd", "ONNX", "warning"),
     "package.pt": (zipped("m/.data/extern_modules", "m/a.py"), "torch package", "warning"),
     "script.pt": (zipped("m/code/__torch__.py", "m/version"), "TorchScript", "code"),
-    "a.pyz": (zipped("__main__.py"), "zip application", "code"),
 }
 HONEST = {
     "text.yaml": b"# the tag !python is no tag of PyYAML\na: python/object\nb: '!!python'\n",
@@ -183,11 +182,6 @@ class Readers(unittest.TestCase):
     def test_path_files(self):
         (self.folder / "a.pth").write_text(f"import os; {self.touch}\n")
         self.ran("a.pth", "path file", "-c", "import site; site.addsitedir('.')")
-
-    def test_zip_applications(self):
-        with zipfile.ZipFile(self.folder / "a.pyz", "w") as file:
-            file.writestr("__main__.py", self.touch)
-        self.ran("a.pyz", "zip application", "a.pyz")
 
     @needs("module:yaml")
     def test_yaml(self):

@@ -122,6 +122,16 @@ class Substitutes(unittest.TestCase):
                 self.assertEqual(word(data, PLAIN), ACCEPTED)
                 self.assertTrue(is_loaded(data, PLAIN))
 
+    def test_long_rows(self):
+        dates = pickle.dumps(datetime.date(2020, 1, 1), 4)
+        allow = lists.DATETIME
+        self.assertEqual(word(dates * 12_000, allow), ACCEPTED)
+        encoded = P + HONEST["encoded"]
+        self.assertEqual(word(encoded * 9, allow), ACCEPTED)
+        self.assertEqual(word(encoded * 12_000, allow), UNDECIDED)
+        slow = P + PICKLES["a slow codec"][0]
+        self.assertEqual(word(dates * 5_000 + slow + dates, allow), REFUSED)
+
     def test_a_refusal_behind_what_is_undecided(self):
         data = P + PICKLES["bytes of what a call answers"][0][:-1] + b"0"
         self.assertEqual(word(data + PICKLES["bytes of a length"][0], PLAIN), REFUSED)

@@ -156,7 +156,6 @@ MEMBERS = {
         "torch package", RUNS, "torch.package runs the modules in it"
     ),
     r"(?:.*/)?code/.*\.py": Foreign("TorchScript", HOLDS, "torch.jit.load compiles the code in it"),
-    r"__main__\.py[co]?": Foreign("zip application", HOLDS, "Python runs it as a program"),
 }
 """Zip files, by the name of a member."""
 

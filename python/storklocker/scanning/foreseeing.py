@@ -33,8 +33,10 @@ Pair = Tuple[str, str]
 
 _LARGEST = 1 << 28
 """The most bytes of a file whose pickles are read here."""
-_MOST = 10_000_000
-"""The most values that are looked through in a pickle."""
+_MOST, _MOST_READ = 10_000_000, 10_000
+"""The most values that are looked through in a pickle, and the most pickles of a file that are read
+here.
+"""
 _MAKING = ("attrgetter", "methodcaller")
 """Substitutes of a list that import nothing to judge what they are given. What they make is called
 by nobody here."""
@@ -76,13 +78,17 @@ def foreseen(source: Source, most: int, allow: AllowList) -> Foreseen:
     """
     if source.size > _LARGEST:
         return Foreseen(Fate.UNDECIDED, f"its {source.size:,} bytes are too many to foresee it")
-    data, at, worst = source.read(0, source.size), 0, _LOADED
+    data, at, left, worst = source.read(0, source.size), 0, _MOST_READ, _LOADED
+    look = _Look(allow)
     for _ in range(most):
         end, is_stopped = walked(data, at)
         if not is_stopped or worst.fate is Fate.REFUSED:
             break
-        one = _of_one(data[at:end], allow)
-        worst = worst if one.fate is Fate.LOADED else one
+        if look.finds(data[at:end]):
+            if not left:
+                return Foreseen(Fate.UNDECIDED, "its pickles are too many to foresee them")
+            left, one = left - 1, _of_one(data[at:end], allow)
+            worst = worst if one.fate is Fate.LOADED else one
         at = end
     return worst
 
@@ -109,6 +115,22 @@ def _of_one(data: bytes, allow: AllowList) -> Foreseen:
             return Foreseen(Fate.UNDECIDED, reader.late or why)
         return Foreseen(Fate.UNDECIDED, reader.late) if reader.late else _LOADED
     return Foreseen(Fate.UNDECIDED, "a string of Python 2 can't be decoded")
+
+
+class _Look:
+    """A look at pickles for what a guard with this list judges while it loads them."""
+
+    def __init__(self, allow: AllowList) -> None:
+        self._readers = tuple(_Foreseer(allow, is_old, "ASCII") for is_old in (False, True))
+
+    def finds(self, data: bytes) -> bool:
+        """Whether a guard judges anything of a pickle."""
+        uses = _ForeseenUses(self._readers[are_old(data)])
+        try:
+            uses.respelled(data, 0, False)
+        except Misused:
+            return True
+        return uses.judges > 0
 
 
 class _Late(Exception):
@@ -198,7 +220,7 @@ class _ForeseenUses(Uses):
 
     def __init__(self, reader: _Foreseer) -> None:
         super().__init__(reader.own, WRAPPERS, is_shared=False)
-        self._reader = reader
+        self._reader, self.takes_any = reader, reader.is_any
 
     def _number_of(self, module: bytes, name: bytes) -> int:
         pair = named_by(module, name, self._reader.is_old)
@@ -215,8 +237,9 @@ class _Foreseer(Reader):
         super().__init__(allow, encoding=encoding, buffers=itertools.repeat(_UNKNOWN))
         self.is_old = is_old
         """Whether its names are those of Python 2."""
+        self.is_any = allow.build == "any" and not has_substitutes(allow)
+        """Whether BUILD may take what the pickle hasn't made."""
         self._uses = _ForeseenUses(self)
-        self._uses.takes_any = allow.build == "any" and not has_substitutes(allow)
         self._named: Dict[Pair, Named] = {}
         self._steps = 0
         self.late = ""

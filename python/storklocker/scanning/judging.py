@@ -112,9 +112,7 @@ def _accepted(taken: int, count: int, allow: Optional[AllowList]) -> Tuple[Word,
 def _foreseen(
     report: Report, held: List[Tuple[Source, int]], allow: AllowList, findings: List[Finding]
 ) -> Report:
-    """The report on accepted pickles, of which each source has so many, under a list with names
-    that a guard loads through substitutes.
-    """
+    """The report on accepted pickles, of which each source has so many, under a list."""
     from .foreseeing import Fate, foreseen  # most scans have no need of it
 
     words = {Fate.REFUSED: Word.REFUSED, Fate.UNDECIDED: Word.UNDECIDED}
