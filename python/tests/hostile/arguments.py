@@ -27,7 +27,7 @@ import shapes  # noqa: E402
 import storklocker  # noqa: E402
 from storklocker import AllowList, Guard, lists  # noqa: E402
 
-SECONDS, SECONDS_OF_GATE, MEMORY, AGAIN = 2, 20, 1 << 30, 3
+SECONDS, SECONDS_OF_GATE, MEMORY, AGAIN, MOST = 2, 20, 1 << 30, 3, 4
 DANGERS = ("exec", "compile", "open", "import", "subprocess.", "socket.", "os.", "shutil.", "ctypes.",
            "marshal.", "pty.", "tempfile.", "code.__new__", "function.__new__", "builtins.breakpoint")
 OWN = "storklocker"
@@ -55,7 +55,6 @@ WATCH = Watch()
 
 def forms(called, given, is_built):
     """Pickles that hand an argument to a name in every way."""
-    front = b"\x80\x04"
     for count in (1, 2, 3, 5, 17):
         yield f"called with {count}", called + b"(" + given * count + b"tR."
     for k, other in enumerate((b"K\1", shapes.text("a"), b"]", b"}")):
@@ -67,7 +66,6 @@ def forms(called, given, is_built):
     if is_built:
         yield "built", called + b")\x81" + given + b"b."
         yield "built with a dict", called + b")\x81}" + shapes.text("state") + given + b"sb."
-    del front
 
 
 def cases(pair, listed):
@@ -172,13 +170,15 @@ def findings(guard, pair, listed, seconds):
     """What is found of a name: of each case only what three more processes show too."""
     todo = [(at, data) for at, (_, data) in enumerate(cases(pair, listed))]
     words = [word for word, _ in cases(pair, listed)]
-    while todo:
+    many = 0
+    while todo and many < MOST:
         found = Child(guard, pair, todo, seconds).ran()
         if found is None:
             return
         at, said = found
         one = [(at, dict(todo)[at])]
         if all(Child(guard, pair, one, seconds).ran() is not None for _ in range(AGAIN)):
+            many += 1
             yield words[at], len(one[0][1]), said
         todo = [row for row in todo if row[0] > at]
 
@@ -195,7 +195,7 @@ def run(named, seconds, only=None, tell=print):
     for name in named:
         guard = Guard(listed_for(name))
         pairs = [pair for pair in getattr(lists, name) if is_here(pair)]
-        guard.loads(pickle.dumps([1, {2}, "a"], 4))
+        warm(guard, [pair for pair in guard.allow if is_here(pair)])
         for pair in pairs:
             if pair in tried or only not in (None, ".".join(pair)):
                 continue
@@ -204,6 +204,16 @@ def run(named, seconds, only=None, tell=print):
                 found.append(f"{'.'.join(pair)} {word}: {said} ({size:,} bytes)")
                 tell(found[-1])
     return len(tried), found
+
+
+def warm(guard, pairs):
+    """Has everything imported that a load needs."""
+    for pair in pairs:
+        for body in (b")R.", b"K\1\x85R.", b")\x81}b.", b")RN)RN)Re."):
+            try:
+                guard.loads(b"\x80\x04" + shapes.name(*pair) + body)
+            except Exception:  # (most take other arguments)
+                continue
 
 
 def is_here(pair):
