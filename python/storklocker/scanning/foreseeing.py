@@ -79,7 +79,7 @@ def foreseen(source: Source, most: int, allow: AllowList) -> Foreseen:
     if source.size > _LARGEST:
         return Foreseen(Fate.UNDECIDED, f"its {source.size:,} bytes are too many to foresee it")
     data, at, left, worst = source.read(0, source.size), 0, _MOST_READ, _LOADED
-    look = _Look(allow)
+    look = Look(allow)
     for _ in range(most):
         end, is_stopped = walked(data, at)
         if not is_stopped or worst.fate is Fate.REFUSED:
@@ -91,11 +91,6 @@ def foreseen(source: Source, most: int, allow: AllowList) -> Foreseen:
             worst = worst if one.fate is Fate.LOADED else one
         at = end
     return worst
-
-
-def is_loaded(data: bytes, allow: AllowList) -> bool:
-    """Whether a guard with this list loads a pickle whose names and costs it permits."""
-    return _of_one(data, allow).fate is Fate.LOADED
 
 
 def _of_one(data: bytes, allow: AllowList) -> Foreseen:
@@ -117,7 +112,7 @@ def _of_one(data: bytes, allow: AllowList) -> Foreseen:
     return Foreseen(Fate.UNDECIDED, "a string of Python 2 can't be decoded")
 
 
-class _Look:
+class Look:
     """A look at pickles for what a guard with this list judges while it loads them."""
 
     def __init__(self, allow: AllowList) -> None:

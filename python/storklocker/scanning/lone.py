@@ -4,7 +4,7 @@ from __future__ import annotations
 
 import functools
 import io
-from typing import NamedTuple, Optional, Tuple
+from typing import TYPE_CHECKING, NamedTuple, Optional, Tuple
 
 from .._lists import AllowList, settings_of, within
 from .._pairs import records
@@ -19,6 +19,9 @@ from .report import LONGEST, Finding, Pair, sorted_findings
 from .rows import CLAIM, limits_costs, may_be_listed
 from .severity import NOTE
 from .source import BLOCK, in_memory
+
+if TYPE_CHECKING:
+    from .foreseeing import Look
 
 _ROOM = LONGEST
 """The most bytes of encoded imports that are told of here."""
@@ -39,6 +42,7 @@ class Lone:
     def __init__(self, allow: Optional[AllowList]) -> None:
         self.allow, listed = allow, NOTHING if allow is None else allow
         self._is_limited = limits_costs(listed)
+        self._look: Optional[Look] = None
         limits = within(limits_under(allow, BLOCK), listed.limits)
         assert limits is not None
         # (whatever the list says of BUILD, what an import answers is not to be changed)
@@ -72,16 +76,18 @@ class Lone:
         return verdict.taken, told
 
     def is_quiet(self, told: Told, data: bytes) -> bool:
-        """Whether nothing in a pickle of which this is told is known to do harm, and a guard with
-        the list loads it.
+        """Whether nothing in a pickle of which this is told is known to do harm, or is judged while
+        a guard with the list loads it.
         """
         if any(it.severity != NOTE for it in told.findings):
             return False
         if self.allow is None or not told.imports:
             return True
-        from .foreseeing import is_loaded  # most scans have no need of it
+        if self._look is None:
+            from .foreseeing import Look  # most scans have no need of it
 
-        return is_loaded(data, self.allow)
+            self._look = Look(self.allow)
+        return not self._look.finds(data)
 
     def _judged(self, room: bytes, front: bytes) -> Optional[Told]:
         """What is to be told of these encoded imports of a pickle that begins so; None if one isn't
