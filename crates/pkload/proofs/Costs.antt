@@ -17,7 +17,7 @@ use Rattle.pkcheck.specs.Accepted.{AcceptedFrom}
 use Rattle.pkcheck.specs.Heard.{refused_instruction}
 use Rattle.pkmachine.specs.Knowledge.{Policy}
 use Rattle.pkimport.specs.Import.{Asked}
-use Rattle.pkcheck.specs.Refused.{RefusedFrom, Why, reading, judging, growing}
+use Rattle.pkcheck.specs.Refused.{FailsToRead, RefusedFrom, Why, reading, judging, growing}
 use Rattle.pkcheck.specs.NewRuns.{InEachNewRun, AnswersNew}
 use Rattle.pkcheck.specs.Reports.{AreReportsBehind, Report}
 use Rattle.pkcheck.specs.RowOfPickles.{begins, bytes_of_all}
@@ -33,7 +33,8 @@ use Rattle.pkload.proofs.Loading.{IsReady, all_good, billed_more, fits_ready, ma
 use Rattle.pkload.proofs.Tolds.{NoneBehindStop, none_behind}
 use Rattle.pkload.proofs.Whole.{bill_bounds_runs, each_map, ends_map}
 use Rattle.pkload.specs.Bill.{Bill, all_billed, bill_before, billed}
-use Rattle.pkload.specs.Costly.{EndsAbove, ExceedsIn}
+use Rattle.pkload.specs.Costly.{EndsAbove, ExceedsIn, IsReached, NextTaken, TakesNoMore, nothing}
+use Rattle.pkload.specs.Costly.{unread, whole}
 use Rattle.pkload.specs.Laws.{EndsBilled}
 use Rattle.pkload.specs.Private.Meter.{Fits, IsOver}
 use Rattle.pkload.specs.Private.Told.{Metering, ready}
@@ -61,6 +62,20 @@ takes_none here = record { bytes = consumes_none here.left; count = refl }
 abbrev before_bytes : List ℕ → Sight → Sight
 before_bytes ys new = record { left = prepend_known ys new.left; failures = new.failures }
 
+consumes_back : (n : Option (List ℕ)) (ys : List ℕ) → Consumes (prepend_known ys n) n ys
+consumes_back None ys = tt
+consumes_back (Some ns) ys = refl
+
+takes_back : (ys : List ℕ) (new : Sight) → Takes (before_bytes ys new) new ys
+takes_back ys new = record { bytes = consumes_back new.left ys; count = refl }
+
+consumes_none_first : (o m n : Option (List ℕ)) → Consumes o m [] → Consumes m n []
+    → Consumes o n []
+consumes_none_first None m n h g = tt
+consumes_none_first (Some xs) None n h g = absurd h
+consumes_none_first (Some xs) (Some ys) None h g = absurd g
+consumes_none_first (Some xs) (Some ys) (Some zs) h g = h ∙ g
+
 takes_front : (old new : Sight) (xs ys : List ℕ) → Takes old new (xs ++ ys)
     → Takes old (before_bytes ys new) xs
 takes_front old new xs ys h =
@@ -74,6 +89,33 @@ all_front limits (i ∷ is) js h =
     All-cons (IsAllowedBy (payload_limit limits)) i is
     (All-head (IsAllowedBy (payload_limit limits)) i (is ++ js) h)
     (all_front limits is js (All-tail (IsAllowedBy (payload_limit limits)) i (is ++ js) h))
+
+pub each_at : (P : Instruction → Type 0) (is : List Instruction) (i : Instruction)
+    (js : List Instruction) → All P (is ++ i ∷ js) → P i
+each_at P [] i js h = All-head P i js h
+each_at P (x ∷ is) i js h = each_at P is i js (All-tail P x (is ++ i ∷ js) h)
+
+-- ---- what was taken behind an instruction
+
+-- nothing
+pub nothing_behind : (limits : Bounds) (new : Sight) → TakesNoMore limits new new
+nothing_behind limits new = record {
+  here = new;
+  none = takes_none new;
+  next = nothing (takes_none new);
+}
+
+-- taking nothing before changes nothing
+pub none_before : (limits : Bounds) (old there new : Sight) → Takes old there []
+    → TakesNoMore limits there new → TakesNoMore limits old new
+none_before limits old there new t h = record {
+  here = h.here;
+  none = record {
+    bytes = consumes_none_first old.left there.left h.here.left t.bytes h.none.bytes;
+    count = h.none.count ∙ t.count;
+  };
+  next = h.next;
+}
 
 -- ---- runs
 
@@ -101,8 +143,9 @@ module _ (loading : Loading) (policy : Policy) (limits : Bounds) where
 
   -- ---- the accepted instructions at which a check ends
 
-  -- the check accepted these at the start of a pickle that follows those before, and told of them
-  pub record Part (before : List Pickle) (here : Sight) (rs : List Report) : Type 0 where
+  -- the check accepted these at the start of a pickle that follows those before, told of them, and
+  -- took no more than the next instruction
+  pub record Part (before : List Pickle) (here new : Sight) (rs : List Report) : Type 0 where
     pub instructions : List Instruction
     pub there : Sight
     pub admitted : All (IsAllowedBy (payload_limit limits)) instructions
@@ -111,12 +154,14 @@ module _ (loading : Loading) (policy : Policy) (limits : Bounds) where
     pub bytes : Takes here there (spellings instructions)
     pub none : NoneBehindStop instructions
     pub told : AreReports before instructions rs
+    pub behind : TakesNoMore limits there new
 
-  pub part_of_accepted : (before : List Pickle) (here there : Sight) (taken : ℕ)
+  pub part_of_accepted : (before : List Pickle) (here there new : Sight) (taken : ℕ)
       (imports : List Asked) (rs : List Report)
       (a : AcceptedFrom loading.old_strings (begins loading.memo before) policy limits here there
-      taken imports) → AreReports before a.instructions rs → Part before here rs
-  part_of_accepted before here there taken imports rs a h =
+      taken imports) → AreReports before a.instructions rs → TakesNoMore limits there new
+      → Part before here new rs
+  part_of_accepted before here there new taken imports rs a h behind =
       let s = a.sequence.stops in
       record {
         instructions = a.instructions;
@@ -126,11 +171,40 @@ module _ (loading : Loading) (policy : Policy) (limits : Bounds) where
         bytes = a.bytes;
         none = subst NoneBehindStop (sym s.2) (none_behind s.0 s.1 s.4);
         told = h;
+        behind = behind;
       }
+
+  -- the instruction at which the audience stopped the check was taken
+  next_of_stopped : (beginning : Beginning) (here new : Sight)
+      (s : StoppedFrom loading.old_strings beginning policy limits here new)
+      → TakesNoMore limits (before_bytes (spellings (s.instruction ∷ [])) new) new
+  next_of_stopped beginning here new s =
+      let there = before_bytes (spellings (s.instruction ∷ [])) new in
+      record {
+        here = there;
+        none = takes_none there;
+        next = whole s.instruction
+            (each_at (IsAllowedBy (payload_limit limits)) s.instructions s.instruction []
+            s.admitted)
+            (subst (Takes there new) (append-nil (spelling s.instruction))
+            (takes_back (spellings (s.instruction ∷ [])) new));
+      }
+
+  -- what was taken of the refused instruction
+  next_of_refused : (beginning : Beginning) (is : List Instruction) (here new : Sight) (place : ℕ)
+      (reason : Reason) (pair : Option Asked)
+      → Why loading.old_strings beginning policy limits is here new place reason pair
+      → NextTaken limits here new
+  next_of_refused beginning is here new place reason pair (reading f) = unread place reason
+      (subst (λ p. FailsToRead limits here new place reason p) f.none f)
+  next_of_refused beginning is here new place reason pair (judging f) =
+      whole f.instruction f.allowed f.bytes
+  next_of_refused beginning is here new place reason pair (growing f) =
+      whole f.instruction f.allowed f.bytes
 
   pub part_of_stopped : (before : List Pickle) (here new : Sight) (rs : List Report)
       (s : StoppedFrom loading.old_strings (begins loading.memo before) policy limits here new)
-      → AreReports before s.instructions rs → Part before here rs
+      → AreReports before s.instructions rs → Part before here new rs
   part_of_stopped before here new rs s h = record {
     instructions = s.instructions;
     there = before_bytes (spellings (s.instruction ∷ [])) new;
@@ -141,6 +215,7 @@ module _ (loading : Loading) (policy : Policy) (limits : Bounds) where
         (flat_map-append spelling s.instructions (s.instruction ∷ [])) s.bytes);
     none = none_at s.instructions s.goes_on;
     told = h;
+    behind = next_of_stopped (begins loading.memo before) here new s;
   }
 
   module _ (tolls : Tolls) (excess : Excess) (at : ℕ) (n : Metering) where
@@ -177,7 +252,7 @@ module _ (loading : Loading) (policy : Policy) (limits : Bounds) where
         (begins loading.memo before) policy limits here new place reason pair)
         (earlier rs : List Report) (m : Metering)
         → AreReports before (r.instructions ++ refused_instruction r.why) rs
-        → Over (earlier ++ rs) m → at < place → Part before here rs
+        → Over (earlier ++ rs) m → at < place → Part before here new rs
     part_of_refused before here new place reason pair r earlier rs m h o below = record {
       instructions = r.instructions;
       there = r.here;
@@ -187,6 +262,12 @@ module _ (loading : Loading) (policy : Policy) (limits : Bounds) where
       none = none_at r.instructions r.goes_on;
       told = not_told before r.instructions r.here new place reason pair r.why earlier rs m h o
           (subst (λ k. at < k) r.place below);
+      behind = record {
+        here = r.here;
+        none = takes_none r.here;
+        next = next_of_refused (begins loading.memo before) r.instructions r.here new place reason
+            pair r.why;
+      };
     }
 
     -- ---- the pickle that is too much
@@ -198,44 +279,57 @@ module _ (loading : Loading) (policy : Policy) (limits : Bounds) where
         (o.0, λ ne. (made_ready tolls loading r m e ∙ (o.1 ne).0, (o.1 ne).1))
     over_ready (r ∷ s ∷ rs) m e o = (o.0, made_ready tolls loading r m e ∙ o.1, o.2, o.3)
 
-    abbrev pub IsIn : Sight → List Pickle → Type 0
-    IsIn here before = (n.pickle ≡ length before)
-        × ExceedsIn loading policy limits tolls here before at excess
+    -- the instruction is reached, and if the bill was kept it exceeds the limit
+    pub record IsIn (here new : Sight) (before : List Pickle) : Type 0 where
+      pub reached : IsReached loading policy limits tolls here before at
+      pub behind : TakesNoMore limits reached.there new
+      pub number : excess ≢ OutOfMemory → n.pickle ≡ length before
+      pub over : excess ≢ OutOfMemory → ExceedsIn loading policy limits tolls here before at excess
 
-    pub over_in : excess ≢ OutOfMemory → (before : List Pickle) (here : Sight) (rs : List Report)
-        (m : Metering) → Part before here rs → IsReady tolls loading before m → Fits tolls m
-        → Over rs m → IsIn here before
-    over_in ne before here rs m p r w o =
+    exceeds_in : (before : List Pickle) (here : Sight)
+        (k : IsReached loading policy limits tolls here before at)
+        → billed k.last k.earlier ≡ Ok n.bill → Exceeds excess tolls n.bill.tally n.bill.memory
+        → ExceedsIn loading policy limits tolls here before at excess
+    exceeds_in before here k adds exceeds = record {
+      reached = k;
+      bill = n.bill;
+      adds = adds;
+      exceeds = exceeds;
+      each = each_above tolls n.bill.memory loading.old_strings k.last excess k.earlier n.bill
+          adds exceeds.0 (begins loading.memo before) k.instructions k.so_far;
+      runs = runs_above excess tolls n.bill loading.old_strings
+          (begins loading.memo before) (k.instructions ++ k.last ∷ [])
+          (bill_bounds_runs loading.old_strings (begins loading.memo before)
+          (k.instructions ++ k.last ∷ []) n.bill (billed_with k.instructions k.last
+          (bill_before (begins loading.memo before)) k.earlier n.bill k.so_far adds))
+          exceeds;
+    }
+
+    pub over_in : (before : List Pickle) (here new : Sight) (rs : List Report)
+        (m : Metering) → Part before here new rs → IsReady tolls loading before m → Fits tolls m
+        → Over rs m → IsIn here new before
+    over_in before here new rs m p r w o =
         let k = over_along loading.memo tolls excess at n loading.old_strings
-        (begins loading.memo before) (length (bytes_of_all before)) ne [] p.instructions rs
+        (begins loading.memo before) (length (bytes_of_all before)) [] p.instructions rs
         (ready loading.memo m) p.told (all_good limits p.instructions p.admitted) p.none r.going
         (fits_ready tolls loading.memo m.bill.ended m w) (over_ready rs m r.going o) in
-        let so_far : and_then (bill_before (begins loading.memo before)) (all_billed k.front)
-        ≡ Ok k.earlier = ap (λ x. and_then x (all_billed k.front)) r.bill ∙ k.so_far in (
-          k.pickle ∙ r.pickle,
-          record {
-            instructions = k.front;
-            last = k.last;
-            goes_on = k.goes_on;
-            admitted = subst (All (IsAllowedBy (payload_limit limits))) k.parts p.admitted;
-            faultless = subst (IsFaultless loading.old_strings (begins loading.memo before) policy
-                limits) k.parts p.faultless;
-            there = p.there;
-            bytes = subst (λ is. Takes here p.there (spellings is)) k.parts p.bytes;
-            place = k.place;
-            earlier = k.earlier;
-            so_far = so_far;
-            within = k.within;
-            bill = n.bill;
-            adds = k.adds;
-            exceeds = k.exceeds;
-            each = each_above tolls n.bill.memory loading.old_strings k.last excess k.earlier n.bill
-                k.adds k.exceeds.0 (begins loading.memo before) k.front so_far;
-            runs = runs_above excess tolls n.bill loading.old_strings
-                (begins loading.memo before) (k.front ++ k.last ∷ [])
-                (bill_bounds_runs loading.old_strings (begins loading.memo before)
-                (k.front ++ k.last ∷ []) n.bill (billed_with k.front k.last
-                (bill_before (begins loading.memo before)) k.earlier n.bill so_far k.adds))
-                k.exceeds;
-          },
-        )
+        let reached : IsReached loading policy limits tolls here before at = record {
+          instructions = k.front;
+          last = k.last;
+          goes_on = k.goes_on;
+          admitted = subst (All (IsAllowedBy (payload_limit limits))) k.parts p.admitted;
+          faultless = subst (IsFaultless loading.old_strings (begins loading.memo before) policy
+              limits) k.parts p.faultless;
+          there = p.there;
+          bytes = subst (λ is. Takes here p.there (spellings is)) k.parts p.bytes;
+          place = k.place;
+          earlier = k.earlier;
+          so_far = ap (λ x. and_then x (all_billed k.front)) r.bill ∙ k.so_far;
+          within = k.within;
+        } in
+        record {
+          reached = reached;
+          behind = p.behind;
+          number = λ ne. k.pickle ne ∙ r.pickle;
+          over = λ ne. exceeds_in before here reached (k.adds ne) (k.exceeds ne);
+        }

@@ -7,12 +7,12 @@ use Rattle.pkops.specs.Contents.{IsGood}
 use Rattle.pkops.specs.Spelling.{Instruction}
 use Rattle.pkops.specs.declared.Op.TheVariants as op
 use Rattle.pkread.specs.Sequence.{NoStop, spellings}
-use Rattle.pkcheck.specs.Reports.{AreReportsBehind, Report}
+use Rattle.pkcheck.specs.Reports.{AreReportsBehind, Report, told_of}
 use Rattle.pkmachine.specs.RowRuns.{Beginning}
 use Rattle.pkstack.specs.Shape.{and_then}
 use Rattle.pkmachine.specs.declared.memo.Memo.{Memo}
 use Rattle.pkmachine.specs.declared.old_strings.OldStrings.{OldStrings}
-use Rattle.pkload.proofs.Loading.{metered_is}
+use Rattle.pkload.proofs.Loading.{IsMetered, metered_is}
 use Rattle.pkload.proofs.Tolds.{NoneBehindStop, one_told, still_going}
 use Rattle.pkload.specs.Bill.{Bill, all_billed, billed}
 use Rattle.pkload.specs.Private.Meter.{AllFit, Fits, IsOver}
@@ -91,7 +91,7 @@ module _ (memo : Memo) (tolls : Tolls) (excess : Excess) (at : ℕ) (n : Meterin
     refused_place is i earlier (r ∷ rs) m h o =
         let p = past earlier r rs m o in over_place [] is i (r ∷ rs) p.metering h p.over
 
-    -- the instructions end with the first that is too much
+    -- the instructions end with the first that is too much, by the bill if it was kept
     pub record EndsOver (before is : List Instruction) (m : Metering) : Type 0 where
       pub front : List Instruction
       pub last : Instruction
@@ -101,18 +101,20 @@ module _ (memo : Memo) (tolls : Tolls) (excess : Excess) (at : ℕ) (n : Meterin
       pub earlier : Bill
       pub so_far : all_billed front m.bill ≡ Ok earlier
       pub within : KeepsWithin tolls earlier.tally earlier.memory
-      pub pickle : n.pickle ≡ m.pickle
-      pub adds : billed last earlier ≡ Ok n.bill
-      pub exceeds : Exceeds excess tolls n.bill.tally n.bill.memory
+      pub pickle : excess ≢ OutOfMemory → n.pickle ≡ m.pickle
+      pub adds : excess ≢ OutOfMemory → billed last earlier ≡ Ok n.bill
+      pub exceeds : excess ≢ OutOfMemory → Exceeds excess tolls n.bill.tally n.bill.memory
 
-    pub over_along : excess ≢ OutOfMemory → (before is : List Instruction) (rs : List Report)
+    over_step : (i : Instruction) (r : Report) (m : Metering) → r.told ≡ told_of false i → IsGood i
+        → m.bill.ended ≡ false → metered memo r m ≡ Ok n → IsMetered m n (billed i m.bill)
+    over_step i r m same good e h = metered_is memo setting beginning from m n (billed i m.bill)
+        (sym (one_told memo setting beginning from i r m same good e) ∙ h)
+
+    pub over_along : (before is : List Instruction) (rs : List Report)
         (m : Metering) → AreReports before is rs → All IsGood is → NoneBehindStop is
         → m.bill.ended ≡ false → Fits tolls m → Over rs m → EndsOver before is m
-    over_along ne before is [] m h g s e f o = absurd o
-    over_along ne before (i ∷ []) (r ∷ []) m h g s e f o =
-        let k = metered_is memo setting beginning from m n (billed i m.bill)
-        (sym (one_told memo setting beginning from i r m h.0.same (All-head IsGood i [] g) e)
-        ∙ (o.1 ne).0) in
+    over_along before is [] m h g s e f o = absurd o
+    over_along before (i ∷ []) (r ∷ []) m h g s e f o =
         record {
           front = [];
           last = i;
@@ -122,15 +124,16 @@ module _ (memo : Memo) (tolls : Tolls) (excess : Excess) (at : ℕ) (n : Meterin
           earlier = m.bill;
           so_far = refl;
           within = f;
-          pickle = k.pickle;
-          adds = k.bill;
-          exceeds = (o.1 ne).1;
+          pickle = λ ne.
+              (over_step i r m h.0.same (All-head IsGood i [] g) e (o.1 ne).0).pickle;
+          adds = λ ne. (over_step i r m h.0.same (All-head IsGood i [] g) e (o.1 ne).0).bill;
+          exceeds = λ ne. (o.1 ne).1;
         }
-    over_along ne before (i ∷ j ∷ is) (r ∷ s ∷ rs) m h g q e f o =
+    over_along before (i ∷ j ∷ is) (r ∷ s ∷ rs) m h g q e f o =
         let k = metered_is memo setting beginning from m o.0 (billed i m.bill)
         (sym (one_told memo setting beginning from i r m h.0.same
         (All-head IsGood i (j ∷ is) g) e) ∙ o.1) in
-        let rest = over_along ne (before ++ i ∷ []) (j ∷ is) (s ∷ rs) o.0 h.1
+        let rest = over_along (before ++ i ∷ []) (j ∷ is) (s ∷ rs) o.0 h.1
         (All-tail IsGood i (j ∷ is) g) q.1 (still_going i m.bill o.0.bill q.0 e k.bill) o.2 o.3 in
         record {
           front = i ∷ rest.front;
@@ -141,8 +144,8 @@ module _ (memo : Memo) (tolls : Tolls) (excess : Excess) (at : ℕ) (n : Meterin
           earlier = rest.earlier;
           so_far = ap (λ x. and_then x (all_billed rest.front)) k.bill ∙ rest.so_far;
           within = rest.within;
-          pickle = rest.pickle ∙ k.pickle;
+          pickle = λ ne. rest.pickle ne ∙ k.pickle;
           adds = rest.adds;
           exceeds = rest.exceeds;
         }
-    over_along ne before _ _ m h g s e f o = absurd (search)
+    over_along before _ _ m h g s e f o = absurd (search)

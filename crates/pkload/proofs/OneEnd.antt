@@ -248,9 +248,10 @@ module _ (front : OneFront) (goes : SequenceGoesOn) (unique : OneSequence) (begi
       → here.left ≡ Some rest → ExceedsIn loading policy limits tolls here before at excess
       → rest ≡ [] → ⊥
   over_bytes before here at excess rest is e none =
-      let c = consumed here rest (spellings (e.instructions ++ e.last ∷ [])) e.there is e.bytes in
-      none_spelled e.instructions e.last
-      (first_empty (spellings (e.instructions ++ e.last ∷ [])) c.0 (sym none ∙ c.2))
+      let q = e.reached in
+      let c = consumed here rest (spellings (q.instructions ++ q.last ∷ [])) q.there is q.bytes in
+      none_spelled q.instructions q.last
+      (first_empty (spellings (q.instructions ++ q.last ∷ [])) c.0 (sym none ∙ c.2))
 
   yes_over : (extent : Extent) (old new other : Sight) (x : YesWithBill) (y : Costly)
       → old.left ≡ Some bytes → other.left ≡ Some bytes

@@ -3,7 +3,6 @@ use Rattle.std.proofs.Common.{◌≡◌, ◌≢◌, ◌+◌, ◌≤◌, ℕ, ◌
 use Rattle.std.proofs.Common.{append-nil, append_assoc, length-append, Option, Some, None, Result}
 use Rattle.std.proofs.Common.{Ok, refl, sym, ap, subst, ◌∙◌, arith}
 use Rattle.std.proofs.lemmas.Grind.{flat_map-append}
-use Rattle.std.proofs.lemmas.List.Elements.{All-head, All-tail}
 use Rattle.std.specs.Io.KnownBytes.{Consumes}
 use Rattle.std.specs.Prelude.{All, flat_map}
 use Rattle.pkops.specs.Limits.{Bounds}
@@ -27,7 +26,7 @@ use Rattle.pkstack.specs.Shape.{Breach, and_then}
 use Rattle.pkcheck.specs.declared.loading.Loading.{Loading}
 use Rattle.pkmachine.specs.declared.memo.Memo.{Memo}
 use Rattle.pkmachine.specs.declared.memo.Memo.TheVariants.{Fresh, Kept}
-use Rattle.pkload.proofs.Costs.{all_front, billed_with}
+use Rattle.pkload.proofs.Costs.{all_front, billed_with, each_at}
 use Rattle.pkload.proofs.Loading.{all_good, none_ends}
 use Rattle.pkload.proofs.Staying.{excess_stays}
 use Rattle.pkload.specs.Bill.{Bill, all_billed, bill_before, no_bill, row_billed}
@@ -56,11 +55,6 @@ spelled_with : (is js : List Instruction) (rest : List ℕ)
     → spellings (is ++ js) ++ rest ≡ spellings is ++ (spellings js ++ rest)
 spelled_with is js rest = ap (λ l. l ++ rest) (flat_map-append spelling is js)
     ∙ append_assoc (spellings is) (spellings js) rest
-
-each_at : (P : Instruction → Type 0) (is : List Instruction) (i : Instruction)
-    (js : List Instruction) → All P (is ++ i ∷ js) → P i
-each_at P [] i js h = All-head P i js h
-each_at P (x ∷ is) i js h = each_at P is i js (All-tail P x (is ++ i ∷ js) h)
 
 same_last : (is js : List Instruction) (i j : Instruction) → is ++ i ∷ [] ≡ js ++ j ∷ []
     → (is ≡ js) × (i ≡ j)
@@ -119,21 +113,23 @@ module _ (loading : Loading) (policy : Policy) (limits : Bounds) (tolls : Tolls)
   Over here at excess = ExceedsIn loading policy limits tolls here xs at excess
 
   over_bill : (here : Sight) (at : ℕ) (excess : Excess) (e : Over here at excess)
-      → and_then (bill_before (begins loading.memo xs)) (all_billed (e.instructions ++ e.last ∷ []))
+      → and_then (bill_before (begins loading.memo xs))
+      (all_billed (e.reached.instructions ++ e.reached.last ∷ []))
       ≡ Ok e.bill
-  over_bill here at excess e = billed_with e.instructions e.last
-      (bill_before (begins loading.memo xs)) e.earlier e.bill e.so_far e.adds
+  over_bill here at excess e = billed_with e.reached.instructions e.reached.last
+      (bill_before (begins loading.memo xs)) e.reached.earlier e.bill e.reached.so_far e.adds
 
   -- what keeps within the limits doesn't begin with what exceeds one
   pub over_within : (here : Sight) (at : ℕ) (excess : Excess) (e : Over here at excess)
-      (is more : List Instruction) → is ≡ (e.instructions ++ e.last ∷ []) ++ more
+      (is more : List Instruction) → is ≡ (e.reached.instructions ++ e.reached.last ∷ []) ++ more
       → (after : Bill)
       → and_then (bill_before (begins loading.memo ys)) (all_billed is) ≡ Ok after
       → KeepsWithin tolls after.tally after.memory → ⊥
   over_within here at excess e is more parts after h w =
-      excess_stays excess tolls (begins loading.memo xs) (e.instructions ++ e.last ∷ []) more e.bill
-      after (over_bill here at excess e) e.exceeds
-      (ap (λ x. and_then x (all_billed ((e.instructions ++ e.last ∷ []) ++ more)))
+      excess_stays excess tolls (begins loading.memo xs)
+      (e.reached.instructions ++ e.reached.last ∷ []) more e.bill after (over_bill here at excess e)
+      e.exceeds
+      (ap (λ x. and_then x (all_billed ((e.reached.instructions ++ e.reached.last ∷ []) ++ more)))
       (bill_alike loading.memo xs ys same)
       ∙ subst (λ l. and_then (bill_before (begins loading.memo ys)) (all_billed l) ≡ Ok after) parts
       h) w
@@ -149,20 +145,21 @@ module _ (loading : Loading) (policy : Policy) (limits : Bounds) (tolls : Tolls)
         → Over here at excess → ⊥
     yes_or_over front goes after taken at imports excess a p named w e =
         let c = consumed there bytes (spellings a.instructions) after also a.bytes in
-        let d = consumed here bytes (spellings (e.instructions ++ e.last ∷ [])) e.there is e.bytes
+        let q = e.reached in
+        let d = consumed here bytes (spellings (q.instructions ++ q.last ∷ [])) q.there is q.bytes
         in
-        let g = goes (payload_limit limits) (payload_limit limits) a.instructions e.instructions c.0
-        (spellings (e.last ∷ []) ++ d.0) a.sequence
-        (all_front limits e.instructions (e.last ∷ []) e.admitted) e.goes_on
-        (sym c.2 ∙ d.2 ∙ spelled_with e.instructions (e.last ∷ []) d.0) in
-        let f = front e.last g.next d.0 (spellings g.after ++ c.0)
-        (each_at (IsAllowedBy (payload_limit limits)) e.instructions e.last [] e.admitted).good
-        (each_at (IsAllowedBy (payload_limit limits)) e.instructions g.next g.after
+        let g = goes (payload_limit limits) (payload_limit limits) a.instructions q.instructions c.0
+        (spellings (q.last ∷ []) ++ d.0) a.sequence
+        (all_front limits q.instructions (q.last ∷ []) q.admitted) q.goes_on
+        (sym c.2 ∙ d.2 ∙ spelled_with q.instructions (q.last ∷ []) d.0) in
+        let f = front q.last g.next d.0 (spellings g.after ++ c.0)
+        (each_at (IsAllowedBy (payload_limit limits)) q.instructions q.last [] q.admitted).good
+        (each_at (IsAllowedBy (payload_limit limits)) q.instructions g.next g.after
         (subst (All (IsAllowedBy (payload_limit limits))) g.split a.sequence.each)).good
-        (sym (ap (λ l. l ++ d.0) (append-nil (spelling e.last))) ∙ g.bytes) in
+        (sym (ap (λ l. l ++ d.0) (append-nil (spelling q.last))) ∙ g.bytes) in
         over_within here at excess e p g.after
-        (sym named ∙ g.split ∙ ap (λ j. e.instructions ++ j ∷ g.after) (sym f.0)
-        ∙ sym (append_assoc e.instructions (e.last ∷ []) g.after)) w.bill w.billed w.within
+        (sym named ∙ g.split ∙ ap (λ j. q.instructions ++ j ∷ g.after) (sym f.0)
+        ∙ sym (append_assoc q.instructions (q.last ∷ []) g.after)) w.bill w.billed w.within
 
     -- nor does one that is refused, where all before the refused instruction keeps within them
     pub refused_or_over : RefusedBehind → (after : Sight) (place at : ℕ) (r : Reason)
@@ -173,12 +170,13 @@ module _ (loading : Loading) (policy : Policy) (limits : Bounds) (tolls : Tolls)
         → r ≢ reason.Source → r ≢ reason.OutOfMemory
         → StaysWithin loading tolls ys x.instructions → Over here at excess → ⊥
     refused_or_over behind after place at r pair excess few x n m w e =
-        let p = e.instructions ++ e.last ∷ [] in
-        let d = consumed here bytes (spellings p) e.there is e.bytes in
-        let k = behind loading xs ys policy limits bytes here e.there p (length (bytes_of_all ys))
+        let q = e.reached in
+        let p = q.instructions ++ q.last ∷ [] in
+        let d = consumed here bytes (spellings p) q.there is q.bytes in
+        let k = behind loading xs ys policy limits bytes here q.there p (length (bytes_of_all ys))
         there after place r pair is also same
-        (omega (arith, few, ap length d.2, length-append (spellings p) d.0)) e.admitted e.faultless
-        e.bytes x n m in
+        (omega (arith, few, ap length d.2, length-append (spellings p) d.0)) q.admitted q.faultless
+        q.bytes x n m in
         over_within here at excess e x.instructions k.0 k.1 w.bill w.billed w.within
 
     -- an accepted pickle isn't refused
@@ -243,17 +241,18 @@ module _ (loading : Loading) (policy : Policy) (limits : Bounds) (tolls : Tolls)
     (e : ExceedsIn loading policy limits tolls here xs at excess)
     (f : ExceedsIn loading policy limits tolls there ys place another) where
   abbrev first : List Instruction
-  first = e.instructions ++ e.last ∷ []
+  first = e.reached.instructions ++ e.reached.last ∷ []
 
   abbrev second : List Instruction
-  second = f.instructions ++ f.last ∷ []
+  second = f.reached.instructions ++ f.reached.last ∷ []
 
-  where_same : e.instructions ≡ f.instructions → first ≡ second → (at ≡ place) × (excess ≡ another)
+  where_same : e.reached.instructions ≡ f.reached.instructions → first ≡ second
+      → (at ≡ place) × (excess ≡ another)
   where_same alike all = (
     omega (
       arith,
-      e.place,
-      f.place,
+      e.reached.place,
+      f.reached.place,
       ap (λ ps. length (flat_map spellings ps)) same,
       ap (λ l. length (spellings l)) alike,
     ),
@@ -270,29 +269,30 @@ module _ (loading : Loading) (policy : Policy) (limits : Bounds) (tolls : Tolls)
   when_more : (more : List Instruction) → second ≡ first ++ more
       → (at ≡ place) × (excess ≡ another)
   when_more [] parts =
-      let s = same_last f.instructions e.instructions f.last e.last
+      let s = same_last f.reached.instructions e.reached.instructions f.reached.last e.reached.last
       (parts ∙ append-nil first) in
       where_same (sym s.0) (sym (parts ∙ append-nil first))
   when_more (j ∷ more) parts =
-      let s = split_last f.instructions first f.last j more parts in
-      absurd (over_within loading policy limits tolls xs ys same here at excess e f.instructions s.0
-      s.1 f.earlier f.so_far f.within)
+      let s = split_last f.reached.instructions first f.reached.last j more parts in
+      absurd (over_within loading policy limits tolls xs ys same here at excess e
+      f.reached.instructions s.0 s.1 f.reached.earlier f.reached.so_far f.reached.within)
 
   when_less : (more : List Instruction) → first ≡ second ++ more
       → (at ≡ place) × (excess ≡ another)
-  when_less [] parts = let s = same_last e.instructions f.instructions e.last f.last
+  when_less [] parts =
+      let s = same_last e.reached.instructions f.reached.instructions e.reached.last f.reached.last
       (parts ∙ append-nil second) in where_same s.0 (parts ∙ append-nil second)
   when_less (j ∷ more) parts =
-      let s = split_last e.instructions second e.last j more parts in
+      let s = split_last e.reached.instructions second e.reached.last j more parts in
       absurd (over_within loading policy limits tolls ys xs (sym same) there place another f
-      e.instructions s.0 s.1 e.earlier e.so_far e.within)
+      e.reached.instructions s.0 s.1 e.reached.earlier e.reached.so_far e.reached.within)
 
   pub one_excess : OneBegins → (at ≡ place) × (excess ≡ another)
   one_excess begin =
-      let c = consumed here bytes (spellings first) e.there is e.bytes in
-      let d = consumed there bytes (spellings second) f.there also f.bytes in
-      by_part (begin first second c.0 d.0 (all_good limits first e.admitted)
-      (all_good limits second f.admitted) (sym c.2 ∙ d.2))
+      let c = consumed here bytes (spellings first) e.reached.there is e.reached.bytes in
+      let d = consumed there bytes (spellings second) f.reached.there also f.reached.bytes in
+      by_part (begin first second c.0 d.0 (all_good limits first e.reached.admitted)
+      (all_good limits second f.reached.admitted) (sym c.2 ∙ d.2))
     where
       by_part : ((behind : List Instruction) × (second ≡ first ++ behind))
           ⊎ ((behind : List Instruction) × (first ≡ second ++ behind))

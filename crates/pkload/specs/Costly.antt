@@ -1,12 +1,15 @@
 -- What it means that a pickle exceeds a limit on what loading costs.
-use Rattle.std.specs.Prelude.{◌≡◌, ◌+◌, ◌++◌, ◌∷◌, [], ⊤, ℕ, All, List, Ok, length}
+use Rattle.std.specs.Prelude.{◌≡◌, ◌+◌, ◌%◌, ◌^◌, ◌⊎◌, ◌++◌, ◌∷◌, [], ⊤, ℕ, All, List, None, Ok}
+use Rattle.std.specs.Prelude.{length}
 use Rattle.pkops.specs.Limits.{Bounds}
 use Rattle.pkops.specs.Payloads.{payload_limit}
-use Rattle.pkops.specs.Spelling.{Instruction}
+use Rattle.pkops.specs.Spelling.{Instruction, spelling}
+use Rattle.pkops.specs.declared.Reason.{Reason}
 use Rattle.pkread.specs.Admission.{IsAllowedBy}
 use Rattle.pkread.specs.Rows.{Sight, Takes}
 use Rattle.pkread.specs.Sequence.{NoStop, spellings}
 use Rattle.pkmachine.specs.Knowledge.{Policy}
+use Rattle.pkcheck.specs.Refused.{FailsToRead}
 use Rattle.pkcheck.specs.NewRuns.{DecodesNew, GetsPast, InEachDecodedRun, InEachNewRun}
 use Rattle.pkcheck.specs.NewRuns.{InSomeNewRun}
 use Rattle.pkcheck.specs.RowOfPickles.{AreAccepted, begins, bytes_of_all}
@@ -50,9 +53,27 @@ GetsAbove setting last excess tolls memory earlier (Reached state) =
     → StepsAbove excess tolls memory earlier (step_as setting last state outcome)
 GetsAbove setting last excess tolls memory earlier (EndedBy step) = ⊤
 
--- an instruction at this offset, of the pickle that follows these, exceeds a limit
-pub record ExceedsIn (loading : Loading) (policy : Policy) (limits : Bounds) (tolls : Tolls)
-    (here : Sight) (before : List Pickle) (at : ℕ) (excess : Excess) : Type 0 where
+-- what was taken where the next instruction would begin
+pub data NextTaken (limits : Bounds) (here new : Sight) : Type 0 where
+  -- nothing
+  nothing : Takes here new [] → NextTaken limits here new
+  -- the instruction, which is good, admitted and within the limit of its opcode
+  whole : (next : Instruction) → IsAllowedBy (payload_limit limits) next
+      → Takes here new (spelling next) → NextTaken limits here new
+  -- what shows that none can be read
+  unread : (at : ℕ) (reason : Reason) → FailsToRead limits here new at reason None
+      → NextTaken limits here new
+
+-- behind an instruction no more was taken than the next one
+pub record TakesNoMore (limits : Bounds) (there new : Sight) : Type 0 where
+  pub here : Sight
+  pub none : Takes there here []
+  pub next : NextTaken limits here new
+
+-- the check accepts an instruction at this offset, of the pickle that follows these, and the bill
+-- of those before it keeps within the limits
+pub record IsReached (loading : Loading) (policy : Policy) (limits : Bounds) (tolls : Tolls)
+    (here : Sight) (before : List Pickle) (at : ℕ) : Type 0 where
   -- the instructions of the pickle before this one, and this one, of which only it may be STOP
   pub instructions : List Instruction
   pub last : Instruction
@@ -71,18 +92,23 @@ pub record ExceedsIn (loading : Loading) (policy : Policy) (limits : Bounds) (to
   pub so_far : and_then (bill_before (begins loading.memo before)) (all_billed instructions)
       ≡ Ok earlier
   pub within : KeepsWithin tolls earlier.tally earlier.memory
+
+-- an instruction at this offset, of the pickle that follows these, exceeds a limit
+pub record ExceedsIn (loading : Loading) (policy : Policy) (limits : Bounds) (tolls : Tolls)
+    (here : Sight) (before : List Pickle) (at : ℕ) (excess : Excess) : Type 0 where
+  pub reached : IsReached loading policy limits tolls here before at
   -- with it the bill exceeds the limit that is named, and none that is tried earlier
   pub bill : Bill
-  pub adds : billed last earlier ≡ Ok bill
+  pub adds : billed reached.last reached.earlier ≡ Ok bill
   pub exceeds : Exceeds excess tolls bill.tally bill.memory
   -- each run that gets to it exceeds the limit that is named, whatever is answered: an earlier
   -- object in place of a new one only adds. Old strings alone must be decoded to new objects: they
   -- weigh by their bytes, and an earlier object may weigh less
-  pub each : InEachDecodedRun loading.old_strings (begins loading.memo before) instructions
-      (GetsAbove loading.old_strings last excess tolls bill.memory)
+  pub each : InEachDecodedRun loading.old_strings (begins loading.memo before)
+      reached.instructions (GetsAbove loading.old_strings reached.last excess tolls bill.memory)
   -- each run that gets past it and whose answers are new objects exceeds none that is tried earlier
   pub runs : InEachNewRun loading.old_strings (begins loading.memo before)
-      (instructions ++ last ∷ []) (EndsAbove excess tolls bill.memory)
+      (reached.instructions ++ reached.last ∷ []) (EndsAbove excess tolls bill.memory)
 
 -- the pickle with this index, counted from 0, exceeds a limit at this offset
 pub record CostsTooMuch (loading : Loading) (policy : Policy) (limits : Bounds) (tolls : Tolls)
@@ -97,4 +123,24 @@ pub record CostsTooMuch (loading : Loading) (policy : Policy) (limits : Bounds) 
   pub over : ExceedsIn loading policy limits tolls here before at excess
   -- some run gets past it whose answers are new objects
   pub some : InSomeNewRun loading.old_strings (begins loading.memo before)
-      (over.instructions ++ over.last ∷ []) GetsPast
+      (over.reached.instructions ++ over.reached.last ∷ []) GetsPast
+
+-- the check ended because of an instruction at this offset, whatever the reason: an excess, also if
+-- that is OutOfMemory. Of that nothing more is proved: neither that an allocation was refused or a
+-- sum passed 2^64, nor the number of the pickle
+pub record StopsAt (loading : Loading) (policy : Policy) (limits : Bounds) (tolls : Tolls)
+    (old new : Sight) (extent : Extent) (at : ℕ) : Type 0 where
+  -- the pickles before its own were accepted, and each keeps within the limits
+  pub before : List Pickle
+  pub here : Sight
+  pub each : AreAccepted loading policy limits old here [] before
+  pub kept : KeepWithin loading tolls [] before
+  pub alone : extent ≡ OnePickle → before ≡ []
+  -- the check accepts it; it was read, and no read failed before
+  pub reached : IsReached loading policy limits tolls here before at
+  -- behind it no more was taken than the next instruction
+  pub behind : TakesNoMore limits reached.there new
+
+-- no read failed, or one did
+abbrev pub FailsOnce : ℕ → ℕ → Type 0
+FailsOnce old new = (new ≡ old) ⊎ (new ≡ (old + 1) % (2 ^ 64))

@@ -4,6 +4,7 @@ use Rattle.std.specs.Prelude.{Option, None, Some, option_map}
 use Rattle.pkops.specs.Limits.{Bounds}
 use Rattle.pkops.specs.Spelling.{Instruction}
 use Rattle.pkread.specs.Rows.{Sight}
+use Rattle.pkread.specs.Sequence.{CountsAt}
 use Rattle.pkcheck.specs.Accepted.{AcceptedFrom}
 use Rattle.pkimport.specs.Import.{asked_shown}
 use Rattle.pkmachine.specs.Knowledge.{Policy}
@@ -123,3 +124,8 @@ module _ (loading : Loading) (policy : Policy) (limits : Bounds) (tolls : Tolls)
     abbrev pub IsRightLoading : Extent → Result YesWithBill RefusedPickle → Type 0
     IsRightLoading extent answer =
         MatchResult answer (AcceptedWithBill extent) (IsRefused extent)
+
+-- the count of failed reads rises by one if the reason is Source, and otherwise stays the same
+abbrev pub CountsLoaded : {A : Type 0} → ℕ → ℕ → Result A RefusedPickle → Type 0
+CountsLoaded old new answer =
+    MatchResult answer (λ _. new ≡ old) (λ refused. CountsAt refused.no.reason old new)

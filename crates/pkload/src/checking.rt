@@ -1,10 +1,10 @@
 //! A check that also bounds what loading costs.
 
-ghost use Rattle.std.specs.Prelude.{◌≡◌, ◌≢◌, IfErr, IfOk, None};
+ghost use Rattle.std.specs.Prelude.{◌≡◌, ◌≢◌, IfErr, IfOk, MatchResult, None};
 ghost use Rattle.pkread.specs.Rows.{sight};
 ghost use Rattle.pkmachine.specs.Policies.{permit_of};
-ghost use Rattle.pkload.specs.Costly.{CostsTooMuch};
-ghost use Rattle.pkload.specs.Loading.{IsRightLoading};
+ghost use Rattle.pkload.specs.Costly.{CostsTooMuch, FailsOnce, StopsAt};
+ghost use Rattle.pkload.specs.Loading.{CountsLoaded, IsRightLoading};
 ghost use Rattle.pkload.specs.Private.Settled.{IsBilledAs, IsCostlyBy, NoneBefore};
 ghost use Rattle.pkload.specs.Tolls.{unlimited};
 
@@ -63,8 +63,11 @@ impl fmt::Display for Costly {
 /// The first limit that an instruction exceeds which the check accepts, with its place. What the
 /// check refuses at this instruction or before it comes first. Some run whose answers are new
 /// objects gets past the instruction, and each run that gets there exceeds the limit, whatever is
-/// answered, if old strings are decoded to new objects. `OutOfMemory` says no more than that the
-/// bill couldn't be kept.
+/// answered, if old strings are decoded to new objects.
+///
+/// `OutOfMemory` says that the bill couldn't be kept behind the instruction. As for a limit, the
+/// check accepts it, and all that precedes it keeps within the limits. For either, the bytes up to
+/// its end were taken, and at most the next instruction. A read can only fail there.
 pub fn check_loading<R: Source>(
     alloc: Global,
     source: &mut R,
@@ -79,6 +82,13 @@ pub fn check_loading<R: Source>(
         → CostsTooMuch terms.now.loading (permit_of permit.now) terms.now.limits tolls.now
         (sight R.left R.failures source.old) terms.now.extent costly.pickle costly.at
         costly.excess) }
+    // Also if the bill couldn't be kept.
+    ensures stops { IfErr result (λ costly. StopsAt terms.now.loading (permit_of permit.now)
+        terms.now.limits tolls.now (sight R.left R.failures source.old)
+        (sight R.left R.failures source.new) terms.now.extent costly.at) }
+    ensures count { MatchResult result
+        (CountsLoaded (R.failures source.old) (R.failures source.new))
+        (λ _. FailsOnce (R.failures source.old) (R.failures source.new)) }
     // Without limits, only an allocation can be refused, or a sum not fit.
     ensures unlimited { tolls.now ≡ unlimited
         → IfErr result (λ costly. costly.excess ≡ Excess.OutOfMemory) }

@@ -10,7 +10,7 @@ use Rattle.pkcheck.specs.declared.Extent.TheVariants.{OnePickle, ToTheEnd}
 use Rattle.pkcheck.specs.declared.Loading.{Loading}
 use Rattle.pkcheck.specs.declared.RefusedPickle.{RefusedPickle}
 use Rattle.pkcheck.specs.declared.YesAll.{YesAll}
-use Rattle.pkload.specs.Costly.{CostsTooMuch}
+use Rattle.pkload.specs.Costly.{CostsTooMuch, StopsAt}
 use Rattle.pkload.specs.Loading.{IsRightLoading}
 use Rattle.pkload.specs.Printed.{costly_text}
 use Rattle.pkload.specs.declared.Costly.{Costly}
@@ -26,14 +26,15 @@ use Rattle.pkprint.specs.declared.checking.Outcome.TheVariants.{Done, Refused}
 abbrev pub Answer : Type 0
 Answer = Result (Result YesWithBill RefusedPickle) Costly
 
--- the answer is right under these limits. An excess of OutOfMemory says no more than that the bill
--- couldn't be kept
+-- the answer is right under these limits. An excess of OutOfMemory says that the bill couldn't be
+-- kept behind the instruction
 abbrev pub IsRightCosting : Loading → Policy → Bounds → Tolls → (old new : Sight) → Extent → Answer
     → Type 0
 IsRightCosting loading policy limits tolls old new extent answer =
     MatchResult answer (IsRightLoading loading policy limits tolls old new extent)
-    (λ costly. costly.excess ≢ OutOfMemory → CostsTooMuch loading policy limits tolls old extent
-    costly.pickle costly.at costly.excess)
+    (λ costly. StopsAt loading policy limits tolls old new extent costly.at
+    × (costly.excess ≢ OutOfMemory → CostsTooMuch loading policy limits tolls old extent
+    costly.pickle costly.at costly.excess))
 
 -- the line of a yes about one pickle, or about a row
 abbrev pub accepted_line : Extent → YesAll → List ℕ

@@ -22,18 +22,19 @@ use Rattle.pktool.specs.Optimized.{EndsIn, sizes_line}
 
 -- an optimization that ended with an outcome wrote the text that is right for it
 pub optimized : {P : Type 0} (content : Option (List ℕ)) (bytes : List ℕ)
-    (holds : P → Option (List ℕ)) (old new : P) (before after : Option (List ℕ))
-    (outcome : Outcome) → HasContent content bytes
-    → EndsIn standard bytes holds old new before after outcome
-    → Writes before after (IsOptimization content) outcome
-optimized content bytes holds old new before after Done has h = (
+    (in_place : P → P → List ℕ → Type 0) (puts : List ℕ → Type 0) (old new : P)
+    (before after : Option (List ℕ)) (outcome : Outcome)
+    → ((form : List ℕ) → in_place old new form → puts form) → HasContent content bytes
+    → EndsIn standard bytes in_place old new before after outcome
+    → Writes before after (IsOptimization content puts) outcome
+optimized content bytes in_place puts old new before after Done put has h = (
   sizes_line h.taken (length h.form),
-  (bytes, has, h.form, h.optimizes, h.taken, h.takes, refl),
+  (bytes, has, h.form, h.optimizes, put h.form h.put, h.taken, h.takes, refl),
   h.line,
 )
-optimized content bytes holds old new before after Refused has h =
+optimized content bytes in_place puts old new before after Refused put has h =
     (no_line (refusal_text h.0.refusal), inr (bytes, has, h.0.refusal, h.0.refused, refl), h.0.line)
-optimized content bytes holds old new before after Unread has h = absurd h
+optimized content bytes in_place puts old new before after Unread put has h = absurd h
 
 -- a check under the list in a file wrote the line that is right for its outcome
 pub checked : (allow file left : Option (List ℕ)) (failures : ℕ) (list : Allow)
@@ -72,12 +73,13 @@ reported (Ok outcome) before between after IsRight status w s =
 reported (Err error) before between after IsRight status w s = absurd s
 
 -- the answer to a job
-pub job_reported : {E : Type 0} (content : List ℕ → Option (List ℕ)) (words : List (List ℕ))
-    (job : Job) (ended : Result Outcome E) (before between after : Option (List ℕ)) (status : ℕ)
-    → AsksForJob words job → IfOk ended (Writes before between (IsAnswerTo content job))
-    → Stays ended between after status → Reports before after (IsAnswer content words) status
-job_reported content words job ended before between after status asks w s =
-    let r = reported ended before between after (IsAnswerTo content job) status w s in
+pub job_reported : {E : Type 0} (content : List ℕ → Option (List ℕ))
+    (puts : List ℕ → List ℕ → Type 0) (words : List (List ℕ)) (job : Job) (ended : Result Outcome E)
+    (before between after : Option (List ℕ)) (status : ℕ) → AsksForJob words job
+    → IfOk ended (Writes before between (IsAnswerTo content puts job))
+    → Stays ended between after status → Reports before after (IsAnswer content puts words) status
+job_reported content puts words job ended before between after status asks w s =
+    let r = reported ended before between after (IsAnswerTo content puts job) status w s in
     (r.0, r.1, (r.2.0, inl (job, asks, r.2.1), r.2.2))
 
 -- a text is shown only if there is no job, and the outcome is done
@@ -89,11 +91,12 @@ shown_for_none words (Asked shown) text Done (inr none) s = (none, refl)
 shown_for_none words _ text _ why s = absurd s
 
 -- the text of the help or the version
-pub text_reported : {E : Type 0} (content : List ℕ → Option (List ℕ)) (words : List (List ℕ))
-    (usage : Usage) (ended : Result Outcome E) (before between after : Option (List ℕ))
-    (status : ℕ) → (usage ≡ OutOfMemory) ⊎ AsksForNone words
+pub text_reported : {E : Type 0} (content : List ℕ → Option (List ℕ))
+    (puts : List ℕ → List ℕ → Type 0) (words : List (List ℕ)) (usage : Usage)
+    (ended : Result Outcome E) (before between after : Option (List ℕ)) (status : ℕ)
+    → (usage ≡ OutOfMemory) ⊎ AsksForNone words
     → IfOk ended (Writes before between (IsShown usage)) → Stays ended between after status
-    → Reports before after (IsAnswer content words) status
-text_reported content words usage ended before between after status why w s =
+    → Reports before after (IsAnswer content puts words) status
+text_reported content puts words usage ended before between after status why w s =
     let r = reported ended before between after (IsShown usage) status w s in
     (r.0, r.1, (r.2.0, inr (shown_for_none words usage r.2.0 r.0 why r.2.1), r.2.2))

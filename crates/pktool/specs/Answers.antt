@@ -141,29 +141,31 @@ IsExport file text Unread = ⊥
 abbrev pub no_memory : Refusal
 no_memory = record { at = 0; reason = reason.OutOfMemory }
 
--- `optimize FILE OUT`
-abbrev pub IsOptimization : Option (List ℕ) → List ℕ → Outcome → Type 0
-IsOptimization file text Done =
+-- `optimize FILE OUT`, where OUT was made to hold the form, as far as the host reveals that
+abbrev pub IsOptimization : Option (List ℕ) → (List ℕ → Type 0) → List ℕ → Outcome → Type 0
+IsOptimization file puts text Done =
     (bytes : List ℕ) × HasContent file bytes
-    × (form : List ℕ) × Optimizes standard bytes form
+    × (form : List ℕ) × Optimizes standard bytes form × puts form
     × (taken : ℕ) × TakesAsChecked standard bytes taken
     × (text ≡ sizes_line taken (length form))
-IsOptimization file text Refused =
+IsOptimization file puts text Refused =
     (text ≡ no_line (refusal_text no_memory))
     ⊎ ((bytes : List ℕ) × HasContent file bytes
     × (refusal : Refusal) × IsNotOptimized standard bytes refusal
     × (text ≡ no_line (refusal_text refusal)))
-IsOptimization file text Unread = ⊥
+IsOptimization file puts text Unread = ⊥
 
--- the text and the outcome are those of the right answer to a job, given the content of each path
-abbrev pub IsAnswerTo :
-    (List ℕ → Option (List ℕ)) → Job → List ℕ → Outcome → Type 0
-IsAnswerTo content (job.Dis file) = IsListing (content (string_bytes file))
-IsAnswerTo content (job.Imports file) = AreImports (content (string_bytes file))
-IsAnswerTo content (job.Check allow setting pickles bill file) =
+-- the text and the outcome are those of the right answer to a job, given the content of each path,
+-- and what the file at each path was made to hold
+abbrev pub IsAnswerTo : (List ℕ → Option (List ℕ)) → (List ℕ → List ℕ → Type 0) → Job → List ℕ
+    → Outcome → Type 0
+IsAnswerTo content puts (job.Dis file) = IsListing (content (string_bytes file))
+IsAnswerTo content puts (job.Imports file) = AreImports (content (string_bytes file))
+IsAnswerTo content puts (job.Check allow setting pickles bill file) =
     IsCheck (content (string_bytes allow)) setting pickles bill (content (string_bytes file))
-IsAnswerTo content (job.Json file) = IsExport (content (string_bytes file))
-IsAnswerTo content (job.Optimize file out) = IsOptimization (content (string_bytes file))
+IsAnswerTo content puts (job.Json file) = IsExport (content (string_bytes file))
+IsAnswerTo content puts (job.Optimize file out) =
+    IsOptimization (content (string_bytes file)) (puts (string_bytes out))
 
 -- the text that a command line asked for
 abbrev pub IsShown : Usage → List ℕ → Outcome → Type 0
@@ -171,8 +173,8 @@ IsShown (usage.Asked shown) text Done = text ≡ string_bytes shown
 IsShown _ text outcome = ⊥
 
 -- the answer to a command line: to its job; or, if it has none, the help or the version
-abbrev pub IsAnswer :
-    (List ℕ → Option (List ℕ)) → List (List ℕ) → List ℕ → Outcome → Type 0
-IsAnswer content words text outcome =
-    ((asked : Job) × AsksForJob words asked × IsAnswerTo content asked text outcome)
+abbrev pub IsAnswer : (List ℕ → Option (List ℕ)) → (List ℕ → List ℕ → Type 0) → List (List ℕ)
+    → List ℕ → Outcome → Type 0
+IsAnswer content puts words text outcome =
+    ((asked : Job) × AsksForJob words asked × IsAnswerTo content puts asked text outcome)
     ⊎ (AsksForNone words × (outcome ≡ Done))

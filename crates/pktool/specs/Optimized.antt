@@ -1,5 +1,5 @@
 -- The optimized form of a pickle: where it is written, and the line that reports it.
-use Rattle.std.specs.Prelude.{◌≡◌, ℕ, ⊤, List, ◌++◌, length, codes, decimal, Option, None, Some}
+use Rattle.std.specs.Prelude.{◌≡◌, ℕ, List, ◌++◌, length, codes, decimal, Option}
 use Rattle.std.specs.Io.KnownBytes.{Appends}
 use Rattle.pkops.specs.Limits.{Bounds}
 use Rattle.pkops.specs.Printed.{refusal_text}
@@ -14,20 +14,15 @@ abbrev pub sizes_line : ℕ → ℕ → List ℕ
 sizes_line before after =
     decimal before ++ (codes " bytes to " ++ (decimal after ++ codes " bytes\n"))
 
--- the place holds these bytes, if it reveals what it holds
-abbrev pub HoldsBytes : Option (List ℕ) → List ℕ → Type 0
-HoldsBytes None bytes = ⊤
-HoldsBytes (Some held) bytes = held ≡ bytes
-
--- the place holds the optimized form of the pickle at the front of the bytes, and the line reports
--- the sizes of both
-pub record IsPut (limits : Bounds) (bytes : List ℕ) (held before after : Option (List ℕ))
-    : Type 0 where
+-- the optimized form of the pickle at the front of the bytes was put in the place, and the line
+-- reports the sizes of both
+pub record IsPut (limits : Bounds) (bytes : List ℕ) (puts : List ℕ → Type 0)
+    (before after : Option (List ℕ)) : Type 0 where
   pub form : List ℕ
   pub optimizes : Optimizes limits bytes form
   pub taken : ℕ
   pub takes : TakesAsChecked limits bytes taken
-  pub holds : HoldsBytes held form
+  pub put : puts form
   pub line : Appends before after (sizes_line taken (length form))
 
 -- the pickle has no optimized form, and the line says why
@@ -39,10 +34,10 @@ pub record IsNone (limits : Bounds) (bytes : List ℕ) (before after : Option (L
 
 -- how an optimization ends: with the form in its place, or with a refusal that leaves the place
 -- unchanged
-abbrev pub EndsIn : {P : Type 0} → Bounds → List ℕ → (P → Option (List ℕ)) → P → P
+abbrev pub EndsIn : {P : Type 0} → Bounds → List ℕ → (P → P → List ℕ → Type 0) → P → P
     → Option (List ℕ) → Option (List ℕ) → Outcome → Type 0
-EndsIn limits bytes holds old new before after Done =
-    IsPut limits bytes (holds new) before after
-EndsIn limits bytes holds old new before after Refused =
+EndsIn limits bytes puts old new before after Done =
+    IsPut limits bytes (puts old new) before after
+EndsIn limits bytes puts old new before after Refused =
     IsNone limits bytes before after × (new ≡ old)
-EndsIn limits bytes holds old new before after Unread = ⊥
+EndsIn limits bytes puts old new before after Unread = ⊥

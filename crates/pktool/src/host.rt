@@ -1,5 +1,5 @@
 //! The files of a host, by their paths.
-ghost use Rattle.std.specs.Prelude.{◌≡◌, IfOk, List, None, Option, ℕ};
+ghost use Rattle.std.specs.Prelude.{◌≡◌, IfOk, List, None, OnOk, Option, ℕ, ⊤};
 
 use crate::optimizing::Place;
 use crate::passing::PassOver;
@@ -18,6 +18,9 @@ pub trait Host {
     // The bytes of the file at a path, if the host reveals them.
     ghost content: { Self → List ℕ → Option (List ℕ) } = { λ _ _. None };
 
+    // The file at a path was made to hold these bytes, as far as the host reveals that.
+    ghost puts: { Self → List ℕ → List ℕ → Type 0 } = { λ _ _ _. ⊤ };
+
     /// Opens the file at a path, to be read from its start.
     ///
     /// # Errors
@@ -31,13 +34,8 @@ pub trait Host {
     /// # Errors
     ///
     /// An error if the form cannot be written.
-    fn put(
-        &self,
-        alloc: Global,
-        path: &str,
-        input: &Self::Input,
-        form: &Form<'_>,
-    ) -> io::Result<()>;
+    fn put(&self, alloc: Global, path: &str, input: &Self::Input, form: &Form<'_>) -> io::Result<()>
+        ensures { OnOk result (puts self.now path.now form.now.bytes) };
 }
 
 /// The files of the system, which reveal nothing to a contract.
@@ -64,7 +62,10 @@ pub struct NewFile<'a, H: Host> {
 
 impl<'a, H: Host> NewFile<'a, H> {
     /// The file at this path. Nothing is created yet.
-    pub fn new(host: &'a H, alloc: Global, path: &'a str, input: &'a H::Input) -> NewFile<'a, H> {
+    pub fn new(host: &'a H, alloc: Global, path: &'a str, input: &'a H::Input) -> NewFile<'a, H>
+        ensures host { result.host.now ≡ host.now }
+        ensures path { result.path.now ≡ path.now }
+    {
         NewFile {
             host,
             alloc,
@@ -75,6 +76,8 @@ impl<'a, H: Host> NewFile<'a, H> {
 }
 
 impl<'a, H: Host> Place for NewFile<'a, H> {
+    ghost puts = { λ old new. H.puts old.host.now old.path.now };
+
     fn put(&mut self, form: &Form<'_>) -> io::Result<()> {
         self.host.put(self.alloc, self.path, self.input, form)
     }

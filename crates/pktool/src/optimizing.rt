@@ -1,8 +1,8 @@
 //! The optimized form of a pickle: where it is written, and the line that reports it.
-ghost use Rattle.std.specs.Prelude.{◌≡◌, ◌⊎◌, IfOk, List, None, OnErr, OnOk, Option, ℕ};
+ghost use Rattle.std.specs.Prelude.{◌≡◌, ◌⊎◌, IfOk, List, OnErr, OnOk, ℕ, ⊤};
 ghost use Rattle.pkopt.specs.Answer.{Checks};
 ghost use Rattle.std.specs.Io.KnownBytes.{Appends};
-ghost use Rattle.pktool.specs.Optimized.{EndsIn, HoldsBytes, sizes_line};
+ghost use Rattle.pktool.specs.Optimized.{EndsIn, sizes_line};
 
 use pkops::Limits;
 use pkopt::{Form, optimized_form};
@@ -13,8 +13,8 @@ use std::io::Write;
 
 /// A destination for an optimized form.
 pub trait Place {
-    // The bytes that it holds, if it reveals them.
-    ghost holds: { Self → Option (List ℕ) } = { λ _. None };
+    // Between two states it was made to hold these bytes, as far as it reveals that.
+    ghost puts: { Self → Self → List ℕ → Type 0 } = { λ _ _ _. ⊤ };
 
     /// Replaces what it holds with this form.
     ///
@@ -22,7 +22,7 @@ pub trait Place {
     ///
     /// An error if the form cannot be written.
     fn put(&mut self, form: &Form<'_>) -> io::Result<()>
-        ensures { OnOk result (HoldsBytes (holds self.new) form.now.bytes) };
+        ensures { OnOk result (puts self.old self.new form.now.bytes) };
 }
 
 /// Why an optimization ends without an answer.
@@ -55,7 +55,7 @@ pub fn optimize_to<P: Place, W: Write>(
     place: &mut P,
     out: &mut W,
 ) -> Result<Outcome, Unoptimized>
-    ensures ends { IfOk result (EndsIn limits.now bytes.now P.holds place.old place.new
+    ensures ends { IfOk result (EndsIn limits.now bytes.now P.puts place.old place.new
         (W.contents out.old) (W.contents out.new)) }
     ensures fails { OnErr result ((Checks limits.now bytes.now) ⊎ (place.new ≡ place.old)) }
 {

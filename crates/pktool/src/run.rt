@@ -51,7 +51,8 @@ pub fn run<H: Host, O: Write + Drop, E: Write>(
     ensures status { result ≤ 2 }
     ensures answered { result < 2
         → Reports (writer_contents O.contents out.old) (O.contents (writer_inner out.new))
-        (IsAnswer (H.content host.now) (map (λ word. word.now) words.now)) result }
+        (IsAnswer (H.content host.now) (H.puts host.now) (map (λ word. word.now) words.now))
+        result }
 {
     match command_of(alloc, words) {
         Ok(job) => status_of(done(host, alloc, &job, out), out, err),
@@ -67,7 +68,7 @@ fn done<'a, H: Host, O: Write>(
     out: &mut O,
 ) -> Result<Outcome, Fault<'a>>
     ensures { IfOk result (Writes (O.contents out.old) (O.contents out.new)
-        (IsAnswerTo (H.content host.now) job.now)) }
+        (IsAnswerTo (H.content host.now) (H.puts host.now) job.now)) }
 {
     match job {
         Job::Dis { file } => dis_file(host, alloc, file.as_str(), out),
@@ -194,7 +195,7 @@ fn optimize_file<'a, H: Host, O: Write>(
     out: &mut O,
 ) -> Result<Outcome, Fault<'a>>
     ensures { IfOk result (Writes (O.contents out.old) (O.contents out.new)
-        (IsOptimization (H.content host.now file.now))) }
+        (IsOptimization (H.content host.now file.now) (H.puts host.now to.now))) }
 {
     let Ok(mut input) = host.open(file) else {
         return Err(Fault::Unread(file));

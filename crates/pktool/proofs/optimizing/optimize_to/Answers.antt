@@ -1,4 +1,4 @@
--- The line has the length taken and that of the form, which the place now holds.
+-- The line has the length taken and that of the form, which was put in the place.
 use Rattle.std.proofs.Common.{length, subst}
 use Rattle.std.specs.Io.KnownBytes.{Appends}
 use Rattle.pktool.specs.Optimized.{sizes_line}
@@ -14,7 +14,7 @@ returns-in_ok-write_sizes-in-Ok-clause-ends g c =
       optimizes = c.in-Ok.ensures.ok;
       taken = form.taken;
       takes = c.in-Ok.ensures.taken;
-      holds = c.in-Ok-put.ensures;
+      put = c.in-Ok-put.ensures;
       line = subst (λ n. Appends before after (sizes_line n (length form.bytes))) c.taken.ensures
           (subst (λ n. Appends before after (sizes_line c.taken.result n)) c.len.ensures
           c.in_ok-write_sizes-in-Ok.ensures);
