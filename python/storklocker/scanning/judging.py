@@ -18,7 +18,7 @@ from .listing import listing
 from .lone import Lone
 from .names import pair_of
 from .readings import (
-    Beside, Nothing, Piece, Place, Together, Unread, all_asked, examine, is_text, nothing
+    Beside, Nothing, Piece, Place, Ran, Together, Unread, all_asked, examine, is_text, nothing
 )
 from .report import (
     ACCEPTED, LONGEST, NO_PICKLE, UNJUDGED, Finding, Pair, Report, sorted_findings, unreadable
@@ -108,16 +108,21 @@ def _accepted(taken: int, count: int, allow: Optional[AllowList]) -> Tuple[str, 
 
 
 def _reports_at(place: Place, question: Question) -> Iterator[Report]:
-    found, answer, budget = examine(place), None, place.budget
+    told, answer, budget = examine(place), None, place.budget
     while True:
         try:
-            it = found.send(answer)
+            it = told.send(answer)
         except StopIteration:
             return
         answer = None
         budget.spend(2 * STEP)
         if isinstance(it, Together):
             yield _told_together(it, question.allow, place)
+        elif isinstance(it, Ran):
+            found = (Finding("runs-code", it.why),)
+            yield Report(
+                it.path, it.kind, UNJUDGED, it.why, it.size, findings=found, file=place.path
+            )
         elif isinstance(it, Nothing):
             yield Report(it.path, it.kind, NO_PICKLE, it.why, it.size, file=place.path)
         elif isinstance(it, Unread):

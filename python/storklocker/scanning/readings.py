@@ -21,6 +21,7 @@ from typing import (
 
 from .budget import DEPTH, STEP, Budget, TooMuch
 from .report import LONGEST, Finding
+from .severity import UNRECOGNIZED
 from .source import Source
 
 if TYPE_CHECKING:
@@ -60,6 +61,15 @@ class Nothing(NamedTuple):
     why: str = ""
 
 
+class Ran(NamedTuple):
+    """A file that runs code which isn't in a pickle."""
+
+    path: str
+    kind: str
+    size: int
+    why: str
+
+
 class Together(NamedTuple):
     """Values of a store of which nothing but their imports is to be told."""
 
@@ -74,7 +84,7 @@ class Together(NamedTuple):
 
 Answer = Optional[int]
 """The length of the pickles that were accepted in a piece; None if it isn't a pickle."""
-Found = Generator[Union[Piece, Unread, Nothing, Together], Answer, bool]
+Found = Generator[Union[Piece, Unread, Nothing, Together, Ran], Answer, bool]
 
 
 Beside = Callable[[], Optional[Source]]
@@ -123,6 +133,7 @@ _ONLY = {
     "npy": "numbers only",
     "SQLite": "no value is a pickle, as it stands",
     **dict.fromkeys(("HDF5", "GDBM", "Berkeley DB", "LMDB", "Arrow", "Parquet"), _SEARCHED),
+    "other stores": _SEARCHED,
 }
 """What is in a file that a reader takes, and in which it finds no pickle."""
 
@@ -164,8 +175,22 @@ def examine(place: Place) -> Found:
     if len(takers) > 1:
         named = " and as ".join(takers)
         yield place.unread("file", "differing-readings", f"it can be read as {named}")
-    elif place.budget.reports == reports:
+    yield from _told_of(place, takers, reports)
+    return bool(takers)
+
+
+def _told_of(place: Place, takers: List[str], reports: int) -> Found:
+    """What is told of a file beside its pickles: the code in it; or else what it is, if there is
+    nothing else to tell.
+    """
+    from .kinds import kinds_of, name_of
+
+    if len(takers) < 2:
+        yield from kinds_of(place)
+    if len(takers) < 2 and place.budget.reports == reports:
         around = "file" if place.around == "pickle" else place.around
         kind = takers[0] if takers else around
-        yield Nothing(place.path, kind, place.source.size, _ONLY.get(kind, ""))
-    return bool(takers)
+        why = _ONLY.get(kind, "") if takers or place.is_raw else name_of(place.source)
+        kind = UNRECOGNIZED if why == UNRECOGNIZED else kind
+        yield Nothing(place.path, kind, place.source.size, "" if kind == UNRECOGNIZED else why)
+    return True

@@ -15,6 +15,9 @@ WARNING = "warning"
 NOTE = "note"
 """It may be harmless, but nobody has looked."""
 
+UNRECOGNIZED = "unrecognized"
+"""What a file is called that no reading knows, and which isn't known to be something else."""
+
 SEVERITIES = (REFUSED, DANGER, UNREADABLE, WARNING, NOTE)
 """From the worst to the least."""
 
@@ -96,6 +99,11 @@ KINDS: Dict[str, Kind] = {
         WARNING,
         "The pickle changes what it imports, for all that use it",
         "Don't load it: no pickler writes such a pickle, and a guard refuses it.",
+    ),
+    "runs-code": Kind(
+        WARNING,
+        "The file runs code that isn't read here",
+        "Load it only if you trust where it comes from: only pickles are read.",
     ),
     "wildcard": Kind(
         WARNING,

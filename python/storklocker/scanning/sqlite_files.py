@@ -9,7 +9,7 @@ import re
 from typing import Generator, List, Set, Tuple, Union
 
 from .budget import Budget
-from .readings import Answer, Found, Nothing, Piece, Place, Together, Unread
+from .readings import Answer, Found, Nothing, Piece, Place, Ran, Together, Unread
 from .report import LONGEST
 from .source import Source, in_memory
 from .spelled import LENGTHS
@@ -28,7 +28,7 @@ _STOP, _WORDS = ord("."), re.compile(rb"[\t-\r -~]*")
 _PACKED = re.compile(rb"\x1f\x8b\x08|[\x08-\x78][\x01\x5e\x9c\xda]|[A-Za-z0-9+/_-]{24}")
 
 _Parts = List[Tuple[int, int]]
-_Reads = Generator[Union[Piece, Unread, Nothing, Together], Answer, _Parts]
+_Reads = Generator[Union[Piece, Unread, Nothing, Together, Ran], Answer, _Parts]
 
 
 def sqlite_reading(place: Place) -> Found:

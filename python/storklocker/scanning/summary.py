@@ -9,10 +9,12 @@ from collections import Counter
 from typing import FrozenSet, Iterable, Iterator, List, Optional, TextIO
 
 from .report import NO_PICKLE, Report
-from .severity import DANGER, NOTE, REFUSED, SEVERITIES, UNREADABLE, WARNING
+from .severity import (
+    DANGER, NOTE, REFUSED, SEVERITIES, UNREADABLE, UNRECOGNIZED, WARNING
+)
 
 NEVER = "never"
-FAIL_ON = (REFUSED, DANGER, WARNING, NOTE, NEVER)
+FAIL_ON = (REFUSED, DANGER, WARNING, NOTE, UNRECOGNIZED, NEVER)
 """The choices of `--fail-on`."""
 _FOLDERS = 10_000
 """The most folders whose findings are counted."""
@@ -27,6 +29,8 @@ def counted(fail_on: str) -> FrozenSet[str]:
     """The severities that cause status 1."""
     if fail_on == NEVER:
         return frozenset()
+    if fail_on == UNRECOGNIZED:
+        return frozenset((*SEVERITIES, UNRECOGNIZED)) - {UNREADABLE}
     return frozenset(SEVERITIES[: SEVERITIES.index(fail_on) + 1]) - {UNREADABLE}
 
 
@@ -57,6 +61,7 @@ class Summary:
         if report.file != self._file:
             self._file, self._is_noted = report.file, False
             self.files += 1
+        self.is_found |= report.kind == UNRECOGNIZED and UNRECOGNIZED in self._counted
         if not report.findings and report.status not in SEVERITIES:
             return
         severities = {report.status, *(it.severity for it in report.findings)}
