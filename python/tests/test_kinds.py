@@ -98,7 +98,8 @@ class Kinds(unittest.TestCase):
         ):
             bad = [it.severity for report in told(make(EVIL)) for it in report.findings]
             self.assertIn(DANGER, bad, name)
-            self.assertEqual([], [it for report in told(make(GOOD)) for it in report.findings], name)
+            good = [it for report in told(make(GOOD)) for it in report.findings]
+            self.assertEqual([], good, name)
 
 
 if __name__ == "__main__":

@@ -20,7 +20,8 @@ _LOOKED_AT, _HEADER = 1 << 18, 100_000_000
 RECOGNIZED: Tuple[Tuple[bytes, str], ...] = (
     (rb"\x89PNG\r\n\x1a\n", "PNG"), (rb"\xff\xd8\xff", "JPEG"), (rb"GIF8[79]a", "GIF"),
     (rb"RIFF.{4}(?:WEBP|WAVE|AVI )", "RIFF"), (rb"II\*\0|MM\0\*", "TIFF"), (rb"%PDF-1\.", "PDF"),
-    (rb"\x7fELF[\x01\x02][\x01\x02]\x01", "ELF"), (rb"\xca\xfe\xba\xbe\0", "a class of Java, or Mach-O"),
+    (rb"\x7fELF[\x01\x02][\x01\x02]\x01", "ELF"),
+    (rb"\xca\xfe\xba\xbe\0", "a class of Java, or Mach-O"),
     (rb"[\xcf\xce]\xfa\xed\xfe", "Mach-O"), (rb"OTTO|\0\x01\0\0\0[\x01-\x40]|wOF[F2]", "a font"),
     (rb"OggS\0", "Ogg"), (rb"fLaC\0", "FLAC"), (rb"ID3[\2-\4]", "MP3"), (rb".{4}ftyp", "MP4"),
     (rb"\xde\x12\x04\x95|\x95\x04\x12\xde", "a catalog of gettext"), (rb"!<arch>\n", "ar"),
@@ -59,14 +60,16 @@ CODE: Tuple[Code, ...] = (
          f"its operators reach files or Python: {_RUNS}"),
     Code("GGUF", rb"", rb"\AGGUF(?s:.*)tokenizer\.chat_template",
          f"it has a template of Jinja, {_NOT_READ}"),
-    Code("ONNX", rb"\.onnx$", rb"external_data|\blocation\x12", f"it names other files, {_NOT_READ}"),
+    Code("ONNX", rb"\.onnx$", rb"external_data|\blocation\x12",
+         f"it names other files, {_NOT_READ}"),
     Code("ONNX", rb"\.onnx$", rb"\A\x08[\1-\x20](?s:.*)com\.|ai\.onnx\.contrib",
          f"it may have operators of its own: {_RUNS}"),
     Code("JSON of jsonpickle", rb"", rb'"py/(?:reduce|object|type|function|repr|state|newobj)"',
          _RUNS),
-    Code("YAML", rb"", rb"(?m)^[^#\"'\n]*(?:!!python/|!<tag:yaml\.org,2002:python/)", f"a tag {_RUNS}"),
-    Code("zarr", rb"(?:\.zarray|\.zmetadata|zarr\.json)$",
-         rb'"id":\s*"(?:pickle|json2|msgpack2)?pickle"', f"its chunks are pickles: {_RUNS}"),
+    Code("YAML", rb"", rb"(?m)^[^#\"'\n]*(?:!!python/|!<tag:yaml\.org,2002:python/)",
+         f"a tag {_RUNS}"),
+    Code("zarr", rb"(?:\.zarray|\.zmetadata|zarr\.json)$", rb'"id":\s*"pickle"',
+         f"its chunks are pickles: {_RUNS}"),
 )
 """What is told of files that run code: each has a word."""
 _PATTERNS = tuple((re.compile(it.path), re.compile(it.holds)) for it in CODE)
@@ -143,7 +146,7 @@ def name_of(source: Source) -> str:
 
 
 def is_safetensors(source: Source) -> bool:
-    """Whether it is a file of safetensors, whose header is right and whose tensors fill the rest."""
+    """Whether it is a file of safetensors with a right header, whose tensors fill the rest."""
     length = int.from_bytes(source.read(0, 8), "little")
     if not 2 <= length <= min(_HEADER, source.size - 8) or source.read(8, 1) != b"{":
         return False
