@@ -16,7 +16,7 @@ import storklocker
 from common import needs
 from test_readings import HDF5, header, npy, tar, with_record
 
-SECONDS = 4
+SECONDS = 20
 """The most processor time for a file of at most a megabyte: twice what a quiet machine takes."""
 
 

@@ -71,7 +71,7 @@ def _cut(source: Source, guard: Guard) -> Tuple[Cut, List[bytes]]:
         return len(pickles[-1])
 
     try:
-        cut = Cutter(source, length_of, lambda: None).cut()
+        cut = Cutter(source, length_of, lambda steps: None).cut()
     except NotFollowed as error:
         raise guard.UnpicklingError(f"this is not a file of joblib: {error}") from None
     held = iter(pickles)

@@ -101,7 +101,7 @@ class Budget:
         if self._pickles < 0:
             most = self._most_pickles
             raise TooMuch(f"it has more than {most:,} pickles: the rest was not read")
-        self.spend(STEP + size // LOOKED_AT)
+        self.spend(2 * STEP + size // LOOKED_AT)
 
     def spend_name(self, pair: Pair) -> bool:
         """Counts a name that is reported, once; False if there is no room for it."""

@@ -115,7 +115,7 @@ def _reports_at(place: Place, question: Question) -> Iterator[Report]:
         except StopIteration:
             return
         answer = None
-        budget.spend(2 * STEP)
+        budget.spend(4 * STEP)
         if isinstance(it, Together):
             yield _told_together(it, question.allow, place)
         elif isinstance(it, Ran):

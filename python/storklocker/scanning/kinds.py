@@ -10,6 +10,7 @@ import json
 import re
 from typing import Any, Dict, Iterator, List, NamedTuple, Optional, Tuple
 
+from .budget import LOOKED_AT, STEP
 from .readings import Found, Piece, Place, Ran, is_text
 from .severity import UNRECOGNIZED
 from .source import Source
@@ -74,9 +75,10 @@ CODE: Tuple[Code, ...] = (
 """What is told of files that run code: each has a word."""
 _PATTERNS = tuple((re.compile(it.path), re.compile(it.holds)) for it in CODE)
 _ANY = re.compile(
-    rb"\A..\r\n|import|Lambda|PyFunc|ReadFile|WriteFile|GGUF|external_data|location|com\.|contrib"
-    rb"|\"py/|python/|pickle", re.DOTALL
+    rb"\A..\r\n|import[ \t]|Lambda\"|PyFunc|ReadFile|WriteFile|GGUF|external_data|location\x12|com\."
+    rb"|onnx|\"py/|python/|\"pickle\"", re.DOTALL
 )
+"""Something that each of them has in its first bytes; others are told by their paths."""
 _NAMED = re.compile(rb"code/|extern_modules")
 _RECORDS = re.compile(rb"\0.{3}\x80[\2-\5]", re.DOTALL)
 _FRONTS = tuple((re.compile(begun, re.DOTALL), name) for begun, name in RECOGNIZED)
@@ -97,8 +99,12 @@ def kinds_of(place: Place) -> Iterator[Ran]:
         return
     told = set()
     data = place.source.read(0, _LOOKED_AT)
+    place.budget.spend(2 * STEP + len(data) // LOOKED_AT)
     for code, (named, holds) in zip(CODE, _PATTERNS):
-        if code.name not in told and named.search(path) and holds.search(data):
+        if code.name in told or not named.search(path):
+            continue
+        place.budget.spend(1 + len(data) // LOOKED_AT)
+        if holds.search(data):
             told.add(code.name)
             yield Ran(place.path, code.name, place.source.size, code.word)
 
@@ -120,7 +126,7 @@ def _records(place: Place) -> Found:
     source, at, is_any = place.source, 0, False
     while source.read(at + 4, 1) == b"\x80":
         size = int.from_bytes(source.read(at, 4), "big")
-        if at + 4 + size > source.size:
+        if not 0 < size <= source.size - at - 4:
             break
         place.budget.spend_member()
         is_any = True
