@@ -100,7 +100,7 @@ FIGURES = [
     Figure(SCANNING, r"more than (\w+) containers", BUDGET, r"(?m)^DEPTH = (.+)$"),
     Figure(SCANNING, r"([\d,]+) members", BUDGET, r"(?m)^MEMBERS = (.+)$"),
     Figure(SCANNING, r"([\d,]+) pickles", BUDGET, r"(?m)^PICKLES = (.+)$"),
-    Figure(SCANNING, r"([\d.]+) seconds", BUDGET, r"(?m)^SECONDS = (.+)$"),
+    Figure(SCANNING, r"([\d,]+) steps", BUDGET, r"(?m)^STEPS = (.+)$"),
     Figure(SCANNING, r"(\d+ MiB) unpacked", BUDGET, r"UNPACKED = (\d+ << \d+),"),
     Figure("docs/FORMATS.md", r"`counted`: [^|]+\| ([\d,]+)", LIMITS, r"  counted: ([\d_]+)"),
     Figure("docs/FORMATS.md", r"`passed`: [^|]+\| ([\d,]+)", LIMITS, r"  passed: ([\d_]+)"),

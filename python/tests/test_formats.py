@@ -99,7 +99,7 @@ class Formats(unittest.TestCase):
     def test_a_lone_file_is_always_named(self):
         for name, data, wanted in (
             ("a.npy", NUMBERS, "  npy  numbers only\n"),
-            ("a.txt", b"A text\n", "  file\n"), ("none", b"", "  file\n"),
+            ("a.txt", b"A text\n", "  file  text\n"), ("none", b"", "  file  empty\n"),
             ("z.zip", zipped(*((f"{number}", b"text") for number in range(50))), "30 more without"),
         ):
             _, out = self.run_command("scan", self.put(name, data))

@@ -1,4 +1,4 @@
-"""Zip files as common tools make them: nothing is found in honest ones, and hostile ones are told."""
+"""Zip files as common tools make them: nothing is found in honest ones, hostile ones are told."""
 
 import io
 import pickle

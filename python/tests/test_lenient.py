@@ -44,7 +44,8 @@ COUNTED = (
     b"q\0", b"h\0", b"q\1", b"h\1", b"q\xff", b"r\1\0\0\0", b"j\1\0\0\0", b"\x80\x02",
 )
 PLAIN = b"(012N\x88\x89]})aesutld\x85\x86\x87\x8f\x90\x91bRoQ\x81\x92\x97\x98\x94((0t.\x93"
-NAMES = (b"os\nsystem\n", b"a.b\nc.d\n", b"os\0x\nsystem\n", b"a b\nc\n", b"\xff\nc\n", b"\xc3\xa9\nc\n")
+NAMES = (b"os\nsystem\n", b"a.b\nc.d\n", b"os\0x\nsystem\n", b"a b\nc\n", b"\xff\nc\n",
+         b"\xc3\xa9\nc\n")
 ENDS = (
     b"cos\nsystem\n.", b"\x8c\x02os\x8c\x06system\x93.", b"(S'a'\nios\nsystem\n.", b"ios\nsystem\n",
     b"cos\nsystemX", b"cos\n", b"cosX", b"iosX", b"ios\nsystemX", b"\x93.", b".", b"",

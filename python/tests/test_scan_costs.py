@@ -17,8 +17,8 @@ from common import needs
 from test_readings import HDF5, header, npy, tar, with_record
 
 SECONDS = 20
-"""The most processor time for a file of at most a megabyte: ten times what a quiet machine takes, so
-that a slow one does, and what has no bound doesn't.
+"""The most processor time for a file of at most a megabyte: ten times what a quiet machine takes,
+so that a slow one does, and what has no bound doesn't.
 """
 
 

@@ -49,7 +49,10 @@ MADE = {
         f" substr(a, n, 1) || v from t, parts where n <= {len(RUNS)})"
         " select 'k' as key, cast(v as blob) as value from t order by n desc limit 1",
     ),
-    "a plain column": ("create table Dict (key, value)", f"insert into Dict values ('k', x'{HEX}')"),
+    "a plain column": (
+        "create table Dict (key, value)",
+        f"insert into Dict values ('k', x'{HEX}')",
+    ),
 }
 """The statements that make each database."""
 
@@ -65,8 +68,10 @@ HONEST = {
     ),
 }
 HOSTILE = {
-    "without end": "with recursive t(n) as (select 1 union all select n + 1 from t) select n from t",
-    "long": "with recursive t(v) as (select 'aaaaaaaa' union all select v || v from t) select v from t",
+    "without end": "with recursive t(n) as (select 1 union all select n + 1 from t)"
+    " select n from t",
+    "long": "with recursive t(v) as (select 'aaaaaaaa' union all select v || v from t)"
+    " select v from t",
     "sorted": "with recursive t(n) as (select 1 union all select n + 1 from t)"
     " select n, hex(zeroblob(1000)) from t order by 2",
     "random": f"select case when abs(random()) % 1000000 = 3 then x'{HEX}' end as value",

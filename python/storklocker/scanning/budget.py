@@ -10,12 +10,13 @@ if TYPE_CHECKING:
 
 DEPTH = 4
 """The most containers inside one another."""
-MEMBERS, _MEMBER_BYTES = 20_000, 64
-"""The most members of a file that are read; of a large one, one for so many of its bytes."""
-PICKLES, _PICKLE_BYTES = 100_000, 16
-"""The most pickles of a file that are looked at one by one; of a large one, one for so many of its
+MEMBERS = 20_000
+"""The most members of a file that are read; of a large one, one for `_MEMBER_BYTES` bytes."""
+PICKLES = 100_000
+"""The most pickles of a file that are looked at one by one; of a large one, one for `_PICKLE_BYTES`
 bytes.
 """
+_MEMBER_BYTES, _PICKLE_BYTES = 64, 16
 PROBED, RATIO, UNPACKED = 1 << 26, 100, 1 << 30
 """A file may unpack to `PROBED` bytes, or to `RATIO` times its size if that is more, but not to
 more than `UNPACKED` bytes.
@@ -100,7 +101,7 @@ class Budget:
         if self._pickles < 0:
             most = self._most_pickles
             raise TooMuch(f"it has more than {most:,} pickles: the rest was not read")
-        self.spend(STEP + size // LOOKED_AT)
+        self.spend(2 * STEP + size // LOOKED_AT)
 
     def spend_name(self, pair: Pair) -> bool:
         """Counts a name that is reported, once; False if there is no room for it."""

@@ -59,7 +59,8 @@ class Dict_:
 
 
 class Follower:
-    """Follows the first pickle of a source. `tick` is called now and then, with a number of steps."""
+    """Follows the first pickle of a source. `tick` is called with a number of steps now and then.
+    """
 
     def __init__(self, source: Source, tick: Callable[[int], object]) -> None:
         self._source, self._tick = source, tick

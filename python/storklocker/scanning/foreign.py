@@ -7,8 +7,9 @@ from __future__ import annotations
 
 import functools
 import re
-from typing import Dict, Iterable, Iterator, NamedTuple, Optional, Pattern, Tuple
+from typing import Callable, Dict, Iterable, Iterator, NamedTuple, Optional, Pattern, Tuple
 
+from .budget import LOOKED_AT
 from .marks import HDF5
 from .source import BLOCK, Source
 
@@ -66,12 +67,11 @@ FORMATS = (
         # (flags of 3.7 and later, and the code behind a header of 8, 12 or 16 bytes)
         rb"..\r\n(?:[\0-\3]\0\0\0.{8}[\xe3c]|.{4}c\0\0\0|.{8}[\xe3c]\0\0\0)",
     ),
-    _Format("ZODB", UNREAD, "the records of a ZODB database are pickles", rb"FS(?:21|30)"),
     _Format(
         "SequenceFile",
         UNREAD,
-        "values of a SequenceFile are pickles if PySpark wrote it",
-        rb"SEQ[\4-\6].{1,4}org\.apache\.hadoop\.io\.",
+        "its values are compressed, and pickles if PySpark wrote it",
+        rb"SEQ[\4-\6].{1,4}org\.apache\.hadoop\.io\..{0,200}org\.apache\.hadoop\.io\.compress",
     ),
     _Format(
         "GGUF",
@@ -124,7 +124,8 @@ FORMATS = (
         "MessagePack",
         RUNS,
         "msgpack-numpy loads its arrays of objects, which are pickles",
-        rb"[\x81-\x9f\xc4-\xc9\xdc-\xdf]",
+        # (a map of it alone is looked through)
+        rb"(?![\x81-\x8f\xde].{0,9}(?:\xa2|\xc4\x02)nd\xc3)[\x81-\x9f\xc4-\xc9\xdc-\xdf]",
         (b"kind",),
         rb"(?:\xa4|\xc4\x04)kind(?:\xa1|\xc4\x01)O",
     ),
@@ -162,13 +163,13 @@ MEMBERS = {
 _MEMBERS = {re.compile(name, re.DOTALL): it for name, it in MEMBERS.items()}
 
 
-def foreign_of(path: str, source: Source) -> Iterator[Foreign]:
-    """What a file is besides what is read of it here; nothing for most files."""
+def foreign_of(path: str, source: Source, spend: Callable[[int], object]) -> Iterator[Foreign]:
+    """What a file is besides what is read of it here; nothing for most files. A look is counted."""
     front, lowered = source.front(), path.lower()
     named = tuple(it for ending, it in NAMED.items() if lowered.endswith(ending))
-    for it in named + FORMATS:
+    for it in named + FORMATS:  # (none of most files)
         if _pattern(it.front).match(front):
-            yield from _told(it, source)
+            yield from _told(it, source, spend)
 
 
 def foreign_members(names: Iterable[str]) -> Iterator[Foreign]:
@@ -179,22 +180,25 @@ def foreign_members(names: Iterable[str]) -> Iterator[Foreign]:
             yield left.pop(pattern)
 
 
-def _told(it: _Format, source: Source) -> Iterator[Foreign]:
+def _told(it: _Format, source: Source, spend: Callable[[int], object]) -> Iterator[Foreign]:
     if it.holding is None:
         yield Foreign(it.kind, it.finding, it.why)
         return
-    found = _first(it, _pattern(it.holding), source)
+    found = _first(it, _pattern(it.holding), source, spend)
     if found is not None:
         yield Foreign(it.kind, it.finding, f"{it.why}: {found}")
 
 
-def _first(it: _Format, holding: Pattern[bytes], source: Source) -> Optional[str]:
+def _first(
+    it: _Format, holding: Pattern[bytes], source: Source, spend: Callable[[int], object]
+) -> Optional[str]:
     """The first place of what a format holds, as a text; None if it is nowhere."""
     at, kept = 0, b""
     while at < source.size:
         block = source.read(at, BLOCK)
         if not block:
             break
+        spend(1 + len(block) // LOOKED_AT)
         at, data = at + len(block), kept + block
         kept = data[-_MOST_APART:]
         if b"\0" in data:

@@ -128,14 +128,14 @@ def _foreseen(
 
 
 def _reports_at(place: Place, question: Question) -> Iterator[Report]:
-    found, answer, budget = examine(place), None, place.budget
+    told, answer, budget = examine(place), None, place.budget
     while True:
         try:
-            it = found.send(answer)
+            it = told.send(answer)
         except StopIteration:
             return
         answer = None
-        budget.spend(2 * STEP)
+        budget.spend(4 * STEP)
         if isinstance(it, Together):
             yield _told_together(it, question.allow, place)
         elif isinstance(it, Nothing):

@@ -30,6 +30,7 @@ READERS = (
     "dbm.dumb",  # the first, because it says where the pickles are
     *("pickle", "cachelib", "distcp", "npy", "tar", "gzip", "bzip2", "xz", "lzma", "zlib", "ZF"),
     *("packed file", "SQLite", "Berkeley DB", "HDF5", "GDBM", "LMDB", "Arrow", "Parquet"),
+    "other stores",  # of ZODB, Hadoop and msgpack-numpy
     "zip",  # the last, because it leaves out what a member holds
 )
 """What all readers read, in the order in which they are asked."""
@@ -60,6 +61,8 @@ MARKED: Dict[str, bytes] = {
     "lzma": rb"[\0-\xe0](?:.{4}\xff{8}.|.{11}\0.|.{12}\0)",  # that of LZMA alone
     "Berkeley DB": b".{12}(?:%b)" % b"|".join(map(re.escape, BERKELEY_ORDERS)),
     "LMDB": b".{16}" + LMDB,
+    "other stores": rb"FS(?:21|20|30)|SEQ[\4-\6]|\0.{3}\x80[\2-\5]"
+    rb"|[\x81-\x8f\xde].{0,9}(?:\xa2|\xc4\x02)nd\xc3",
 }
 """A pattern of the first bytes of all files that a reader takes."""
 

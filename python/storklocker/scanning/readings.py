@@ -22,6 +22,7 @@ from typing import (
 from .budget import DEPTH, STEP, Budget, TooMuch
 from .foreign import Foreign, foreign_of
 from .report import LONGEST, Finding
+from .severity import UNRECOGNIZED
 from .source import Source
 
 if TYPE_CHECKING:
@@ -130,6 +131,7 @@ _ONLY = {
     "npy": "numbers only",
     "SQLite": "no value is a pickle, as it stands",
     **dict.fromkeys(("HDF5", "GDBM", "Berkeley DB", "LMDB", "Arrow", "Parquet"), _SEARCHED),
+    "other stores": _SEARCHED,
 }
 """What is in a file that a reader takes, and in which it finds no pickle."""
 
@@ -168,13 +170,25 @@ def examine(place: Place) -> Found:
     for name, reading in asked:
         if (yield from reading(place)):
             takers.append(name)
-    for it in foreign_of(place.path, place.source):
-        yield place.foreign(it)
     if len(takers) > 1:
         named = " and as ".join(takers)
         yield place.unread("file", "differing-readings", f"it can be read as {named}")
-    elif place.budget.reports == reports:
+    yield from _told_of(place, takers, reports)
+    return bool(takers)
+
+
+def _told_of(place: Place, takers: List[str], reports: int) -> Found:
+    """What is told of a file beside its pickles: the code in it; or else what it is, if there is
+    nothing else to tell.
+    """
+    from .kinds import name_of
+
+    for it in foreign_of(place.path, place.source, place.budget.spend):
+        yield place.foreign(it)
+    if len(takers) < 2 and place.budget.reports == reports:
         around = "file" if place.around == "pickle" else place.around
         kind = takers[0] if takers else around
-        yield Nothing(place.path, kind, place.source.size, _ONLY.get(kind, ""))
-    return bool(takers)
+        why = _ONLY.get(kind, "") if takers or place.is_raw else name_of(place.source)
+        kind = UNRECOGNIZED if why == UNRECOGNIZED else kind
+        yield Nothing(place.path, kind, place.source.size, "" if kind == UNRECOGNIZED else why)
+    return True

@@ -17,6 +17,9 @@ WARNING = "warning"
 NOTE = "note"
 """It may be harmless, but nobody has looked."""
 
+UNRECOGNIZED = "unrecognized"
+"""What a file is called that no reading knows, and which isn't known to be something else."""
+
 SEVERITIES = (REFUSED, DANGER, UNREADABLE, UNDECIDED, WARNING, NOTE)
 """From the worst to the least."""
 

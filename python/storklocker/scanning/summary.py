@@ -9,11 +9,13 @@ from collections import Counter
 from typing import FrozenSet, Iterable, Iterator, List, Optional, TextIO
 
 from .report import Report
-from .severity import DANGER, NOTE, REFUSED, SEVERITIES, UNDECIDED, UNREADABLE, WARNING
+from .severity import (
+    DANGER, NOTE, REFUSED, SEVERITIES, UNDECIDED, UNREADABLE, UNRECOGNIZED, WARNING
+)
 from .words import Word
 
 NEVER = "never"
-FAIL_ON = (REFUSED, DANGER, WARNING, NOTE, NEVER)
+FAIL_ON = (REFUSED, DANGER, WARNING, NOTE, UNRECOGNIZED, NEVER)
 """The choices of `--fail-on`."""
 _FOLDERS = 10_000
 """The most folders whose findings are counted."""
@@ -28,8 +30,9 @@ def counted(fail_on: str, is_guarded: bool = False) -> FrozenSet[str]:
     """The severities that cause status 1. `is_guarded`: whether a guard is what loads the files."""
     if fail_on == NEVER:
         return frozenset()
-    worse = {*SEVERITIES[: SEVERITIES.index(fail_on) + 1], UNDECIDED} - {UNREADABLE}
-    return frozenset(worse - {UNDECIDED} if is_guarded else worse)
+    worst = NOTE if fail_on == UNRECOGNIZED else fail_on
+    found = {*SEVERITIES[: SEVERITIES.index(worst) + 1], UNDECIDED, fail_on} - {UNREADABLE}
+    return frozenset(found - {UNDECIDED} if is_guarded else found)
 
 
 class Summary:
@@ -59,6 +62,7 @@ class Summary:
         if report.file != self._file:
             self._file, self._is_noted = report.file, False
             self.files += 1
+        self.is_found |= report.kind == UNRECOGNIZED and UNRECOGNIZED in self._counted
         if not report.findings and report.status not in SEVERITIES:
             return
         severities = {report.status, *(it.severity for it in report.findings)}

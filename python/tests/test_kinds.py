@@ -1,0 +1,87 @@
+"""What files are in which no reading finds a pickle."""
+
+import io
+import json
+import pickle
+import struct
+import unittest
+
+from storklocker.scanning.judging import Question, reports_of
+from storklocker.scanning.kinds import is_safetensors
+from storklocker.scanning.severity import DANGER, UNRECOGNIZED
+from storklocker.scanning.source import in_memory
+from storklocker.scanning.summary import Summary
+
+EVIL = b"\x80\2cposix\nsystem\n(S'echo a hostile pickle ran'\ntR."
+GOOD = pickle.dumps({"a": 1}, 2)
+PNG = b"\x89PNG\r\n\x1a\n" + bytes(range(64))
+BINARY = bytes(range(255, 100, -1)) * 3
+
+
+def safetensors(tensors, data):
+    header = json.dumps(tensors).encode()
+    return len(header).to_bytes(8, "little") + header + data
+
+
+def tensor(begin, end, shape, kind="U8"):
+    return {"dtype": kind, "shape": shape, "data_offsets": [begin, end]}
+
+
+def records(*pickles):
+    return b"".join(struct.pack(">L", len(it)) + it for it in pickles)
+
+
+def told(data, name="file"):
+    return list(reports_of(name, io.BytesIO(data), Question()))
+
+
+class Kinds(unittest.TestCase):
+    def test_what_is_known_and_what_is_not(self):
+        for name, data, kind in (
+            ("a.png", PNG, "PNG"), ("a.txt", b"A text\n", "text"), ("none", b"", "empty"),
+            ("a.so", b"\x7fELF\2\1\1" + bytes(99), "ELF"),
+            ("a.safetensors", safetensors({"t": tensor(0, 4, [2, 2])}, bytes(4)), "safetensors"),
+        ):
+            (report,) = told(data, name)
+            self.assertEqual((report.why, report.findings), (kind, ()))
+        for data in (BINARY, PNG[1:], safetensors({"t": tensor(0, 5, [2, 2])}, bytes(5))):
+            (report,) = told(data)
+            self.assertEqual((report.kind, report.findings), (UNRECOGNIZED, ()))
+
+    def test_what_is_not_known_counts_if_it_is_asked_for(self):
+        for data, is_counted in ((BINARY, True), (PNG, False), (GOOD, False)):
+            for choice in ("note", UNRECOGNIZED):
+                summary = Summary(choice)
+                list(summary.heard(told(data)))
+                self.assertEqual(summary.is_found, is_counted and choice == UNRECOGNIZED)
+
+    def test_safetensors(self):
+        one, two = tensor(0, 4, [2, 2]), tensor(4, 12, [4], "F16")
+        for tensors, size, is_right in (
+            ({"a": one, "b": two}, 12, True),
+            ({"a": one, "b": two, "__metadata__": {"x": "y"}}, 12, True),
+            ({"a": one, "b": two}, 13, False),
+            ({"a": one, "b": tensor(3, 11, [4], "F16")}, 12, False),
+            ({"a": one, "b": tensor(5, 13, [4], "F16")}, 13, False),
+            ({"a": tensor(0, 4, [2, 3])}, 4, False),
+            ({"a": tensor(0, 4, [4], "O")}, 4, False),
+            ({"a": {"dtype": "U8"}}, 4, False),
+        ):
+            source = in_memory(io.BytesIO(safetensors(tensors, bytes(size))))
+            self.assertEqual(is_safetensors(source), is_right, tensors)
+
+    def test_pickles_in_other_stores(self):
+        for name, make in (
+            ("records", lambda data: records(GOOD, data)),
+            ("ZODB", lambda data: b"FS21" + bytes(40) + data),
+            ("SequenceFile", lambda data: b"SEQ\6\x21org.apache.hadoop.io" + bytes(40) + data),
+            ("msgpack-numpy", lambda data: b"\x85\xc4\2nd\xc3\xc4\4kind\xc4\1O" + data),
+        ):
+            bad = [it.severity for report in told(make(EVIL)) for it in report.findings]
+            self.assertIn(DANGER, bad, name)
+            good = [it for report in told(make(GOOD)) for it in report.findings]
+            self.assertEqual([], good, name)
+
+
+if __name__ == "__main__":
+    unittest.main()
