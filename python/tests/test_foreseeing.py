@@ -220,6 +220,17 @@ class Command(unittest.TestCase):
                     self.assertEqual(status, wanted, (data[:20], said, told))
                 self.assertEqual(word(data, allow), (ACCEPTED, REFUSED)[wanted])
 
+    def test_a_list_that_no_guard_takes(self):
+        data, listed = P + name("os", "system") + b".", 'os = ["system"]\n'
+        with self.assertRaises(ValueError):
+            Guard(AllowList([("os", "system")]))
+        meant = f'{listed}[substitutes]\n"os.system" = "dangerous"\n'
+        for command in ("scan", "check"):
+            with contextlib.redirect_stderr(io.StringIO()) as errors:
+                self.assertEqual(self.ran(command, data, listed)[0], 2)
+            self.assertIn("os.system on the list permits everything", errors.getvalue())
+            self.assertEqual(self.ran(command, data, meant)[0], 0)
+
 
 def dtype(code):
     return name("numpy", "dtype") + text(code) + b"\x89\x88\x87R"
