@@ -9,6 +9,7 @@ import subprocess
 import sys
 import tempfile
 import textwrap
+import types
 import unittest
 from collections import Counter, OrderedDict
 from pathlib import Path
@@ -37,7 +38,7 @@ ENCODE = name("_codecs", "encode")
 STATE = b"}" + text("a") + b"K\x01sb."
 PLAIN = AllowList([
     *(("builtins", word) for word in ("bytes", "bytearray", "object", "getattr")),
-    *(("_codecs", "encode"), ("copyreg", "_reconstructor"), ("copy", "copy")),
+    *(("_codecs", "encode"), ("codecs", "encode"), ("copyreg", "_reconstructor"), ("copy", "copy")),
     *(("collections", word) for word in ("OrderedDict", "Counter")), ("enum", "EnumMeta"),
     *(("operator", word) for word in ("attrgetter", "methodcaller")), ("types", "ModuleType"),
 ], substitutes={
@@ -84,6 +85,7 @@ HONEST = {
     "a state": name("collections", "Counter") + b")\x81" + STATE,
     "a class as a value": BYTES + b"\x85.",
     "an attribute": name("operator", "attrgetter") + text("a") + b"\x85R.",
+    "a codec by another name": name("codecs", "encode") + text("a") + text("latin1") + b"\x86R.",
     "plain data": pickle.dumps({"a": [1, 2.5, (None,)]}, 4),
 }
 
@@ -273,6 +275,17 @@ class NumPy(unittest.TestCase):
                 self.assertTrue(is_loaded(data, allow))
         dates = pickle.dumps(numpy.array([datetime.date(2020, 1, 1)], object), 4)
         self.assertEqual(word(dates, allow), UNDECIDED)
+
+    def test_another_name_of_what_has_a_substitute(self):
+        """A guard knows it by the object; here only a load would tell."""
+        module = types.ModuleType("names_of_arrays")
+        module.scalar = importlib.import_module("numpy.core.multiarray").scalar
+        sys.modules[module.__name__] = module
+        self.addCleanup(sys.modules.pop, module.__name__)
+        allow = lists.NUMPY | AllowList([(module.__name__, "scalar")])
+        data = P + name(module.__name__, "scalar") + dtype("O8") + b"C\x08" + bytes(8) + b"\x86R."
+        self.assertIs(is_loaded(data, allow), False)
+        self.assertEqual(word(data, allow), UNDECIDED)
 
     @needs("module:pandas", "module:sklearn", "module:joblib")
     def test_what_libraries_write(self):

@@ -14,6 +14,7 @@ import itertools
 import sys
 from typing import Any, Dict, Iterable, List, NamedTuple, Optional, Tuple
 
+from .. import _arrays
 from .._answers import Misused
 from .._lists import AllowList
 from .._names import are_old, renamed
@@ -41,7 +42,9 @@ _MAKING = ("attrgetter", "methodcaller")
 by nobody here."""
 _OPEN = ("numpy", "operator", "_operator", "types")
 """Packages whose classes and functions may make arrays, types, modules or functions."""
-_LAST_WORDS = frozenset(name for _, name in TABLE)
+_WORDS, _ARRAYS = (frozenset(name for _, name in it) for it in (TABLE, _arrays.TABLE))
+"""The names that have substitutes, and those of NumPy, which a guard knows by any other name too.
+"""
 _ATOMS = frozenset((type(None), bool, int, float, complex, str, bytes, bytearray))
 _HELD = frozenset((tuple, list, set, frozenset))
 
@@ -91,7 +94,7 @@ def _may_be_asked(pair: Pair, allow: AllowList) -> bool:
     """Whether a name may have a substitute."""
     own = () if allow._meant is None else allow._meant.substitutes
     is_numpy = pair[0].partition(".")[0] == "numpy"
-    return is_numpy or pair in own or pair[1].rpartition(".")[2] in _LAST_WORDS
+    return is_numpy or pair in own or pair[1].rpartition(".")[2] in _WORDS
 
 
 def _of_one(data: bytes, allow: AllowList) -> Foreseen:
@@ -237,7 +240,7 @@ class _Foreseer(Reader):
         if pair not in self._named:
             held = {"__slots__": (), "pair": pair, "__getinitargs__": None}
             self._named[pair] = Named("Named", (Answer,), held)
-        if pair[1].rpartition(".")[2] in _LAST_WORDS:
+        if pair[1].rpartition(".")[2] in _ARRAYS:
             self.put_off(f"{pair[0]}.{pair[1]} may be what a guard substitutes")
         return self._named[pair]
 
