@@ -9,6 +9,7 @@ import subprocess
 import sys
 import tempfile
 import textwrap
+import types
 import unittest
 from collections import Counter, OrderedDict
 from pathlib import Path
@@ -38,7 +39,7 @@ ENCODE = name("_codecs", "encode")
 STATE = b"}" + text("a") + b"K\x01sb."
 PLAIN = AllowList([
     *(("builtins", word) for word in ("bytes", "bytearray", "object", "getattr")),
-    *(("_codecs", "encode"), ("copyreg", "_reconstructor"), ("copy", "copy")),
+    *(("_codecs", "encode"), ("codecs", "encode"), ("copyreg", "_reconstructor"), ("copy", "copy")),
     *(("collections", word) for word in ("OrderedDict", "Counter")), ("enum", "EnumMeta"),
     ("argparse", "Namespace"),
     *(("operator", word) for word in ("attrgetter", "methodcaller")), ("types", "ModuleType"),
@@ -86,6 +87,7 @@ HONEST = {
     "a state": OWN + b")\x81" + STATE,
     "a class as a value": BYTES + b"\x85.",
     "an attribute": name("operator", "attrgetter") + text("a") + b"\x85R.",
+    "a codec by another name": name("codecs", "encode") + text("a") + text("latin1") + b"\x86R.",
     "plain data": pickle.dumps({"a": [1, 2.5, (None,)]}, 4),
 }
 
@@ -222,6 +224,17 @@ class Command(unittest.TestCase):
                     self.assertEqual(status, wanted, (data[:20], said, told))
                 self.assertEqual(word(data, allow), (ACCEPTED, REFUSED)[wanted])
 
+    def test_a_list_that_no_guard_takes(self):
+        data, listed = P + name("os", "system") + b".", 'os = ["system"]\n'
+        with self.assertRaises(ValueError):
+            Guard(AllowList([("os", "system")]))
+        meant = f'{listed}[substitutes]\n"os.system" = "dangerous"\n'
+        for command in ("scan", "check"):
+            with contextlib.redirect_stderr(io.StringIO()) as errors:
+                self.assertEqual(self.ran(command, data, listed)[0], 2)
+            self.assertIn("os.system on the list permits everything", errors.getvalue())
+            self.assertEqual(self.ran(command, data, meant)[0], 0)
+
 
 def dtype(code):
     return name("numpy", "dtype") + text(code) + b"\x89\x88\x87R"
@@ -264,6 +277,17 @@ class NumPy(unittest.TestCase):
                 self.assertTrue(is_loaded(data, allow))
         dates = pickle.dumps(numpy.array([datetime.date(2020, 1, 1)], object), 4)
         self.assertEqual(word(dates, allow), UNDECIDED)
+
+    def test_another_name_of_what_has_a_substitute(self):
+        """A guard knows it by the object; here only a load would tell."""
+        module = types.ModuleType("names_of_arrays")
+        module.scalar = importlib.import_module("numpy.core.multiarray").scalar
+        sys.modules[module.__name__] = module
+        self.addCleanup(sys.modules.pop, module.__name__)
+        allow = lists.NUMPY | AllowList([(module.__name__, "scalar")])
+        data = P + name(module.__name__, "scalar") + dtype("O8") + b"C\x08" + bytes(8) + b"\x86R."
+        self.assertIs(is_loaded(data, allow), False)
+        self.assertEqual(word(data, allow), UNDECIDED)
 
     @needs("module:pandas", "module:sklearn", "module:joblib")
     def test_what_libraries_write(self):

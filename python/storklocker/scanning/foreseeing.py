@@ -14,6 +14,7 @@ import itertools
 import sys
 from typing import Any, Dict, List, NamedTuple, Optional, Tuple
 
+from .. import _arrays
 from .._answers import Misused
 from .._lists import AllowList, has_substitutes
 from .._names import are_old, renamed
@@ -49,7 +50,8 @@ _IMPORTED, _MADE = frozenset(("torch", *PACKAGES)), (Class, Value)
 _TENSORS = ("torch._utils", "_rebuild_tensor_v2")
 _ONE = (("pytz", "_UTC"),)
 """Classes of which there is one object."""
-_LAST_WORDS = frozenset(name for _, name in TABLE)
+_ARRAYS = frozenset(name for _, name in _arrays.TABLE)
+"""The names of NumPy that have substitutes, which a guard knows by any other name too."""
 _ATOMS = frozenset((type(None), bool, int, float, complex, str, bytes, bytearray))
 _HELD = frozenset((tuple, list, set, frozenset))
 
@@ -284,7 +286,7 @@ class _Foreseer(Reader):
         return self._named[pair]
 
     def _stand_in(self, pair: Pair) -> Any:
-        if pair[1].rpartition(".")[2] in _LAST_WORDS:
+        if pair[1].rpartition(".")[2] in _ARRAYS:
             self.put_off(f"{pair[0]}.{pair[1]} may be what a guard substitutes")
         return self.named(pair)
 

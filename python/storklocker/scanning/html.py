@@ -103,8 +103,9 @@ def _buttons(found: _Found) -> Iterator[str]:
 
 
 def _row(report: Report) -> str:
+    colour = report.worst or report.status.replace(" ", "-")
     return (
-        f"<tr data-worst='{report.status}'><td class='verdict {report.worst}'>{report.status}"
+        f"<tr data-worst='{report.status}'><td class='verdict {colour}'>{report.status}"
         f"<td class=path>{_text(report.path)}<td class=kind>{_text(report.kind)}"
         f"<td class=number data-value={report.size}>{report.size:,}<td>{_what(report)}"
     )

@@ -14,7 +14,7 @@ from .. import lists as shipped
 from .._answers import ListFault
 from .._limits import COSTS, costs_said
 from .._lists import AllowList
-from .._meant import EVERYTHING, Meant
+from .._meant import EVERYTHING, Meant, require
 from .._meant import of as meant_in
 from .._writing import dotted, quoted, replace, row_of
 from .dangers import danger_of
@@ -58,14 +58,18 @@ def list_of(path: str) -> AllowList:
 
 
 def union_of(given: Iterable[str]) -> AllowList:
-    """The union of these lists: each is a file, or names of shipped lists, such as `@numpy`."""
+    """The union of these lists, which a guard would take: each is a file, or names of shipped
+    lists, such as `@numpy`.
+    """
     found: List[AllowList] = []
     for word in given:
         found += map(_shipped, word.split(",")) if word.startswith("@") else [list_of(word)]
     try:
-        return functools.reduce(operator.or_, found)
-    except ValueError as error:  # of two substitutes for a name
+        made = functools.reduce(operator.or_, found)
+        require(made)
+    except ValueError as error:  # two substitutes for a name, or a name that permits everything
         raise OSError(f"{', '.join(given)}: {error}") from None
+    return made
 
 
 def _shipped(word: str) -> AllowList:

@@ -16,7 +16,7 @@ header.unreadable,header.undecided,header.warning{border-color:var(--amber)}
 header.note{border-color:var(--blue)}
 header p{margin:.2rem 0 0;color:var(--soft)}
 .refused,.danger{color:var(--red)}.unreadable,.undecided,.warning{color:var(--amber)}
-.note{color:var(--blue)}
+.note{color:var(--blue)}.accepted{color:var(--green)}
 header[class]{color:inherit}
 .advice{margin:0;padding-left:1.2rem}
 .filter{display:flex;flex-wrap:wrap;gap:.4rem;align-items:center;margin:1.2rem 0 .8rem}
