@@ -200,8 +200,16 @@ class Alike(Quiet):
             reader = pickle.Unpickler(io.BytesIO(data))
             self.assertEqual(reader.load(), ["a", "a"])
             self.assertIn("a", reader.memo.values())
-            with self.assertRaises(AttributeError):
-                reader.memo = {}
+            for wrong in (object, {-1: None}, {"a": 1}, 3):
+                with self.assertRaises((TypeError, ValueError)):
+                    reader.memo = wrong
+            reader = pickle.Unpickler(io.BytesIO(2 * data))
+            self.assertEqual(reader.load(), ["a", "a"])
+            reader.memo = {}
+            self.assertEqual(reader.load(), ["a", "a"])
+            reader.memo = reader.memo
+            with self.assertRaises(pickle.UnpicklingError):
+                reader.load()
         with storklocker.installed(GUARD._like(enforce=False)):
             first = pickle.Unpickler(io.BytesIO(b"\x80\x04\x8c\x01a\x94."))
             self.assertEqual(first.load(), "a")

@@ -9,6 +9,7 @@ from typing import Any, Iterable, Iterator, NamedTuple, Tuple
 
 from .._guard import Guard
 from .._storklocker import AuditHook
+from .dask_client import watch_clients
 from .holders import others, paths_of
 from .standing import leave, stand, standing
 from .state import INSTALLED, LOGGER, NOW, State, settle
@@ -52,6 +53,7 @@ def _begin(state: State) -> Installed:
         INSTALLED.append(state)
         _permit()
         _guard_children()
+        watch_clients()
         left = tuple(sorted(set(others(changes, standing().values()))))
     if not is_auditing:
         left += ("other readers: this Python has no audit events",)

@@ -1,4 +1,4 @@
-"""What a guard that enforces nothing sees of a file, while the interpreter's own reader reads it."""
+"""What a guard that enforces nothing sees of a file that the interpreter's own reader reads."""
 
 from __future__ import annotations
 

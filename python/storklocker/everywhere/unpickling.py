@@ -5,11 +5,12 @@ read as before where no guard is installed.
 from __future__ import annotations
 
 import abc
+import functools
 import pickle
 import sys
 import weakref
 from types import FrameType
-from typing import Any, Dict, Type
+from typing import Any, Callable, Dict, Type
 
 from .._guard import Guard
 from .._unpickler import GuardedUnpickler
@@ -74,11 +75,17 @@ class Watched:
 class Guarded:
     """How one reads under a guard: an Unpickler of the guard loads what it admits."""
 
-    def __init__(self, admitting: Any) -> None:
-        self.admitting = admitting
+    def __init__(self, make: Callable[[Any], Any], reader: Any) -> None:
+        self._make, self.admitting, self._is_primed = make, make(reader), False
+
+    def begin_memo(self, reader: Any, held: Any) -> None:
+        """Begins anew, with what is in a memo."""
+        self.admitting, self._is_primed = self._make(reader), len(held) > 0
 
     def load(self, plain: Type[Any], reader: Any, frame: FrameType) -> Any:
         """The object of the next pickle."""
+        if self._is_primed:
+            raise pickle.UnpicklingError("a memo that was set is unknown to a check")
         return self.admitting.load()
 
     def find_class(self, plain: Type[Any], reader: Any, *pair: str) -> Any:
@@ -162,10 +169,10 @@ def _begin_guarded(reader: Any, standing: Type[Any], state: State, words: Words)
     kind = state.admitting.get(plain)
     if kind is None:
         kind = state.admitting[plain] = _admitting(state.guard, plain)
-    admitting = kind(reader, words.source, **named)
-    _set_way(reader, Guarded(admitting))
+    way = Guarded(functools.partial(kind, file=words.source, **named), reader)
+    _set_way(reader, way)
     named["encoding"], named["errors"] = state.guard._decoding(words.encoding, words.errors)
-    plain.__init__(reader, admitting._feed, fix_imports=False, **named)
+    plain.__init__(reader, way.admitting._feed, fix_imports=False, **named)
 
 
 def _memo_of(plain: Type[Any]) -> Any:
@@ -177,9 +184,11 @@ def _memo_of(plain: Type[Any]) -> Any:
         return way.admitting.memo if isinstance(way, Guarded) else own.memo.__get__(self)
 
     def set_memo(self: Any, value: Any) -> None:
-        if isinstance(getattr(self, _WAY, None), Guarded):
-            raise AttributeError("the memo of a guarded Unpickler can't be set")
+        way = getattr(self, _WAY, None)
+        given = value.copy() if isinstance(way, Guarded) and hasattr(value, "copy") else {}
         own.memo.__set__(self, value)
+        if isinstance(way, Guarded):
+            way.begin_memo(self, given)
 
     return property(memo, set_memo)
 

@@ -1,0 +1,89 @@
+"""CPython's own tests, without a guard and under one that is installed, in the same interpreter:
+what passes without it passes with it, but for the tests that docs/EVERYWHERE.md names.
+"""
+
+import json
+import os
+import re
+import subprocess
+import sys
+import tempfile
+import unittest
+from pathlib import Path
+
+import common
+
+DOCUMENT = common.ROOT / "docs" / "EVERYWHERE.md"
+PROGRAM = Path(__file__).with_name("honest_suites.py")
+HANGS = 1200
+"""The seconds that only a hang takes."""
+# What takes long tests no reader, or the same readers again.
+SUITES = (
+    *("test_pickle", "-test_framing_many_objects", "-test_framed_write_sizes_with_delayed_writer"),
+    *("-test_multiple_unpicklings_minimal", "-test_multiple_unpicklings_unseekable", "-test_bytes"),
+    *("-PyPicklerTests", "-DumpPickle_CLoadPickle", "-CDumpPickle_LoadPickle"),
+    *("test_shelve", "test_copy", "test_enum"),
+)
+PROCESSES = (
+    "test_multiprocessing_fork",
+    *("=WithProcessesTestQueue", "=WithProcessesTestConnection", "=TestPicklingConnections"),
+    *("=WithManagerTestMyManager", "=WithManagerTestRemoteManager", "=TestSimpleQueue"),
+)
+"""Those that send pickles."""
+
+
+def differing():
+    """The names of the tests that the document says differ."""
+    text = DOCUMENT.read_text(encoding="utf-8")
+    return set(re.findall(r"`(test_\w+)`", text.partition("## What stays as before")[2]))
+
+
+def found(how, folder, names):
+    """What came of each test."""
+    environment = {**os.environ, "PYTHONPATH": str(common.IMPORTED_FROM)}
+    words = [sys.executable, "-W", "ignore", str(PROGRAM), how, folder, *names]
+    ran = subprocess.run(
+        words,
+        cwd=folder,
+        env=environment,
+        stdin=subprocess.DEVNULL,
+        stdout=subprocess.PIPE,
+        stderr=subprocess.STDOUT,
+        timeout=HANGS,
+    )
+    file = Path(folder, how)
+    assert file.exists(), (how, ran.returncode, ran.stdout[-2000:].decode(errors="replace"))
+    return json.loads(file.read_text())
+
+
+@common.needs("module:test.test_pickle")  # (Debian: libpython3.11-testsuite)
+class Suites(unittest.TestCase):
+    def compare(self, names, least):
+        with tempfile.TemporaryDirectory() as folder:
+            before = found("without", folder, names)
+            self.assertGreater(sum(word == "passed" for word in before.values()), least)
+            for how in ("first", "last", "reporting"):
+                with self.subTest(how=how):
+                    after = found(how, folder, names)
+                    wrong = {
+                        name: after.get(name, "did not run")
+                        for name, word in before.items()
+                        if word in ("passed", "skipped") and after.get(name) != word
+                    }
+                    listed = differing()
+                    self.assertEqual(
+                        {name: said for name, said in wrong.items()
+                         if name.rpartition(".")[2] not in listed},
+                        {},
+                    )
+
+    def test_readers(self):
+        self.compare(SUITES, 800)
+
+    @common.needs("semaphores", "module:test.test_multiprocessing_fork")
+    def test_processes(self):
+        self.compare(PROCESSES, 20)
+
+
+if __name__ == "__main__":
+    unittest.main()
