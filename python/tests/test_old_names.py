@@ -197,7 +197,8 @@ copy_reg = ["_reconstructor"]
 
     def test_what_it_means_has_its_substitute(self):
         guard = Guard(AllowList([("__builtin__", "bytearray")]))
-        for data in (b"c__builtin__\nbytearray\n(I5\ntR.", b"\x80\3cbuiltins\nbytearray\nK\5\x85R."):
+        old, new = b"c__builtin__\nbytearray\n(I5\ntR.", b"\x80\3cbuiltins\nbytearray\nK\5\x85R."
+        for data in (old, new):
             self.assertEqual(pickle.loads(data), bytearray(5))
             with self.assertRaises(storklocker.Misused):
                 guard.loads(data)

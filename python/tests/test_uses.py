@@ -300,8 +300,8 @@ class Follows(unittest.TestCase):
 
     def test_what_it_does_not_take(self):
         kept_ = begin_uses()
-        for given in ((kept_, bytearray(b"N."), 0, len, False), (None, b"N.", 0, len, False), (kept_, b"N."),
-                      (kept_, "N.", 0, len, False)):
+        for given in ((kept_, bytearray(b"N."), 0, len, False), (None, b"N.", 0, len, False),
+                      (kept_, b"N."), (kept_, "N.", 0, len, False)):
             with self.subTest(given=given), self.assertRaises((TypeError, ValueError)):
                 uses(*given)
         self.assertEqual(uses(kept_, b"N.", -1, len, False), ([], False, 0, -1, 2))
