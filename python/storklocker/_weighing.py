@@ -12,7 +12,6 @@ from collections import deque
 from typing import TYPE_CHECKING, Any, Dict, Iterable, List, Tuple
 
 from ._answers import Misused
-from ._substitute import STEP
 
 if TYPE_CHECKING:
     from ._substitutes import Reader
@@ -55,7 +54,7 @@ class Scales:
                     continue
                 inside = self._parts_of(part)
                 reader: Any = self._held()
-                reader.pay(STEP * (1 + len(inside)))
+                reader.step(1 + len(inside))
                 self._costs[id(part)] = (part, (-1, 0))  # (as long as it is open)
                 left.append((part, inside))
                 left += [(it, None) for it in inside]

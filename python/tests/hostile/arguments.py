@@ -27,7 +27,8 @@ import shapes  # noqa: E402
 import storklocker  # noqa: E402
 from storklocker import AllowList, Guard, lists  # noqa: E402
 
-SECONDS, SECONDS_OF_GATE, MEMORY, AGAIN, MOST = 2, 20, 1 << 30, 3, 4
+SECONDS, MEMORY, AGAIN, MOST = 2, 1 << 30, 3, 4
+"""What a case may take, how often a finding is tried again, and how many of a name are told."""
 DANGERS = ("exec", "compile", "open", "import", "subprocess.", "socket.", "os.", "shutil.", "ctypes.",
            "marshal.", "pty.", "tempfile.", "code.__new__", "function.__new__", "builtins.breakpoint")
 OWN = "storklocker"
@@ -229,9 +230,10 @@ def main():
     parser = argparse.ArgumentParser(description=__doc__.partition("\n\n")[0])
     parser.add_argument("lists", nargs="*", default=lists.__all__)
     parser.add_argument("--name", help="only this name")
+    parser.add_argument("--seconds", type=float, default=SECONDS, help="for a case, at most")
     asked = parser.parse_args()
     sys.addaudithook(WATCH)
-    count, found = run(asked.lists or lists.__all__, SECONDS, asked.name)
+    count, found = run(asked.lists or lists.__all__, asked.seconds, asked.name)
     print(f"{count} names of {storklocker.__name__}.lists, {len(found)} findings")
     return 1 if found or not count else 0
 
