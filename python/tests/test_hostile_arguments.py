@@ -10,7 +10,7 @@ import unittest
 from common import IMPORTED_FROM, PYTHON
 
 SCRIPT = PYTHON / "tests" / "hostile" / "arguments.py"
-NAMED = "STANDARD_TYPES COLLECTIONS DATETIME DECIMAL UUID PATHLIB".split()
+NAMED = "STANDARD_TYPES COLLECTIONS".split()
 
 
 class Arguments(unittest.TestCase):
@@ -23,7 +23,7 @@ class Arguments(unittest.TestCase):
             env={**os.environ, "PYTHONPATH": str(IMPORTED_FROM), "PYTHONDONTWRITEBYTECODE": "1"},
         )
         self.assertEqual(ran.returncode, 0, ran.stdout[-3000:])
-        self.assertRegex(ran.stdout, r"[3-9]\d names of storklocker.lists, 0 findings")
+        self.assertRegex(ran.stdout, r"[2-9]\d names of storklocker.lists, 0 findings")
 
 
 if __name__ == "__main__":
