@@ -33,10 +33,10 @@ PyObject *followed(PyObject *module, PyObject *args);
    TUPLE2 BINPERSID, BINPERSID as TUPLE1 BINPERSID, no frames, and where a value becomes the real
    object, behind the instruction that pushes it, NONE NONE TUPLE3 BINPERSID. What puts items into
    an object that isn't known to be a list, a dict or a set makes a tuple of them, and with NEWTRUE
-   for keys and values, NEWFALSE for a list's and EMPTY_TUPLE for a set's, TUPLE3 BINPERSID. NEWOBJ of
-   a name is EMPTY_LIST TUPLE3 BINPERSID, OBJ of one the same behind TUPLE NONE, and NEWOBJ_EX
-   behind TUPLE3 NEWTRUE. These are pieces:
-   bytes, and the begin and end of what counts of them. Long ones are the bytes of the pickle. */
+   for keys and values, NEWFALSE for a list's and EMPTY_TUPLE for a set's, TUPLE3 BINPERSID. NEWOBJ
+   of a name is EMPTY_LIST TUPLE3 BINPERSID, OBJ of one the same behind TUPLE NONE, and NEWOBJ_EX
+   behind TUPLE3 NEWTRUE. These are pieces: bytes, and the begin and end of what counts of them.
+   Long ones are the bytes of the pickle. */
 PyObject *begin_uses(PyObject *module, PyObject *args);
 PyObject *uses(PyObject *module, PyObject *args);
 

@@ -52,9 +52,8 @@ def _append(receiver: Any, given: Tuple[Any, ...]) -> None:
 
 def _is_own(kind: Any) -> bool:
     """Whether a class, of which no part is compiled, says itself how its objects are pickled."""
-    said = next((vars(it)[word] for it in kind.__mro__[:-1] for word in _SAYING if word in vars(it)),
-                None)
-    return isinstance(said, types.FunctionType) and all(
+    said = (vars(it)[word] for it in kind.__mro__[:-1] for word in _SAYING if word in vars(it))
+    return isinstance(next(said, None), types.FunctionType) and all(
         it in _PLAIN or it.__flags__ & _HEAP for it in kind.__mro__
     )
 

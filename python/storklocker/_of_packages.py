@@ -64,7 +64,8 @@ def _says_how(kind: type) -> bool:
 
 def _is_filled(kind: type) -> bool:
     """Whether a class of pandas is one whose objects its own functions make for pickles."""
-    return any(base.__name__ in ("Index", "ExtensionArray", "NDArrayBacked") for base in kind.__mro__)
+    names = ("Index", "ExtensionArray", "NDArrayBacked")
+    return any(base.__name__ in names for base in kind.__mro__)
 
 
 def _fields(name: str, given: Tuple[Any, ...]) -> None:

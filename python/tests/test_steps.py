@@ -55,15 +55,16 @@ def shared(levels, opening=b"(", closing=b"t"):
     return front
 
 
+SET = name("builtins", "set")
 SETS = {
     "a key that shares its parts": lambda n: (
-        name("builtins", "set") + b"0" + shared(n) + b"0" + name("builtins", "set") + b"]" + got(n) + b"a\x85R"),
+        shared(n) + b"0" + SET + b"]" + got(n) + b"a\x85R"),
     "one key of many sets": lambda n: (
-        many(n) + put(0) + b"0" + (name("builtins", "set") + b"]" + got(0) + b"a\x85R0") * n + b"N"),
-    "many keys of one set": lambda n: name("builtins", "set") + b"](" + b"K\1K\2\x86" * n + b"e\x85R",
+        many(n) + put(0) + b"0" + (SET + b"]" + got(0) + b"a\x85R0") * n + b"N"),
+    "many keys of one set": lambda n: SET + b"](" + b"K\1K\2\x86" * n + b"e\x85R",
     "one list of many sets": lambda n: (
         b"]" + many(n)[:-1] + b"e" + put(0) + b"0"
-        + (name("builtins", "set") + got(0) + b"\x85R0") * n + b"N"),
+        + (SET + got(0) + b"\x85R0") * n + b"N"),
     "many tuples": lambda n: name("builtins", "tuple") + b"](" + b")\x85" * n + b"e\x85R",
 }
 SHOWN = {

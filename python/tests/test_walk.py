@@ -121,7 +121,7 @@ def words_for(code, instruction):
 
 
 def in_other_words(data, at=0, words=lambda code, own: NEW.get(code, own)):
-    """What the reader is to be given, but where names become real; or with `words_for` a pattern."""
+    """What the reader is to be given, but where names become real: with `words_for` a pattern."""
     parts, is_stopped = [], False
     while at < len(data) and not is_stopped and length_of(data, at):
         code, end = data[at : at + 1], at + length_of(data, at)
