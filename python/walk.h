@@ -36,8 +36,8 @@ PyObject *followed(PyObject *module, PyObject *args);
    object, behind the instruction that pushes it, NONE NONE TUPLE3 BINPERSID, and behind a call
    whose object is judged or changed, NONE BININT1 TUPLE3 BINPERSID. NEWOBJ of a name that has a
    substitute is EMPTY_LIST TUPLE3 BINPERSID, OBJ of one the same behind TUPLE NONE, and NEWOBJ_EX
-   behind TUPLE3 NEWTRUE. These are pieces:
-   bytes, and the begin and end of what counts of them. Long ones are the bytes of the pickle. */
+   behind TUPLE3 NEWTRUE. These are pieces: bytes, and the begin and end of what counts of them.
+   Long ones are the bytes of the pickle. */
 PyObject *begin_uses(PyObject *module, PyObject *args);
 PyObject *uses(PyObject *module, PyObject *args);
 

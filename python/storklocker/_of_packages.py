@@ -52,7 +52,7 @@ def _found(it: Any, module: str, package: str) -> Optional[Substitute]:
         return None
     if issubclass(it, BaseException):
         return shown(module, it.__qualname__)
-    if _says_how(it):
+    if _says_how(it) and not (package == "pandas" and _is_filled(it)):
         return None
     return Class(name, it, _fields if issubclass(it, tuple) else takes_text)
 
@@ -60,6 +60,12 @@ def _found(it: Any, module: str, package: str) -> Optional[Substitute]:
 def _says_how(kind: type) -> bool:
     """Whether a class says itself how its objects are pickled."""
     return any(word in vars(base) for base in kind.__mro__[:-1] for word in _REDUCE)
+
+
+def _is_filled(kind: type) -> bool:
+    """Whether a class of pandas is one whose objects its own functions make for pickles."""
+    names = ("Index", "ExtensionArray", "NDArrayBacked")
+    return any(base.__name__ in names for base in kind.__mro__)
 
 
 def _fields(name: str, given: Tuple[Any, ...]) -> None:

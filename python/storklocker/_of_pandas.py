@@ -131,7 +131,8 @@ def _check_places(reader: Reader, places: Any, count: int) -> None:
         if len(placed) != count or count and min(placed[0], placed[-1]) < 0:
             raise wrong("_unpickle_block")
         return
-    is_one = places.dtype.kind == "i" and places.shape == (count,) and id(places) not in reader.unbuilt
+    is_one = places.dtype.kind == "i" and places.shape == (count,)
+    is_one = is_one and id(places) not in reader.unbuilt
     if not is_one or len(numpy.unique(places)) != count or count and places.min() < 0:
         raise wrong("_unpickle_block")
 
@@ -330,5 +331,6 @@ def check_sparse(reader: Reader, array: Any) -> None:
 
     own = vars(array)
     places, held = own.get("_sparse_index"), own.get("_sparse_values")
-    if not isinstance(places, SparseIndex) or not is_array(reader, held) or len(held) != places.npoints:
+    is_one = isinstance(places, SparseIndex) and is_array(reader, held)
+    if not is_one or len(held) != places.npoints:
         raise Misused("the state of a sparse array of pandas is of no known kind")

@@ -15,10 +15,6 @@ some functions take as an argument; joblib's wrapper of arrays; what makes objec
 """
 
 
-STEP = 16
-"""What a step of ours costs a reader, where a byte that is copied costs 1."""
-
-
 def takes(*places: int) -> int:
     """The role of a function that takes classes as these of its arguments."""
     return sum(16 << place for place in places)

@@ -47,8 +47,8 @@ Pair = Tuple[str, str]
 Piece = Tuple[bytes, int, int]
 """Bytes, and the begin and the end of what counts of them."""
 
-MOST_FREE, MOST_OF_A_BYTE = 1 << 26, 16
-"""What a pickle may have substitutes do, and the more for each of its bytes."""
+MOST_FREE, STEPS_FREE = 1 << 26, 100_000
+"""The bytes and the steps that a pickle may have substitutes take, beside those for its length."""
 _DEFAULTS = {"encoding": "ASCII", "errors": "strict", "buffers": None}
 """What a reader takes as if it were given nothing, only slower."""
 _UNFOLLOWED = "the pickle has instructions that no pickler writes"
@@ -138,9 +138,11 @@ class Reader(pickle.Unpickler):
         """The exceptions that were judged, by id, each with its levels."""
         self.looked = 0
         """The number of memo entries that were searched."""
-        self._room = 0
+        self._room = self._steps = 0
         self.itself = weakref.ref(self)
         """It, for what its memo may hold."""
+        self.flat: Dict[int, Any] = {}
+        """Tuples of plain values in states, by id: they have been looked through."""
         self.keys = Scales(self, True)
         """What the keys weigh that functions were given."""
 
@@ -153,7 +155,8 @@ class Reader(pickle.Unpickler):
     def read(self, pieces: List[Piece]) -> Any:
         """The object of a pickle that its uses have respelled."""
         self._feed.fill(pieces)
-        self._room = MOST_FREE + MOST_OF_A_BYTE * sum(end - begin for _, begin, end in pieces)
+        size = sum(end - begin for _, begin, end in pieces)
+        self._room, self._steps = MOST_FREE + 16 * size, STEPS_FREE + 8 * size
         made = self.load()
         if not self._uses.is_whole:
             raise Misused(_UNFOLLOWED)
@@ -165,12 +168,20 @@ class Reader(pickle.Unpickler):
         return self._uses.takes_any
 
     def pay(self, cost: int) -> None:
-        """Counts bytes that a substitute copies, and what its steps cost. What picklers write costs
-        no more than the pickle is long. It is much more if a pickle has the same copied again.
+        """Counts bytes that a substitute copies. What picklers write costs no more than the pickle
+        is long. It is much more if a pickle has the same copied again and again.
         """
         self._room -= cost
         if self._room < 0:
-            raise Misused("the pickle has what it shares copied or looked at too often")
+            raise Misused("the pickle has what it shares copied too often")
+
+    def step(self, count: int) -> None:
+        """Counts the steps in which a substitute looks through what the pickle gives it: those of
+        an honest pickle are no more than it has parts.
+        """
+        self._steps -= count
+        if self._steps < 0:
+            raise Misused("the pickle has what it shares looked through too often")
 
     def find_class(self, module: str, name: str, /) -> Any:
         pair = module, name

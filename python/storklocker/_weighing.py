@@ -1,5 +1,5 @@
-"""What values cost that functions hash, compare, copy or show as trees, though a pickle shares their
-parts.
+"""What values cost that functions hash, compare, copy or show as trees, though a pickle shares
+their parts.
 """
 
 from __future__ import annotations
@@ -12,7 +12,6 @@ from collections import deque
 from typing import TYPE_CHECKING, Any, Dict, Iterable, List, Tuple
 
 from ._answers import Misused
-from ._substitute import STEP
 
 if TYPE_CHECKING:
     from ._substitutes import Reader
@@ -55,7 +54,7 @@ class Scales:
                     continue
                 inside = self._parts_of(part)
                 reader: Any = self._held()
-                reader.pay(STEP * (1 + len(inside)))
+                reader.step(1 + len(inside))
                 self._costs[id(part)] = (part, (-1, 0))  # (as long as it is open)
                 left.append((part, inside))
                 left += [(it, None) for it in inside]
@@ -92,7 +91,8 @@ class Scales:
         if numpy is not None and isinstance(part, (numpy.ndarray, numpy.generic)):
             held: List[Any] = part.ravel().tolist() if part.dtype.hasobject else []
             return held
-        if not isinstance(part, _ROWS) and (hasattr(kind, "__iter__") or hasattr(kind, "__getitem__")):
+        is_lazy = hasattr(kind, "__iter__") or hasattr(kind, "__getitem__")
+        if is_lazy and not isinstance(part, _ROWS):
             raise Misused(f"a {kind.__name__} is given for a plain value")
         return [it for it in gc.get_referents(part) if not isinstance(it, _NAMES)]
 

@@ -1,12 +1,11 @@
 #!/usr/bin/env python3
-"""Calls every name of every ready-made list with whatever a pickle can make for an argument. Nothing
-runs, opens, imports, dies, changes what was there before, or takes more than little of time and
-memory.
+"""Calls every name of every ready-made list with whatever a pickle can make for an argument.
+Nothing runs, opens, imports, dies, changes what was there before, or takes much time or memory.
 
     PYTHONPATH=python python3 python/tests/hostile/arguments.py [LIST ..] [--name MODULE.NAME]
 
-Each name has a child of its own, which is forked from one that has imported everything. What a child
-shows is tried again, alone, in three fresh ones, and counts only if each of them shows it.
+Each name has a child of its own, which is forked from one that has imported everything. What a
+child shows is tried again, alone, in three fresh ones, and counts only if each of them shows it.
 """
 
 import argparse
@@ -27,9 +26,12 @@ import shapes  # noqa: E402
 import storklocker  # noqa: E402
 from storklocker import AllowList, Guard, lists  # noqa: E402
 
-SECONDS, SECONDS_OF_GATE, MEMORY, AGAIN, MOST = 2, 20, 1 << 30, 3, 4
-DANGERS = ("exec", "compile", "open", "import", "subprocess.", "socket.", "os.", "shutil.", "ctypes.",
-           "marshal.", "pty.", "tempfile.", "code.__new__", "function.__new__", "builtins.breakpoint")
+SECONDS, MEMORY, AGAIN, MOST = 2, 1 << 30, 3, 4
+"""What a case may take, how often a finding is tried again, and how many of a name are told."""
+DANGERS = (
+    *("exec", "compile", "open", "import", "subprocess.", "socket.", "os.", "shutil.", "ctypes."),
+    *("marshal.", "pty.", "tempfile.", "code.__new__", "function.__new__", "builtins.breakpoint"),
+)
 OWN = "storklocker"
 """The package whose modules are imported when they are needed, as are those of listed packages."""
 
@@ -183,7 +185,7 @@ def findings(guard, pair, listed, seconds):
         todo = [row for row in todo if row[0] > at]
 
 
-def run(named, seconds, only=None, tell=print):
+def run(named, seconds, only=None):
     """Tries the names of these lists. Returns the number of names tried, and what was found."""
     warnings.simplefilter("ignore")
     sys.setrecursionlimit(1000)
@@ -202,7 +204,7 @@ def run(named, seconds, only=None, tell=print):
             tried.add(pair)
             for word, size, said in findings(guard, pair, listed_for(name), seconds):
                 found.append(f"{'.'.join(pair)} {word}: {said} ({size:,} bytes)")
-                tell(found[-1])
+                print(found[-1], flush=True)
     return len(tried), found
 
 
@@ -229,9 +231,10 @@ def main():
     parser = argparse.ArgumentParser(description=__doc__.partition("\n\n")[0])
     parser.add_argument("lists", nargs="*", default=lists.__all__)
     parser.add_argument("--name", help="only this name")
+    parser.add_argument("--seconds", type=float, default=SECONDS, help="for a case, at most")
     asked = parser.parse_args()
     sys.addaudithook(WATCH)
-    count, found = run(asked.lists or lists.__all__, SECONDS, asked.name)
+    count, found = run(asked.lists or lists.__all__, asked.seconds, asked.name)
     print(f"{count} names of {storklocker.__name__}.lists, {len(found)} findings")
     return 1 if found or not count else 0
 
