@@ -75,8 +75,8 @@ CODE: Tuple[Code, ...] = (
 """What is told of files that run code: each has a word."""
 _PATTERNS = tuple((re.compile(it.path), re.compile(it.holds)) for it in CODE)
 _ANY = re.compile(
-    rb"\A..\r\n|import[ \t]|Lambda\"|PyFunc|ReadFile|WriteFile|GGUF|external_data|location\x12|com\."
-    rb"|onnx|\"py/|python/|\"pickle\"", re.DOTALL
+    rb"\A..\r\n|import[ \t]|Lambda\"|PyFunc|ReadFile|WriteFile|GGUF|external_data|location\x12"
+    rb"|com\.|onnx|\"py/|python/|\"pickle\"", re.DOTALL
 )
 """Something that each of them has in its first bytes; others are told by their paths."""
 _NAMED = re.compile(rb"code/|extern_modules")
