@@ -69,6 +69,8 @@ def files():
         yield from (bytes(12) + struct.pack(f"{order}I", it) + EVIL for it in (0x53162, 0x61561))
         yield from (struct.pack(f"{order}I", it) + EVIL for it in (0x13579ACE, 0x13579AD0))
     yield b"\x80\x04" + bytes(14) + b"\xde\xc0\xef\xbe" + EVIL
+    yield from (b"FS21" + EVIL, b"SEQ\6" + EVIL, b"\x82\xa2nd\xc3" + EVIL)
+    yield len(pickle.dumps(1)).to_bytes(4, "big") + pickle.dumps(1)
 
 
 class Asked(unittest.TestCase):

@@ -119,7 +119,7 @@ def searched(
             continue
         elif at < end and _is_harm(source, at, place.budget):
             yield _piece(place, kind, at)  # (what seems to be in another may be a value of its own)
-        elif at >= end and values.taken(source.read(at, _FIRST)):
+        elif at >= end and _is_plain(source, at, values):
             end = at + values.last
         elif at >= end and _is_found(source, at, place.budget):
             page_end = 0 if end_of is None or _is_harm(source, at, place.budget) else end_of(at)
@@ -178,7 +178,7 @@ def _beginnings(source: Source, budget: Budget) -> Iterator[Tuple[int, bool]]:
         places += [(at, True) for at in texts_in(block)]
         places.sort()
         for at, is_text in itertools.takewhile(lambda it: it[0] < _STEP, places):
-            budget.spend(2)
+            budget.spend(6)
             yield start + at, is_text
 
 
@@ -195,11 +195,17 @@ def _imports_with_nul(block: bytes) -> Iterator[int]:
                 yield front.start()
 
 
+def _is_plain(source: Source, at: int, values: Values) -> bool:
+    """Whether a plain value begins at a place, which is told later."""
+    return source.read(at, 1) == b"\x80" and values.taken(source.read(at, _FIRST)) > 0
+
+
 def _is_harm(source: Source, at: int, budget: Budget) -> bool:
     """Whether a pickle there imports something that is known to do harm; where an import stands,
     whether that does. (Each other one has a place of its own.)
     """
     shown = _shown_at(source, at)
+    budget.spend()
     found = imports_at(source, at, budget).names if shown is None else [shown]
     return any(map(is_harmful_pair, found))
 
@@ -217,12 +223,11 @@ def _shown_at(source: Source, at: int) -> Optional["Names"]:
 
 def _is_found(source: Source, at: int, budget: Budget) -> bool:
     """Whether a pickle begins at a place to which a search comes."""
-    if _shown_at(source, at) is None:
+    shown = _shown_at(source, at)
+    if shown is None:
         return is_pickle(source, at, budget)
-    budget.spend()
-    if imports_within(source.read(at, _FIRST), NOTHING).verdict:
-        return True
-    return _is_harm(source, at, budget)  # (the search comes to other imports by themselves)
+    budget.spend(3 * STEP)  # (the search comes to other imports by themselves)
+    return is_harmful_pair(shown) or bool(imports_within(source.read(at, _FIRST), NOTHING).verdict)
 
 
 def is_pickle(source: Source, at: int, budget: Budget) -> bool:

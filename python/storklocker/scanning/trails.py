@@ -150,7 +150,7 @@ class Trails:
         """
         self._steps += 1
         if self._steps % _TICK == 0:
-            self._budget.spend(2 * _TICK)
+            self._budget.spend(4 * _TICK)
         start = self._held(at, 1)
         found = _PLAIN.match(self._data, start, min(len(self._data), bound - self._base))
         if found:
