@@ -89,6 +89,8 @@ class Noting:
         if not all(it.isidentifier() for it in module.partition("\0")[0].split(".")):
             raise ImportError  # as it does of each name that no module has
         self.asked.append((module, name))
+        if not name:
+            raise AttributeError  # no module has that
         return text_of if len(self.asked) % 3 == 2 else Anything
 
     def persistent_load(self, name):
@@ -182,7 +184,7 @@ def difference(data, asked, is_ended):
         return ""
     hidden = {UNKNOWN} if found.has_numbered else set()
     missing = set(map(encoded, asked)).difference(found.names, hidden)
-    if UNKNOWN in found.names or found.has_numbered and UNKNOWN in missing:
+    if UNKNOWN in found.names or found.has_numbered:  # (what is registered may be any text)
         missing = set()
     if missing:
         return f"imports {missing}, told {list(found.names)}"
