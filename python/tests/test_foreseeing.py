@@ -292,12 +292,12 @@ class NumPy(unittest.TestCase):
         pandas, joblib = map(importlib.import_module, ("pandas", "joblib"))
         ensemble = importlib.import_module("sklearn.ensemble")
         frame = pandas.DataFrame({"a": pandas.date_range("2020", periods=2), "b": ["x", "y"]})
-        self.assertEqual(word(pickle.dumps(frame, 4), lists.PANDAS), ACCEPTED)
+        self.assertEqual(word(pickle.dumps(frame, 4), lists.PANDAS), UNDECIDED)
         model = ensemble.RandomForestClassifier(2).fit([[0], [1]], [0, 1])
         out = io.BytesIO()
         joblib.dump(model, out)
         for data in (pickle.dumps(model, 4), out.getvalue()):
-            self.assertEqual(word(data, lists.SCIKIT_LEARN), ACCEPTED)
+            self.assertEqual(word(data, lists.SCIKIT_LEARN), UNDECIDED)
 
     def test_without_numpy(self):
         """Where it isn't installed, nothing is known of it."""

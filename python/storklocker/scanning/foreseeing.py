@@ -40,6 +40,8 @@ _BUILD = b"b"
 _MAKING = ("attrgetter", "methodcaller")
 """Substitutes of a list that import nothing to judge what they are given. What they make is called
 by nobody here."""
+_JUDGED = frozenset("sklearn scipy pandas torch django celery kombu billiard".split())
+"""Packages whose classes a guard may judge, which to import takes longer than a scan."""
 _OPEN = ("numpy", "operator", "_operator", "types")
 """Packages whose classes and functions may make arrays, types, modules or functions."""
 _WORDS, _ARRAYS = (frozenset(name for _, name in it) for it in (TABLE, _arrays.TABLE))
@@ -93,8 +95,8 @@ def foreseen(
 def _may_be_asked(pair: Pair, allow: AllowList) -> bool:
     """Whether a name may have a substitute."""
     own = () if allow._meant is None else allow._meant.substitutes
-    is_numpy = pair[0].partition(".")[0] == "numpy"
-    return is_numpy or pair in own or pair[1].rpartition(".")[2] in _WORDS
+    package = pair[0].partition(".")[0]
+    return package == "numpy" or package in _JUDGED or pair in TABLE or pair in own or pair[1].rpartition(".")[2] in _WORDS
 
 
 def _of_one(data: bytes, allow: AllowList) -> Foreseen:
@@ -214,10 +216,11 @@ class _Foreseer(Reader):
 
     def substitute_for(self, pair: Pair) -> Optional[Substitute]:
         """The substitute for a name, if it has one, found without importing anything but NumPy."""
-        own = self.own.get(pair) or TABLE.get(pair)
+        package = pair[0].partition(".")[0]
+        own = self.own.get(pair) or (None if package in _JUDGED else TABLE.get(pair))
         if own is None and self._is_old:  # a guard may load it by its name in Python 3
             own = TABLE.get(renamed(pair))
-        if own is not None or pair[0].partition(".")[0] != "numpy":
+        if own is not None or package != "numpy":
             return own
         import numpy  # noqa: F401 # (raises ImportError, where nothing of it is known)
 
@@ -240,8 +243,8 @@ class _Foreseer(Reader):
         if pair not in self._named:
             held = {"__slots__": (), "pair": pair, "__getinitargs__": None}
             self._named[pair] = Named("Named", (Answer,), held)
-        if pair[1].rpartition(".")[2] in _ARRAYS:
-            self.put_off(f"{pair[0]}.{pair[1]} may be what a guard substitutes")
+        if pair[1].rpartition(".")[2] in _ARRAYS or pair[0].partition(".")[0] in _JUDGED:
+            self.put_off(f"a guard judges what is made by {pair[0]}.{pair[1]}")
         return self._named[pair]
 
     def persistent_load(self, asked: Any, /) -> Any:
@@ -253,6 +256,21 @@ class _Foreseer(Reader):
                 return asked[0]
             if not self.knows(asked[1]):
                 raise _Late("the state of an array has what only a load makes")
+        if type(asked) is tuple and len(asked) == 3 and asked[2] is not None:
+            return self._used(asked)
+        return super().persistent_load(asked)
+
+    def _used(self, asked: Tuple[Any, ...]) -> Any:
+        """What a class makes by another instruction than REDUCE, or what takes items."""
+        parts = asked[0] if type(asked[0]) is tuple else asked[:1]
+        if any(isinstance(it, (Named, Answer, _Watched, _PutOff)) for it in parts):
+            is_bare = type(asked[2]) is list and asked[1] == () and isinstance(asked[0], Named)
+            if is_bare:
+                return asked[0].__new__(asked[0])
+            self.put_off("a guard judges what a class makes, and the items that are put into it")
+            return _UNKNOWN if type(asked[2]) is list else asked[0]
+        if not self.knows(asked[1]):
+            raise _Late("an object takes items that only a load makes")
         return super().persistent_load(asked)
 
     def persistent(self, number: Any) -> Any:
