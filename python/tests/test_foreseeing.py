@@ -210,11 +210,11 @@ class Command(unittest.TestCase):
     def test_costs_and_build(self):
         """Of a list too that says otherwise than the defaults of a guard."""
         keys = b"})" + b"2\x86" * 30 + b"Ns."
-        change = P + KIND + STATE
+        change = P + name("shop.orders", "Order") + STATE
         for data in (keys, change):
             for said in ("", "[limits]\nweight = 4294967295\nwork = 9223372036854775807\n",
                          '[rules]\nbuild = "any"\n', "[limits]\nstack = 1000\n"):
-                listed = f'collections = ["OrderedDict"]\n{said}'
+                listed = f'"shop.orders" = ["Order"]\n{said}'
                 allow = AllowList.from_text(f"version = 2\n[imports]\n{listed}")
                 wanted = 0 if Guard(allow).check(data) else 1
                 for command in ("check", "scan"):

@@ -96,7 +96,8 @@ def _may_be_asked(pair: Pair, allow: AllowList) -> bool:
     """Whether a name may have a substitute."""
     own = () if allow._meant is None else allow._meant.substitutes
     package = pair[0].partition(".")[0]
-    return package == "numpy" or package in _JUDGED or pair in TABLE or pair in own or pair[1].rpartition(".")[2] in _WORDS
+    is_known = package == "numpy" or package in _JUDGED or pair in TABLE
+    return is_known or pair in own or pair[1].rpartition(".")[2] in _WORDS
 
 
 def _of_one(data: bytes, allow: AllowList) -> Foreseen:
@@ -164,11 +165,11 @@ class Named(type):
 class _Watched(Substitute):
     """A substitute that judges what is known."""
 
-    __slots__ = ("_reader", "_is_kept")
+    __slots__ = ("own", "_reader", "_is_kept")
 
     def __init__(self, own: Substitute, reader: _Foreseer, is_kept: bool) -> None:
         super().__init__(own.name, own, own.role)
-        self._reader, self._is_kept = reader, is_kept
+        self.own, self._reader, self._is_kept = own, reader, is_kept
 
     def __call__(self, *given: Any) -> Any:
         reader = self._reader
@@ -262,6 +263,8 @@ class _Foreseer(Reader):
 
     def _used(self, asked: Tuple[Any, ...]) -> Any:
         """What a class makes by another instruction than REDUCE, or what takes items."""
+        if type(asked[2]) is list and isinstance(asked[0], _Watched) and self.knows(asked[1]):
+            return super().persistent_load((asked[0].own, *asked[1:]))
         parts = asked[0] if type(asked[0]) is tuple else asked[:1]
         if any(isinstance(it, (Named, Answer, _Watched, _PutOff)) for it in parts):
             is_bare = type(asked[2]) is list and asked[1] == () and isinstance(asked[0], Named)
