@@ -9,7 +9,7 @@ import re
 import sys
 from pathlib import Path
 from types import ModuleType
-from typing import Any, Dict, Iterator, Tuple
+from typing import Any, Dict, Iterator, List, Tuple
 
 _SUBSTITUTES = "\n[substitutes]\n"
 _LINE = re.compile(r'^(?:"([^"]+)"|([\w-]+)) = \[(.*)$')
@@ -30,8 +30,20 @@ def module(name: str) -> Any:
     return importlib.import_module(f"{around}.{last}")
 
 
-def substituted(source: Path) -> Tuple[Tuple[str, str], ...]:
-    """The pairs of the standard library that a guard always loads through substitutes."""
+def substituted() -> Tuple[List[str], List[str]]:
+    """The names that a guard loads through substitutes under all lists, each as `module name`, and
+    the packages of which any may be.
+    """
+    source = _PACKAGE / "_substituted.py"
+    if not source.exists():
+        return [" ".join(pair) for pair in _in_lists(_PACKAGE / "_lists.py")], ["numpy"]
+    scope: Dict[str, Any] = {}
+    exec(compile(source.read_text(encoding="utf-8"), str(source), "exec"), scope)
+    names = scope["NAMES"].items()
+    return [f"{it} {name}" for it, own in names for name in own.split()], list(scope["PACKAGES"])
+
+
+def _in_lists(source: Path) -> Tuple[Tuple[str, str], ...]:
     for node in ast.parse(source.read_text(encoding="utf-8")).body:
         targets = node.targets if isinstance(node, ast.Assign) else []
         if [getattr(it, "id", "") for it in targets] == ["SUBSTITUTED"]:

@@ -7,8 +7,9 @@ const [YES, NO, NO_LIST] = [0, 1, 2];
 const RISKS = { danger: "dangerous-import", warning: "risky-import", unknown: "unknown-import" };
 
 export class Judge {
-  // said: `severities` and `words`, the worst first, `kinds` of findings, `headlines`, and the
-  // `substituted` names, each as "module name"; known: what is known of names.
+  // said: `severities` and `words`, the worst first, `kinds` of findings, `headlines`, and what a
+  // guard loads through substitutes: the `substituted` names, each as "module name", and whatever
+  // is in the `packages`; known: what is known of names.
   constructor(said, known) {
     Object.assign(this, said, { known, substitutes: new Set(said.substituted) });
   }
@@ -101,7 +102,8 @@ export class Judge {
   }
 
   isSubstituted(module, name) {
-    return /^numpy(\.|$)/.test(module) || this.substitutes.has(`${module} ${name}`);
+    const isPackage = this.packages.includes(module?.split(".", 1)[0]);
+    return isPackage || this.substitutes.has(`${module} ${name}`);
   }
 
   // What is to be said of the imports and of what loading costs.

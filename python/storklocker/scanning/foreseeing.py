@@ -176,11 +176,11 @@ class Named(type):
 class _Watched(Substitute):
     """A substitute that judges what is known."""
 
-    __slots__ = ("_reader", "_is_kept")
+    __slots__ = ("own", "_reader", "_is_kept")
 
     def __init__(self, own: Substitute, reader: _Foreseer, is_kept: bool) -> None:
         super().__init__(own.name, own, own.role)
-        self._reader, self._is_kept = reader, is_kept
+        self.own, self._reader, self._is_kept = own, reader, is_kept
 
     def __call__(self, *given: Any) -> Any:
         if self.name == "copyreg._reconstructor" and (_is_wrapper(given[:1]) or _is_plain(given)):
