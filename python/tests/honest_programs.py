@@ -1,6 +1,6 @@
 """Programs that use processes, without and with a guard that is installed.
 
-    python honest_programs.py HOW FILE NAME
+    python honest_programs.py HOW FILE NAME...
 
 HOW is as in honest_suites.py; the file has the imports. Each prints what came of it.
 """
@@ -26,7 +26,7 @@ def joblib_backends():
 
     yield
     small, large = numpy.arange(6.0), numpy.ones(200_000)
-    for backend in ("loky", "multiprocessing", "threading"):
+    for backend in ("multiprocessing", "loky", "threading"):
         with joblib.parallel_backend(backend, n_jobs=2):
             found = joblib.Parallel()(joblib.delayed(doubled)(it) for it in (small, large, "a"))
         print(backend, found[0].tolist(), found[1].sum(), found[2])
@@ -128,17 +128,19 @@ def begin(how, file):
         honest_suites.install(file, how != "reporting")
 
 
-def main(how, file, name):
+def main(how, file, *names):
     logging.disable(logging.CRITICAL)
-    program = globals()[name]()
     if how == "without":
         honest_suites.note_imports(file)
     elif how != "last":
         begin(how, Path(file))
-    next(program)
+    programs = [globals()[name]() for name in names]
+    for program in programs:
+        next(program)
     if how == "last":
         begin(how, Path(file))
-    next(program, None)
+    for program in programs:
+        next(program, None)
 
 
 if __name__ == "__main__":
