@@ -27,7 +27,11 @@ _DICTS = frozenset(("own", "unbuilt", "types", "states", "errors", "lent"))
 """Attributes of a `Reader`, which are seldom needed."""
 
 
-class Judging(pickle.Unpickler):
+_Unpickler: Any = Reader.__bases__[0]
+"""The class of `pickle`, in whose place a guard may be installed by now."""
+
+
+class Judging(_Unpickler):  # type: ignore[misc]
     """Loads an accepted pickle that is respelled. It stands for a `Reader` where it is judged."""
 
     takes_any = False
