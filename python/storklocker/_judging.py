@@ -139,7 +139,12 @@ def judged(pieces: List[Piece]) -> Any:
     data, begin, end = pieces[0]
     if len(pieces) == 1 and begin == 0 and end == len(data) < _SMALL:
         file: Any = io.BytesIO(data)
-        return Judging(io.BufferedReader(file), fix_imports=False).load()
+        return _loaded(io.BufferedReader(file))
     feed = Feed()
     feed.fill(pieces)
-    return Judging(feed, fix_imports=False).load()
+    return _loaded(feed)
+
+
+def _loaded(file: Any) -> Any:
+    reader: Any = Judging(file, fix_imports=False)
+    return reader.load()

@@ -12,15 +12,15 @@ from __future__ import annotations
 import enum
 import itertools
 import sys
-from typing import Any, Dict, List, NamedTuple, Optional, Tuple
+from typing import Any, Dict, List, NamedTuple, Optional
 
-from .. import _arrays
+from .. import _arrays, lists
 from .._answers import Misused
 from .._lists import AllowList, has_substitutes
 from .._names import are_old, renamed
 from .._objects import found
 from .._storklocker import walked
-from .._of_packages import PACKAGES, judge_tensor
+from .._of_packages import PACKAGES
 from .._states import HAS_ITEMS, HAS_STATE
 from .._substitute import Class, Substitute, Value
 from .._substitutes import TABLE, Reader, _for_object
@@ -29,8 +29,7 @@ from .._uses import Uses, named_by
 from .dangers import is_in_shipped_list
 from .joblib_cutting import WRAPPERS
 from .source import Source
-
-Pair = Tuple[str, str]
+from .stand_ins import UNKNOWN, Answer, Named, Pair, PutOff, Storage, Tensors, Watched
 
 _LARGEST = 1 << 28
 """The most bytes of a file whose pickles are read here."""
@@ -98,7 +97,7 @@ def foreseen(source: Source, most: int, allow: AllowList) -> Foreseen:
 def _of_one(data: bytes, allow: AllowList) -> Foreseen:
     """What a guard does with one pickle. Strings of Python 2 are decoded as its reader would."""
     for encoding in ("ASCII", "latin-1"):
-        reader = _Foreseer(allow, are_old(data), encoding)
+        reader = Foreseer(allow, are_old(data), encoding)
         try:
             reader.foresee(data)
         except UnicodeDecodeError:
@@ -118,7 +117,7 @@ class Look:
     """A look at pickles for what a guard with this list judges while it loads them."""
 
     def __init__(self, allow: AllowList) -> None:
-        self._readers = tuple(_Foreseer(allow, is_old, "ASCII") for is_old in (False, True))
+        self._readers = tuple(Foreseer(allow, is_old, "ASCII") for is_old in (False, True))
 
     def finds(self, data: bytes) -> bool:
         """Whether a guard judges anything of a pickle."""
@@ -134,88 +133,12 @@ class _Late(Exception):
     """The rest can't be judged before a load."""
 
 
-class Answer:
-    """What a call answers, or a class makes."""
-
-    __slots__ = ("is_bare",)
-    pair: Optional[Pair] = None
-    is_bare: bool
-    """Whether it is made of nothing, by the class that the pickle names."""
-
-    def __new__(cls, *given: Any, **named: Any) -> Answer:
-        made = object.__new__(cls)
-        made.is_bare = not given and not named
-        return made
-
-    def __call__(self, *given: Any, **named: Any) -> Answer:
-        return _UNKNOWN
-
-    def __setitem__(self, key: Any, value: Any) -> None:
-        """A reader puts the items of a subclass of dict here."""
-
-    def append(self, item: Any) -> None:
-        """A reader puts the items of a subclass of list or set here."""
-
-    add = extend = append
-
-
-_UNKNOWN = Answer(None)
-
-
-class Named(type):
-    """A listed name that has no substitute."""
-
-    pair: Pair
-
-    def __call__(cls, *given: Any, **named: Any) -> Any:
-        made: Any = object.__new__(cls)  # type: ignore[arg-type]
-        made.is_bare = False
-        return made
-
-
-class _Watched(Substitute):
-    """A substitute that judges what is known."""
-
-    __slots__ = ("own", "_reader", "_is_kept")
-
-    def __init__(self, own: Substitute, reader: _Foreseer, is_kept: bool) -> None:
-        super().__init__(own.name, own, own.role)
-        self.own, self._reader, self._is_kept = own, reader, is_kept
-
-    def __call__(self, *given: Any) -> Any:
-        if self.name == "copyreg._reconstructor" and (_is_wrapper(given[:1]) or _is_plain(given)):
-            return given[0].__new__(given[0])  # as old protocols make it
-        if not self._reader.knows(given):
-            return self._put_off()
-        made = self._call(*given)
-        return made if self._is_kept else _UNKNOWN
-
-    def real(self) -> Any:
-        """The object, of a module that is there; what stands for others."""
-        module, _, name = self.name.rpartition(".")
-        return super().real() if module in sys.modules else self._reader.named((module, name))
-
-    def new(self, *given: Any) -> Any:
-        own: Any = self._call
-        if not self._reader.knows(given):
-            return self._put_off()
-        if not isinstance(own, Class):
-            return own.new(*given)
-        own.judge_new(given)
-        module, _, name = self.name.rpartition(".")
-        kind: Any = self._reader.named((module, name))
-        return kind.__new__(kind)
-
-    def _put_off(self) -> Any:
-        return self._reader.put_off(f"{self.name} is given what only a load makes")
-
-
 class _ForeseenUses(Uses):
     """Follows a pickle without importing what it names."""
 
     __slots__ = ("_reader",)
 
-    def __init__(self, reader: _Foreseer) -> None:
+    def __init__(self, reader: Foreseer) -> None:
         super().__init__(reader.own, WRAPPERS, is_shared=False)
         self._reader, self.takes_any = reader, reader.is_any
 
@@ -227,11 +150,11 @@ class _ForeseenUses(Uses):
         return self._numbers.number(pair, role if own is None else own)
 
 
-class _Foreseer(Reader):
+class Foreseer(Reader):
     """The reader of a guard, for which a name without a substitute is nothing but a name."""
 
     def __init__(self, allow: AllowList, is_old: bool, encoding: str) -> None:
-        super().__init__(allow, encoding=encoding, buffers=itertools.repeat(_UNKNOWN))
+        super().__init__(allow, encoding=encoding, buffers=itertools.repeat(UNKNOWN))
         self.is_old = is_old
         """Whether its names are those of Python 2."""
         self.is_any = allow.build == "any" and not has_substitutes(allow)
@@ -251,7 +174,7 @@ class _Foreseer(Reader):
     def put_off(self, why: str) -> Answer:
         """What something answers that isn't judged here."""
         self.late = self.late or why
-        return _UNKNOWN
+        return UNKNOWN
 
     def substitute_for(self, pair: Pair) -> Optional[Substitute]:
         """The substitute for a name, if it has one, found without importing anything but NumPy."""
@@ -272,11 +195,11 @@ class _Foreseer(Reader):
         if isinstance(within, Kind):
             return within
         if pair == _TENSORS and pair not in self.own:
-            return _Tensors(substitute)
+            return Tensors(substitute)
         is_imported = pair[0].partition(".")[0] in _IMPORTED and not isinstance(substitute, _MADE)
         if is_imported or pair in self.own and substitute.name not in _MAKING:
-            return _PutOff(substitute, self)
-        return _Watched(within, self, pair not in self.own)
+            return PutOff(substitute, self)
+        return Watched(within, self, pair not in self.own)
 
     def named(self, pair: Pair) -> Named:
         """What stands for a name."""
@@ -304,7 +227,7 @@ class _Foreseer(Reader):
 
     def persistent(self, number: Any) -> Any:
         is_storage = type(number) is tuple and len(number) == 5 and number[0] == "storage"
-        return _Storage(number[4]) if is_storage and type(number[4]) is int else _UNKNOWN
+        return Storage(number[4]) if is_storage and type(number[4]) is int else UNKNOWN
 
     def knows(self, given: Any) -> bool:
         """Whether all of these values is what a guard's reader would have here."""
@@ -325,61 +248,6 @@ class _Foreseer(Reader):
             if self._steps > _MOST:
                 raise _Late("it has too many values to look through")
         return True
-
-
-class _Storage(Answer):
-    """A storage of PyTorch."""
-
-    __slots__ = ("_count",)
-
-    def __init__(self, count: int) -> None:
-        self._count = count
-
-    def size(self) -> int:
-        """How many numbers it has. The reader of a checkpoint asks whether the file has as many."""
-        return self._count
-
-
-class _Tensors(Substitute):
-    """Judges tensors without PyTorch."""
-
-    __slots__ = ()
-
-    def __init__(self, own: Substitute) -> None:
-        super().__init__(own.name, own, own.role)
-
-    def __call__(self, *given: Any) -> Answer:
-        judge_tensor(given)
-        return Answer(None)
-
-
-class _PutOff(Substitute):
-    """A substitute that would import what the list names, to judge."""
-
-    __slots__ = ("_reader",)
-
-    def __init__(self, own: Substitute, reader: _Foreseer) -> None:
-        super().__init__(own.name, own, own.role)
-        self._reader = reader
-
-    def __call__(self, *given: Any) -> Any:
-        return self._reader.put_off(f"{self.name} judges what it is given when it is loaded")
-
-    new = __call__
-
-
-def _is_plain(given: Tuple[Any, ...]) -> bool:
-    """Whether old protocols make an object of a class that is no subclass of a container."""
-    named = [it.pair if isinstance(it, Named) else it for it in given]
-    return len(named) == 3 and type(named[0]) is tuple and named[1:] == [_OBJECT, None]
-
-
-_OBJECT = ("builtins", "object")
-
-
-def _is_wrapper(given: Tuple[Any, ...]) -> bool:
-    """Whether this is joblib's wrapper of arrays, for which a guard has a class of its own."""
-    return any(isinstance(it, Named) and it.pair in WRAPPERS for it in given)
 
 
 def _parts_of(held: Any) -> List[Any]:
@@ -409,7 +277,8 @@ def _is_own(receiver: Any) -> bool:
         return False
     if pair[0].partition(".")[0] in _OPEN:
         return False
-    return bool(receiver.is_bare or pair in WRAPPERS or is_in_shipped_list(*pair))
+    is_listed = is_in_shipped_list(*pair) and pair not in lists.ENUM
+    return bool(receiver.is_bare or pair in WRAPPERS or is_listed)
 
 
 def _told(receiver: Any) -> str:
