@@ -32,6 +32,7 @@ import progress  # noqa: E402
 import shapes  # noqa: E402
 from listed import LISTED  # noqa: E402
 from storklocker import AllowList  # noqa: E402
+from storklocker.scanning.dangers import is_found_here  # noqa: E402
 from storklocker.scanning.judging import Question, reports_of  # noqa: E402
 from storklocker.scanning.severity import DANGER, UNREADABLE  # noqa: E402
 
@@ -100,7 +101,15 @@ def asked_in(answer):
     """The readers that asked for a name of a module that may be there. (Python finds frozen ones by
     what stands in front of a NUL.)
     """
-    return sorted({it[0] for it in answer if MODULE.fullmatch(it[1].partition("\0")[0])})
+    return sorted({it[0] for it in answer if may_run(*it[1:3])})
+
+
+def may_run(module, name):
+    """Whether asking for a name runs anything: the import of its module does, if there is one."""
+    module = module.partition("\0")[0]
+    if MODULE.fullmatch(module) is None:
+        return False
+    return all(map(str.isidentifier, name.split("."))) or is_found_here(module)
 
 
 @functools.lru_cache(maxsize=None)

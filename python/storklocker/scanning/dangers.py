@@ -8,6 +8,8 @@ from __future__ import annotations
 
 import functools
 import re
+import sys
+from importlib.machinery import PathFinder
 from pathlib import Path
 from typing import Container, Dict, FrozenSet, Iterable, Iterator, List, Optional, Tuple
 
@@ -93,8 +95,24 @@ def may_be_there(module: str, name: str) -> bool:
 
 
 def may_be_imported(module: str, name: str) -> bool:
-    """Whether a reader may get this from a module, or at least import one that leads to harm."""
-    return may_be_there(module, name) or is_module(module) and is_suspect(module)
+    """Whether a reader may get this from a module, or at least import one that leads to harm or is
+    found here: what a module does when it is imported is done whatever is asked of it.
+    """
+    if may_be_there(module, name):
+        return True
+    return is_module(module) and (is_suspect(module) or is_found_here(module))
+
+
+@functools.lru_cache(maxsize=4096)
+def is_found_here(module: str) -> bool:
+    """Whether this Python finds the package of a module, which isn't imported."""
+    package = module.partition("\0")[0].partition(".")[0]
+    if package in sys.builtin_module_names:
+        return True
+    try:
+        return PathFinder.find_spec(package) is not None
+    except (ImportError, OSError, ValueError):
+        return False
 
 
 @functools.lru_cache(maxsize=4096)

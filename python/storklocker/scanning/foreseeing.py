@@ -195,7 +195,7 @@ class Foreseer(Reader):
         if isinstance(within, Kind):
             return within
         if pair == _TENSORS and pair not in self.own:
-            return Tensors(substitute)
+            return Tensors(substitute, self)
         is_imported = pair[0].partition(".")[0] in _IMPORTED and not isinstance(substitute, _MADE)
         if is_imported or pair in self.own and substitute.name not in _MAKING:
             return PutOff(substitute, self)
@@ -226,7 +226,7 @@ class Foreseer(Reader):
         return super().persistent_load(asked)
 
     def persistent(self, number: Any) -> Any:
-        is_storage = type(number) is tuple and len(number) == 5 and number[0] == "storage"
+        is_storage = type(number) is tuple and len(number) in (5, 6) and number[0] == "storage"
         return Storage(number[4]) if is_storage and type(number[4]) is int else UNKNOWN
 
     def knows(self, given: Any) -> bool:

@@ -107,12 +107,15 @@ class Storage(Answer):
 class Tensors(Substitute):
     """Judges tensors without PyTorch."""
 
-    __slots__ = ()
+    __slots__ = ("_reader",)
 
-    def __init__(self, own: Substitute) -> None:
+    def __init__(self, own: Substitute, reader: Foreseer) -> None:
         super().__init__(own.name, own, own.role)
+        self._reader = reader
 
     def __call__(self, *given: Any) -> Answer:
+        if not (given and isinstance(given[0], Storage)):
+            return self._reader.put_off(f"{self.name} is given what only a load makes")
         judge_tensor(given)
         return Answer(None)
 
