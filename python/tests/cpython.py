@@ -30,6 +30,7 @@ NOT_COVERED = {
     "test_global_ext1": CODES,
     "test_global_ext2": CODES,
     "test_global_ext4": CODES,
+    "test_large_binstring": "what is no pickle is refused in other words",
     "test_load_global": "names beyond ASCII in GLOBAL are refused",
     "test_load_stack_global": KIND,
     "test_maxint64": KIND,
