@@ -174,6 +174,10 @@ class Wrapper:
         functools.update_wrapper(self, function)
 
 
+def noted(job: Wrapper) -> Wrapper:
+    """A function with annotations."""
+
+
 def rebuilt(kind, *given):
     """Makes an object, as the first part of what `__reduce__` gives."""
     return kind(*given)

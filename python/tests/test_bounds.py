@@ -29,6 +29,7 @@ def peak(call):
 class Streams(unittest.TestCase):
     def test_a_stream_that_is_refused_at_its_first_instruction(self):
         data = b"cos\nsystem\n" + b"K\x010" * 1_000_000
+        ahead = max(1 << 16, io.DEFAULT_BUFFER_SIZE)  # what a file itself reads ahead
         for file in (
             io.BufferedReader(Piped(data, 1 << 16)),
             Piped(data, 1 << 16),
@@ -37,7 +38,7 @@ class Streams(unittest.TestCase):
             with self.subTest(file=file), self.assertRaises(Refused) as raised:
                 NOTHING.load(file)
             self.assertEqual(raised.exception.pair, ("os", "system"))
-            self.assertLess(file.tell() if isinstance(file, gzip.GzipFile) else 0, 1 << 16)
+            self.assertLessEqual(file.tell() if isinstance(file, gzip.GzipFile) else 0, ahead)
 
     def test_a_stream_that_never_ends_takes_its_bytes_and_little_more(self):
         data = b"K\x010" * 1_000_000

@@ -278,7 +278,9 @@ class HostileFiles(unittest.TestCase):
         self.addCleanup(signal.signal, signal.SIGINT, before)
         for sent, status in ends:
             with self.subTest(sent.name):
-                began = command("scan", pipe, "--jobs", "2", start_new_session=True)
+                # Python itself may tell that it tidies up behind a process that is killed.
+                began = command("scan", pipe, "--jobs", "2", start_new_session=True,
+                                more={"PYTHONWARNINGS": "ignore:resource_tracker"})
                 writer = opened_for_writing(pipe)
                 os.kill(began.pid, sent)
                 _, errors = began.communicate(timeout=SECONDS)  # no process is left that holds it

@@ -2,6 +2,7 @@
 
 import bz2
 import gzip
+import importlib.util
 import io
 import lzma
 import pickle
@@ -24,6 +25,8 @@ from test_scanning import GOOD, tarred, zipped
 RUNS = b"cposix\nsystem\n(S'echo a hostile pickle ran'\ntR."
 EVIL = b"\x80\x02" + RUNS
 HDF5 = b"\x89HDF\r\n\x1a\n"
+FINDS_UP_TO_NUL = importlib.util.find_spec("os\0x") is not None
+"""Whether this Python finds frozen modules, as `os`, by what stands in front of a NUL."""
 
 
 def reports(data, allow=NOTHING, path="file"):
@@ -262,7 +265,7 @@ class Readings(unittest.TestCase):
         (found,) = reports(text, None)
         self.assertIn("unreadable", [it.severity for it in found.findings])
 
-    @unittest.skipIf(sys.version_info < (3, 11), "`os` isn't frozen")
+    @unittest.skipUnless(FINDS_UP_TO_NUL, "this Python finds modules by their whole names")
     def test_python_finds_frozen_modules_up_to_a_nul(self):
         words = [sys.executable, "-c", "import pickle, sys; pickle.load(sys.stdin.buffer)"]
         ran = subprocess.run(words, input=HOSTILE["a module up to NUL"], stdout=subprocess.PIPE)

@@ -118,6 +118,7 @@ REFUSED = {
     "another class": MADE + b"N}" + text("__class__") + name("Reduced") + b"s\x86b",
     "another class of attributes": MADE + state(__class__=name("Reduced")),
     "another dict": MADE + b"N}" + text("__dict__") + name("REGISTRY") + b"s\x86b",
+    "what is asked for annotations": MADE + state(__annotate__=name("called")),
     "a dict with a class in it": name("Stated") + NEW + state(__class__=name("Reduced")),
 }
 
@@ -298,6 +299,12 @@ class Honest(Case):
                 for load in self.loaders(allow, protocol < 3):
                     with self.subTest(value=value, protocol=protocol):
                         self.assertEqual(shown(load(data)), shown(pickle.loads(data)))
+
+    def test_an_object_with_the_annotations_of_a_function(self):
+        allow = self.allow | AllowList([(HERE, "noted.__annotate__")])
+        data = pickle.dumps(shop.Wrapper(shop.noted), 4)
+        for load in self.loaders(allow):
+            self.assertEqual(shown(load(data)), shown(pickle.loads(data)))
 
     def test_under_the_lists_of_the_library(self):
         for member in (re.A | re.I, http.HTTPStatus.OK, signal.SIGTERM):

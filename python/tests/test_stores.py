@@ -23,6 +23,14 @@ GOOD = [pickle.dumps([1, "text", {"a": 2.5}], protocol) for protocol in (2, 4)]
 SHELVES = ("dbm.gnu", "dbm.ndbm", "dbm.sqlite3")
 
 
+def reads_on():
+    """Whether `pickle.loads` goes on where a frame ends within a text."""
+    try:
+        return pickle.loads(b"\x95\x03" + bytes(7) + b"\x8c\x04text.") == "text"
+    except pickle.UnpicklingError:
+        return False
+
+
 def shelf_modules():
     """The modules of `dbm` that are here, by their names. Skips the test if there is none."""
     found = {}
@@ -75,7 +83,8 @@ class Stores(unittest.TestCase):
         value = b"\x80\x04\x95%b\x8c\x04text0" + texts + b"(K\0K\0K\0tR."
         for length in (1, 2, 5):
             framed = value % length.to_bytes(8, "little")
-            self.assertEqual(pickle.loads(framed), colorsys.rgb_to_hls(0, 0, 0))
+            if length < 5 or reads_on():
+                self.assertEqual(pickle.loads(framed), colorsys.rgb_to_hls(0, 0, 0))
             verdict = storklocker.check(framed, AllowList([]))
             self.assertIs(verdict.reason, Reason.BrokenFrame)
             self.check(self.sqlite(*GOOD, framed), "SQLite", True)

@@ -48,11 +48,11 @@ HIDDEN = {
     "PROTO in the middle": MODULE + b"\x94" + NAME + b"\x94\x80\x04h\0h\1\x93.",
     "a pickle that is accepted by itself in the middle":
         MODULE + b"\x94" + NAME + b"\x94\x80\x04\x8c\x01a\x940h\0h\1\x93.",
-    "a name with dots": b"\x8c\x05shlex\x940\x80\x04\x8c\x09os.getpid\x940h\0h\1\x93.",
+    "a name with dots": b"\x8c\x04glob\x940\x80\x04\x8c\x09os.getpid\x940h\0h\1\x93.",
     "a module of Python 2": b"\x8c\x0b__builtin__\x940\x8c\x05print\x940h\0h\1\x93.",
 }
 """Values that get `os.getpid` or `print` from a real reader."""
-if sys.version_info >= (3, 11):  # `os` is frozen, and found by what stands in front of a NUL
+if test_readings.FINDS_UP_TO_NUL:
     HIDDEN["a module with a NUL"] = b"\x8c\x06os\0abcN0" + NAME + b"\x93."
 
 
