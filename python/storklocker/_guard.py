@@ -134,8 +134,8 @@ class Guard(Loads):
         self._old = allow._for_old_names()._under(settings) if fix_imports else self._new
         self._unpickler: Optional[Type[GuardedUnpickler]] = None
         self._quick: Optional[Callable[[bytes], Any]] = None
-        lists = (None, None) if old_strings == "bytes" else (self._new, self._old)
-        begin_loads(self, *lists, _loads, len(allow) > 0)
+        new, old = (None, None) if old_strings == "bytes" else (self._new, self._old)
+        begin_loads(self, new, old, _loads, len(allow) > 0)
 
     @classmethod
     def from_file(

@@ -107,7 +107,7 @@ class GuardedUnpickler(pickle.Unpickler):
         finally:
             self._lock.release()
 
-    if not _IS_PYTHON:
+    if not TYPE_CHECKING and not _IS_PYTHON:  # (what is said of `pickle` differs in this)
 
         @property
         def memo(self) -> Dict[int, Any]:
@@ -268,7 +268,7 @@ class SubstitutingUnpickler(GuardedUnpickler):
         self._reader = _Inner(self, encoding=encoding, errors=errors, buffers=buffers)
         self._reader._uses.takes_any = self.guard._takes_any
 
-    if not _IS_PYTHON:
+    if not TYPE_CHECKING and not _IS_PYTHON:  # (what is said of `pickle` differs in this)
 
         @property
         def memo(self) -> Dict[int, Any]:

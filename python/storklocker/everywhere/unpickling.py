@@ -169,7 +169,8 @@ def _begin_guarded(reader: Any, standing: Type[Any], state: State, words: Words)
     kind = state.admitting.get(plain)
     if kind is None:
         kind = state.admitting[plain] = _admitting(state.guard, plain)
-    way = Guarded(functools.partial(kind, file=words.source, **named), reader)
+    made: Callable[..., Any] = kind
+    way = Guarded(functools.partial(made, file=words.source, **named), reader)
     _set_way(reader, way)
     named["encoding"], named["errors"] = state.guard._decoding(words.encoding, words.errors)
     plain.__init__(reader, way.admitting._feed, fix_imports=False, **named)
