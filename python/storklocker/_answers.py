@@ -261,6 +261,24 @@ class Misused(pickle.UnpicklingError):
     """Whether a guard's `on_refusal` has heard of it."""
 
 
+def told(value: "Any") -> str:
+    """A value that a pickle has made, as a refusal shows it. What is in it isn't looked through:
+    the text of a tuple that is doubled thirty times would be longer than the memory.
+    """
+    if type(value) is tuple and len(value) < 6:
+        return f"({', '.join(map(_told_alone, value))})"
+    return _told_alone(value)
+
+
+def _told_alone(value: "Any") -> str:
+    if type(value) in (str, bytes):
+        return repr(value[:60])
+    is_short = type(value) is int and value.bit_length() < 64
+    if is_short or type(value) in (bool, float, type(None)) or isinstance(value, type):
+        return f"{value!r:.60}"
+    return f"an object of {type(value)!r:.60}"
+
+
 class ListFault(ValueError):
     """A text is not a list file.
 

@@ -9,7 +9,7 @@ import array
 from typing import TYPE_CHECKING, Any, Callable, Dict, Tuple
 
 from ._answers import Misused
-from ._substitute import BECOMES_REAL, Class, Remembering, Substitute
+from ._substitute import BECOMES_REAL, IS_JUDGED, Class, Remembering, Substitute
 from ._weighing import CONTAINERS, keys_of, values
 
 if TYPE_CHECKING:
@@ -193,7 +193,19 @@ def shown(module: str, name: str) -> Remembering:
         reader.pay(sum(len(it) for it in given if type(it) in (str, bytes)))
         return made.real()(*given)
 
-    made = Remembering(f"{module}.{name}", judged, BECOMES_REAL)
+    made = Remembering(f"{module}.{name}", judged, BECOMES_REAL | IS_JUDGED)
+    return made
+
+
+def _group(name: str) -> Remembering:
+    """A group of exceptions, which are counted one by one."""
+    def judged(reader: Reader, *given: Any) -> Any:
+        if len(given) != 2 or type(given[0]) is not str or type(given[1]) not in (list, tuple):
+            raise wrong(name)
+        reader.pay(len(given[1]))
+        return made.real()(*given)
+
+    made = Remembering(f"builtins.{name}", judged, BECOMES_REAL | IS_JUDGED)
     return made
 
 
@@ -229,6 +241,7 @@ TABLE: Dict[Tuple[str, str], Substitute] = dict(
         *(row("ipaddress", name, _address(name)) for name in _ADDRESSES),
         *(row(at, name, _path(name)) for name in _PATHS for at in ("pathlib", "pathlib._local")),
         *(((at, name), shown(at, name)) for at in _SHOWN for name in _SHOWN[at].split()),
+        *((("builtins", name), _group(name)) for name in ("ExceptionGroup", "BaseExceptionGroup")),
         (("uuid", "UUID"), Class("uuid.UUID", call=_uuid)),
     ]
 )

@@ -13,7 +13,7 @@ import pathlib
 import types
 from typing import Any, Dict, Tuple
 
-from ._answers import Misused
+from ._answers import Misused, told
 
 LEVELS = 100
 """How many exceptions may lie within one another."""
@@ -79,7 +79,7 @@ def _judge_attribute(kind: type, members: Dict[str, Any], name: str, value: Any)
     elif name in members or name[:2] == "__" == name[-2:]:
         is_path = isinstance(value, pathlib.PurePath) and name[:8] == "filename"
         if name[:2] == "__" or not (_is_plain(value) or is_path):
-            raise Misused(f"the state of an exception sets {name!r:.80} to {value!r:.80}")
+            raise Misused(f"the state of an exception sets {name!r:.80} to {told(value)}")
     elif callable(getattr(kind, name, None)):
         raise Misused(f"the state of an exception sets {name!r:.80}, a method of its class")
 
@@ -100,7 +100,7 @@ def judge_error(levels: _Levels, error: Any) -> None:
             raise Misused(f"{kind!r:.80} has too many {name}")
         for base, judge in _JUDGES.items():
             if issubclass(kind, base) and not judge(name, value):
-                raise Misused(f"{kind!r:.80} has {value!r:.80} as its {name}")
+                raise Misused(f"{kind!r:.80} has {told(value)} as its {name}")
     if issubclass(kind, UnicodeError):
         _judge_places(error)
     levels[id(error)] = (error, 0)  # (some have themselves as an argument)

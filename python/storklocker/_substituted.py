@@ -11,7 +11,8 @@ NAMES = {
     "_codecs": "encode",
     "array": "array _array_reconstructor",
     "asyncio.exceptions": "IncompleteReadError LimitOverrunError",
-    "builtins": "bytes bytearray complex dict frozenset int list range set slice tuple",
+    "builtins": "BaseExceptionGroup ExceptionGroup bytes bytearray complex dict frozenset int list"
+    " range set slice tuple",
     "collections": "ChainMap Counter OrderedDict UserDict UserList UserString defaultdict deque",
     "configparser": "Error NoSectionError DuplicateSectionError DuplicateOptionError NoOptionError"
     " InterpolationError InterpolationMissingOptionError InterpolationSyntaxError"

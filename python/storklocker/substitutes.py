@@ -37,7 +37,7 @@ from typing import (
     cast,
 )
 
-from ._answers import Misused
+from ._answers import Misused, told
 from ._substitute import Remembering, Substitute
 
 if TYPE_CHECKING:
@@ -149,7 +149,7 @@ def getattr(names: Mapping[Union[type, str], Optional[Iterable[str]]]) -> Substi
             kind = given[0] if isinstance(given[0], type) else type(given[0])
             if given[1] in words_of(kind):
                 return builtins.getattr(given[0], given[1])
-        raise Misused(f"getattr is called with {given!r:.80}")
+        raise Misused(f"getattr is called with {told(given)}")
 
     return _Declared(judged, getattr, said)
 
@@ -175,7 +175,7 @@ def partial(functions: Mapping[Union[Callable[..., Any], str], Iterable[str]]) -
 
     def judged(reader: Any, *given: Any) -> Any:
         if len(given) != 1 or not fits(given[0], None):
-            raise Misused(f"partial is called with {given!r:.80}")
+            raise Misused(f"partial is called with {told(given)}")
         made = functools.partial(given[0])
         reader.unbuilt[id(made)], reader.states[id(made)] = made, state_of
         return made
@@ -188,7 +188,7 @@ def attrgetter(*names: str) -> Substitute:
 
     def judged(*given: Any) -> Any:
         if not given or any(type(it) is not str or it not in names for it in given):
-            raise Misused(f"attrgetter is called with {given!r:.80}")
+            raise Misused(f"attrgetter is called with {told(given)}")
         return operator.attrgetter(*given)
 
     return _Declared(judged, attrgetter, *sorted(set(names)))
@@ -199,7 +199,7 @@ def methodcaller(*names: str) -> Substitute:
 
     def judged(*given: Any) -> Any:
         if not given or type(given[0]) is not str or given[0] not in names:
-            raise Misused(f"methodcaller is called with {given!r:.80}")
+            raise Misused(f"methodcaller is called with {told(given)}")
         return operator.methodcaller(*given)
 
     return _Declared(judged, methodcaller, *sorted(set(names)))
