@@ -1,5 +1,5 @@
 -- A refusal tells the imports before it.
-use Rattle.std.proofs.Common.{inl}
+use Rattle.std.proofs.Common.{inl, inr, refl}
 use Rattle.pkguard.proofs.listing.listing_by.Goals as goal
 
 pub returns-in-Ok-Err-clause-no : goal.returns-in-Ok-Err-clause-no
@@ -12,3 +12,15 @@ returns-in-Ok-Err-clause-no c is = inl (record {
   asks = c.give_imports-in-Ok-Err.ensures.wanted;
   room = c.give_imports-in-Ok-Err.ensures.room;
 })
+
+-- an excess lists nothing
+pub returns-in-Err-clause-no : goal.returns-in-Err-clause-no
+returns-in-Err-clause-no c is = rw c.empty.ensures (inr (record {
+  costly = record {
+    costly = c.in-Err.costly;
+    exceeds = rw (c.new-source.ensures, c.requires) at c.in-Err.ensures.costly;
+    told = c.of_excess.ensures.told;
+    room = refl;
+  };
+  none = refl;
+}))
