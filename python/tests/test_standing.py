@@ -207,7 +207,8 @@ class Alike(Quiet):
             self.assertEqual(reader.load(), ["a", "a"])
             reader.memo = {}
             self.assertEqual(reader.load(), ["a", "a"])
-            reader.memo = reader.memo
+            for held in (reader.memo, {0: "a"}, {}, {number: "a" for number in range(100)}):
+                reader.memo = held
             with self.assertRaises(pickle.UnpicklingError):
                 reader.load()
         with storklocker.installed(GUARD._like(enforce=False)):

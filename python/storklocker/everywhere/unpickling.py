@@ -6,6 +6,7 @@ from __future__ import annotations
 
 import abc
 import functools
+import io
 import pickle
 import sys
 import weakref
@@ -186,10 +187,13 @@ def _memo_of(plain: Type[Any]) -> Any:
 
     def set_memo(self: Any, value: Any) -> None:
         way = getattr(self, _WAY, None)
-        given = value.copy() if isinstance(way, Guarded) and hasattr(value, "copy") else {}
-        own.memo.__set__(self, value)
-        if isinstance(way, Guarded):
-            way.begin_memo(self, given)
+        if not isinstance(way, Guarded):
+            own.memo.__set__(self, value)
+            return
+        # Another reader says whether it is a memo: this one's own is never read, and CPython's
+        # may end the process where an empty one is set, and then a dict.
+        own.memo.__set__(own(io.BytesIO()), value)
+        way.begin_memo(self, value.copy())
 
     return property(memo, set_memo)
 
