@@ -6,6 +6,7 @@ has to be judged. What is left are functions and classes that say themselves how
 
 from __future__ import annotations
 
+import enum
 import functools
 import sys
 import types
@@ -14,7 +15,7 @@ from typing import TYPE_CHECKING, Any, Callable, Dict, Optional, Tuple
 from . import _of_pandas, _of_sklearn
 from ._calls import row, shown, takes_text, wrong
 from ._substitute import BECOMES_REAL, Class, Remembering, Substitute, Value
-from ._weighing import SCALARS, values
+from ._weighing import SCALARS, keys_of, values
 
 if TYPE_CHECKING:
     from ._substitutes import Reader
@@ -26,10 +27,12 @@ _REDUCE = ("__reduce__", "__reduce_ex__")
 
 
 def substitute_for(it: Any) -> Optional[Substitute]:
-    """The substitute for what a name of a package means, if it has one."""
+    """The substitute for what a name of a package means, if it has one, or for an enum."""
     module = getattr(it, "__module__", None)
     if type(module) is not str:
         return None
+    if isinstance(it, enum.EnumMeta):
+        return _members(it)
     package = module.partition(".")[0]
     if package not in PACKAGES and package != "numpy" and module not in _LIBRARY:
         return None
@@ -37,6 +40,17 @@ def substitute_for(it: Any) -> Optional[Substitute]:
         return _found(it, module, package)
     except TypeError:  # (an object that can't be hashed)
         return None
+
+
+@functools.lru_cache(maxsize=4096)
+def _members(kind: Any) -> Substitute:
+    """An enum, which hashes the value by which a member is asked for, and shows it if there is none.
+    """
+    def judged(reader: Reader, *given: Any) -> Any:
+        keys_of(reader, given)
+        return kind(*given)
+
+    return Remembering(f"{kind.__module__}.{kind.__qualname__}", judged, BECOMES_REAL)
 
 
 @functools.lru_cache(maxsize=4096)

@@ -1,8 +1,10 @@
 """What substitutes hand out: no view of references, and nothing that takes items afterwards."""
 
 import collections
+import http
 import io
 import pickle
+import re
 import subprocess
 import sys
 import unittest
@@ -136,6 +138,19 @@ class Arrays(unittest.TestCase):
                                                                      "pos": wrong}}), 4)
             with self.subTest(wrong=wrong), self.assertRaises(Misused):
                 guard.loads(data)
+
+
+class Enums(unittest.TestCase):
+    def test_the_value_of_a_member_is_weighed(self):
+        """A tuple doubled sixty times takes years to hash, which an enum does (3.14 keeps hashes),
+        and to show.
+        """
+        guard = Guard(lists.ENUM)
+        with self.assertRaises(Misused):
+            guard.loads(b"\x80\3cre\nRegexFlag\n)" + b"2\x86" * 60 + b"\x85R.")
+        for member in (re.IGNORECASE, re.IGNORECASE | re.MULTILINE, http.HTTPStatus.OK):
+            for protocol in range(6):
+                self.assertEqual(guard.loads(pickle.dumps(member, protocol)), member)
 
 
 class _As:
