@@ -44,7 +44,7 @@ def substitute_for(it: Any) -> Optional[Substitute]:
 
 @functools.lru_cache(maxsize=4096)
 def _members(kind: Any) -> Substitute:
-    """An enum, which hashes the value by which a member is asked for, and shows one of no member."""
+    """An enum, which hashes the value that names a member, and shows one that names none."""
     def judged(reader: Reader, *given: Any) -> Any:
         keys_of(reader, given)
         return kind(*given)
