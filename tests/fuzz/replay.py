@@ -8,7 +8,6 @@ one, `scan` finds something, in at most two seconds. The last line counts the in
 import io
 import pathlib
 import pickle
-import re
 import resource
 import sys
 import time
@@ -17,8 +16,10 @@ import zipfile
 
 HERE = pathlib.Path(__file__).resolve().parent
 sys.path.append(str(HERE.parents[1] / "python"))  # unless PYTHONPATH names another
+sys.path.append(str(HERE.parent / "readers"))
 
 import storklocker  # noqa: E402
+from listed import may_run  # noqa: E402
 from storklocker.scanning.judging import Question, reports_of  # noqa: E402
 
 LISTED = [
@@ -26,7 +27,6 @@ LISTED = [
 ]
 ALLOW = storklocker.AllowList(LISTED)
 FREE = storklocker.Limits(levels=None, weight=None, work=None)
-MODULE = re.compile(r"[^\W\d]\w*(\.[^\W\d]\w*)*")
 SECONDS, MEMORY = 2, 1 << 30
 """What a scan may take, and all of this program: a reader takes 16 bytes for each memo number."""
 NEVER = (IndexError, EOFError, KeyError, AssertionError)
@@ -87,7 +87,7 @@ def faults_of(data):
         off = [pair for pair in asked if pair not in LISTED]
         if is_accepted and (off or isinstance(error, NEVER)):
             yield f"accepted, and a reader asks for {off} or raises {error!r}"
-        if not is_found and off and MODULE.fullmatch(off[0][0]):  # or else it goes no further
+        if not is_found and off and may_run(*off[0]):  # or else it goes no further
             yield f"scan finds nothing, and a reader asks for {off}"
 
 

@@ -1,5 +1,10 @@
-"""The names that a file of the harness may import."""
+"""The names that a file of the harness may import, and what asking for another may run."""
 
+import importlib.util
+import re
+
+MODULE = re.compile(r"[^\W\d]\w*(\.[^\W\d]\w*)*")
+"""The name of a module that Python's grammar allows."""
 LISTED = frozenset((
     ("collections", "OrderedDict"),
     ("datetime", "datetime"),
@@ -14,3 +19,20 @@ LISTED = frozenset((
     ("torch", "FloatStorage"),
     ("torch", "LongStorage"),
 ))
+
+
+def may_run(module, name):
+    """Whether asking for a name may run anything: by what it is, or by the import of its module. If
+    no attribute can have such a name, only a module does that is found here.
+    """
+    module = module.partition("\0")[0]
+    if MODULE.fullmatch(module) is None:
+        return False
+    return all(map(str.isidentifier, name.split("."))) or _is_here(module.partition(".")[0])
+
+
+def _is_here(package):
+    try:
+        return importlib.util.find_spec(package) is not None
+    except (ImportError, ValueError):
+        return False

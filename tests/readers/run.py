@@ -16,7 +16,6 @@ import io
 import json
 import pathlib
 import random
-import re
 import subprocess
 import sys
 import tempfile
@@ -30,15 +29,12 @@ sys.path.append(str(PACKAGE))  # unless PYTHONPATH names another
 import made_by_libraries  # noqa: E402
 import progress  # noqa: E402
 import shapes  # noqa: E402
-from listed import LISTED  # noqa: E402
+from listed import LISTED, may_run  # noqa: E402
 from storklocker import AllowList  # noqa: E402
-from storklocker.scanning.dangers import is_found_here  # noqa: E402
 from storklocker.scanning.judging import Question, reports_of  # noqa: E402
 from storklocker.scanning.severity import DANGER, UNREADABLE  # noqa: E402
 
 CHUNK, AHEAD = 500, 50
-MODULE = re.compile(r"[^\W\d]\w*(\.[^\W\d]\w*)*")
-"""The name of a module that Python's grammar allows. Nothing is run by asking for another."""
 QUESTION = Question(AllowList(LISTED))
 DANGEROUS = (["posix", "system"], ["os\0x", "system"], ["builtins", "eval"])
 
@@ -102,14 +98,6 @@ def asked_in(answer):
     what stands in front of a NUL.)
     """
     return sorted({it[0] for it in answer if may_run(*it[1:3])})
-
-
-def may_run(module, name):
-    """Whether asking for a name runs anything: the import of its module does, if there is one."""
-    module = module.partition("\0")[0]
-    if MODULE.fullmatch(module) is None:
-        return False
-    return all(map(str.isidentifier, name.split("."))) or is_found_here(module)
 
 
 @functools.lru_cache(maxsize=None)
