@@ -23,7 +23,7 @@ from ._uses import OBJECTS, _shared_new
 
 _SMALL = 1 << 13
 """A pickle of fewer bytes is given to the reader at once."""
-_DICTS = frozenset(("own", "unbuilt", "types", "states", "errors", "lent"))
+_DICTS = frozenset(("own", "unbuilt", "types", "states", "raised", "lent"))
 """Attributes of a `Reader`, which are seldom needed."""
 
 

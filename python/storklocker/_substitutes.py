@@ -134,7 +134,7 @@ class Reader(pickle.Unpickler):
         """Types of NumPy's arrays whose state was set, by id, each with its size as a tree."""
         self.states: Dict[int, Callable[[Any], Any]] = {}
         """What judges the state of an object in `unbuilt`, and gives the one to be set."""
-        self.errors: Dict[int, Tuple[BaseException, int]] = {}
+        self.raised: Dict[int, Tuple[BaseException, int]] = {}
         """The exceptions that were judged, by id, each with its levels."""
         self.looked = 0
         """The number of memo entries that were searched."""
@@ -150,9 +150,9 @@ class Reader(pickle.Unpickler):
         """The object of the accepted pickle at an offset. `is_old`: whether its names are those of
         Python 2.
         """
-        return self.read(self._uses.respelled(data, at, is_old))
+        return self.read_pieces(self._uses.respelled(data, at, is_old))
 
-    def read(self, pieces: List[Piece]) -> Any:
+    def read_pieces(self, pieces: List[Piece]) -> Any:
         """The object of a pickle that its uses have respelled."""
         self._feed.fill(pieces)
         size = sum(end - begin for _, begin, end in pieces)
@@ -253,7 +253,7 @@ def loads(data: bytes, allow: AllowList, how: Judged, **named: Any) -> Any:
     if not uses.judges:
         return plain_loads(data, how.is_old, **named)
     if uses.judges > 1 or named or how.is_old or how.takes_any:
-        return (_Renaming if how.is_old else Reader)(allow, uses, **named).read(pieces)
+        return (_Renaming if how.is_old else Reader)(allow, uses, **named).read_pieces(pieces)
     return _later("_judging").judged(pieces)
 
 

@@ -169,7 +169,7 @@ class Foreseer(Reader):
         """Reads one pickle, if a guard judges anything of it while it is loaded."""
         pieces = self._uses.respelled(data, 0, False)
         if self._uses.judges:
-            self.read(pieces)
+            self.read_pieces(pieces)
 
     def put_off(self, why: str) -> Answer:
         """What something answers that isn't judged here."""
