@@ -49,7 +49,18 @@ def _members(kind: Any) -> Substitute:
         keys_of(reader, given)
         return kind(*given)
 
-    return Remembering(f"{kind.__module__}.{kind.__qualname__}", judged, BECOMES_REAL)
+    return _Members(f"{kind.__module__}.{kind.__qualname__}", judged, kind)
+
+
+class _Members(Remembering):
+    __slots__ = ("_kind",)
+
+    def __init__(self, name: str, judged: Callable[..., Any], kind: Any) -> None:
+        super().__init__(name, judged, BECOMES_REAL)
+        self._kind = kind
+
+    def real(self) -> Any:
+        return self._kind
 
 
 @functools.lru_cache(maxsize=4096)

@@ -81,11 +81,14 @@ class Value(Substitute):
 class _Within(Substitute):
     """A substitute as one reader's pickle has it."""
 
-    __slots__ = ("_reader",)
+    __slots__ = ("_of", "_reader")
 
     def __init__(self, of: Substitute, reader: Callable[[], Any]) -> None:
         super().__init__(of.name, of._call, of.role)
-        self._reader = reader
+        self._of, self._reader = of, reader
+
+    def real(self) -> Any:
+        return self._of.real()
 
     def __call__(self, *given: Any) -> Any:
         reader = self._reader()

@@ -4,7 +4,7 @@ import os
 import sys
 import unittest
 
-from common import PACKAGE, needs
+from common import IMPORTED_FROM, needs
 from storklocker import AllowList, Guard, Misused, lists
 from test_handed_out import NUMBERS, array, kind, name
 
@@ -18,7 +18,7 @@ def steps_of(guard, data):
 
     def note(frame, event, _):
         nonlocal count
-        count += event in ("call", "c_call") and frame.f_code.co_filename.startswith(str(PACKAGE))
+        count += event in ("call", "c_call") and frame.f_code.co_filename.startswith(str(IMPORTED_FROM / "storklocker"))
 
     before = sys.getprofile()
     sys.setprofile(note)
@@ -111,5 +111,5 @@ class Steps(unittest.TestCase):
 
 
 if __name__ == "__main__":
-    os.chdir(PACKAGE.parent)
+    os.chdir(str(IMPORTED_FROM))
     unittest.main()
