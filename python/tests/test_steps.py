@@ -9,6 +9,7 @@ from storklocker import AllowList, Guard, Misused, lists
 from test_handed_out import NUMBERS, array, kind, name
 
 HERE = "test_steps"
+OURS = str(IMPORTED_FROM / "storklocker")
 MOST = 2.5
 
 
@@ -18,7 +19,7 @@ def steps_of(guard, data):
 
     def note(frame, event, _):
         nonlocal count
-        count += event in ("call", "c_call") and frame.f_code.co_filename.startswith(str(IMPORTED_FROM / "storklocker"))
+        count += event in ("call", "c_call") and frame.f_code.co_filename.startswith(OURS)
 
     before = sys.getprofile()
     sys.setprofile(note)
