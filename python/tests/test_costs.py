@@ -74,7 +74,7 @@ class Counting(pickle.Unpickler):
 def visits_of(times):
     """How often a tuple's innermost parts are visited that is doubled so often."""
     Visited.times = 0
-    Counting(io.BytesIO(doubled(times, b"P1\n"))).load()
+    Counting(io.BytesIO(doubled(times, b"Pvisited\n"))).load()
     return Visited.times
 
 
