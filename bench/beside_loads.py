@@ -6,7 +6,9 @@ with the garbage collector off. The target of a check is a quarter of a load. Th
 shape exceeds its bound. NumPy's and pandas' shapes are left out where these aren't installed.
 """
 import argparse
+import collections
 import datetime
+import decimal
 import gc
 import pathlib
 import pickle
@@ -14,6 +16,7 @@ import subprocess
 import sys
 import tempfile
 import time
+import uuid
 from types import ModuleType
 from typing import Callable, Iterator, List, NamedTuple, Optional
 
@@ -71,6 +74,29 @@ def small(storklocker: ModuleType) -> Iterator[Shape]:
     yield Shape("a message", pickle.dumps(rows, 4), listed, 500, 1, 1.5, 1.15)
 
 
+def objects(storklocker: ModuleType) -> Iterator[Shape]:
+    """Objects that calls make, one and a thousand of each kind, and a job of a queue."""
+    when, pay = datetime.datetime(2026, 1, 2, 3, 4, 5), decimal.Decimal("12.50")
+    job = {"id": 17, "task": "report", "queue": "default", "retries": 3, "args": ["one", "two"]}
+    job.update(when=when, price=pay, uuid=uuid.UUID(int=5))
+    pairs = [("a", 1), ("b", 2), ("c", 3)]
+    kinds = {
+        "a datetime": (lambda k: when + datetime.timedelta(k), 2.5, 1.5),
+        "an object with a state": (lambda k: argparse.Namespace(id=k, name=f"n{k}"), 3, 2),
+        "an OrderedDict": (lambda k: collections.OrderedDict(pairs), 4, 3),
+        "a Decimal": (lambda k: pay * k, 3, 2),
+        "an exception": (lambda k: ValueError("why", k), 8, 8),
+        "a job": (lambda k: dict(job, id=k), 2, 2),
+    }
+    names = {"argparse": ["Namespace"], "builtins": ["ValueError"], "uuid": ["UUID"]}
+    names.update(collections=["OrderedDict"], datetime=["datetime"], decimal=["Decimal"])
+    listed = storklocker.AllowList(names)
+    for name, (make, one, many) in kinds.items():
+        yield Shape(name, pickle.dumps(make(7), 4), listed, 4000, 3, 1.5 * one, one)
+        data = pickle.dumps([make(k) for k in range(1000)], 4)
+        yield Shape(f"1,000 times {name}", data, listed, 20, 3, 1.5 * many, many)
+
+
 def of_arrays(storklocker: ModuleType) -> Iterator[Shape]:
     """NumPy's and pandas' objects of 2 MB, as far as these are installed."""
     try:
@@ -95,6 +121,7 @@ def shapes_for(storklocker: ModuleType) -> Iterator[Shape]:
     for name, (protocol, make) in shapes.BESIDE_LOADS.items():
         yield Shape(name, pickle.dumps(make(), protocol), nothing)
     yield from small(storklocker)
+    yield from objects(storklocker)
     yield from of_arrays(storklocker)
 
 

@@ -1,6 +1,7 @@
 /* The extension module of the package storklocker, for Python's stable ABI. It passes arguments to
    the functions of storklocker.h and converts their answers. It decides nothing. */
 #include "arena.h"
+#include "judging.h"
 #include "pairs.h"
 #include "walk.h"
 
@@ -230,11 +231,10 @@ static PyObject *begin_loads(PyObject *module, PyObject *args) {
 
 static PyObject *begin_judging(PyObject *module, PyObject *args) {
     const struct state *state = PyModule_GetState(module);
-    PyObject *guard, *numbers[2];
-    if (!PyArg_ParseTuple(args, "O!OO", state->loads, &guard, &numbers[0], &numbers[1]))
+    PyObject *guard, *number_of, *judges;
+    if (!PyArg_ParseTuple(args, "O!OO", state->loads, &guard, &number_of, &judges))
         return NULL;
-    set_numbers(guard, numbers);
-    return Py_BuildValue("");
+    return set_judges(guard, number_of, judges) == 0 ? Py_BuildValue("") : NULL;
 }
 
 static PyObject *imports(PyObject *module, PyObject *const *given, Py_ssize_t count) {
@@ -280,7 +280,11 @@ static PyMethodDef methods[] = {
      "Says what `loads` of a guard checks new and old pickles with, or None, what it loads with,\n"
      "and whether a pickle with imports is judged while it is loaded."},
     {"begin_judging", begin_judging, METH_VARARGS,
-     "Says what `loads` of a guard asks to find out whether a pickle needs another reader."},
+     "Says what `loads` of a guard asks of names, and what loads a pickle if none is judged."},
+#ifndef PYPY_VERSION /* which counts no references */
+    {"begin_judges", begin_judges, METH_VARARGS, "What the loads by `judged` have in common."},
+    {"judged", judged, METH_VARARGS, "The object of a respelled pickle, whose objects are judged."},
+#endif
     {"pairs_of", pairs_of, METH_VARARGS, "Pairs of a subclass, from its pairs and settings."},
     {"walked", walked, METH_VARARGS, "Where whole instructions end, and whether with STOP."},
     {"holds", holds, METH_VARARGS, "Whether one of the texts of a tuple stands in the bytes."},

@@ -1,4 +1,4 @@
-#include "loads.h"
+#include "judging.h"
 #include "walk.h"
 
 #include <stddef.h>
@@ -19,11 +19,11 @@ typedef struct {
     PyObject *receiver;      /* its first argument, borrowed from the reader */
     PyObject *collector;     /* the module `gc` if it collects while a reader reads, or null */
     int is_judging;     /* whether pickles with imports are judged while they are loaded */
-    PyObject *numbers[2]; /* what `is_judged` asks of the names of such pickles, or null */
+    PyObject *number_of, *numbers; /* what `told_of` asks of such pickles, and remembers; or null */
+    PyObject *judges;              /* what loads them if no name is judged; None or null */
 } Loads;
 
-/* The second number of the version, of which the first is 3. */
-static long version(void) {
+long version(void) {
     static long known = 0;
     if (known == 0)
         known = PyLong_AsLong(PySys_GetObject("hexversion")) >> 16 & 0xFF;
@@ -41,17 +41,19 @@ static int loads_traverse(PyObject *self, visitproc visit, void *arg) {
         Py_VISIT(Py_TYPE(self));
     Py_VISIT(own->lists[0]);
     Py_VISIT(own->lists[1]);
-    Py_VISIT(own->numbers[0]);
-    Py_VISIT(own->numbers[1]);
+    Py_VISIT(own->number_of);
+    Py_VISIT(own->numbers);
+    Py_VISIT(own->judges);
     return 0; /* the reader refers to no guard */
 }
 
 static int loads_clear(PyObject *self) {
     Loads *own = (Loads *)self;
-    for (int k = 0; k < 2; k++) {
-        Py_CLEAR(own->lists[k]);
-        Py_CLEAR(own->numbers[k]);
-    }
+    Py_CLEAR(own->lists[0]);
+    Py_CLEAR(own->lists[1]);
+    Py_CLEAR(own->number_of);
+    Py_CLEAR(own->numbers);
+    Py_CLEAR(own->judges);
     return 0;
 }
 
@@ -67,14 +69,20 @@ static void loads_dealloc(PyObject *self) {
     Py_DECREF(type);
 }
 
-void set_numbers(PyObject *guard, PyObject *const numbers[2]) {
+int set_judges(PyObject *guard, PyObject *number_of, PyObject *judges) {
     Loads *own = (Loads *)guard;
-    for (int k = 0; k < 2; k++) {
-        PyObject *before = own->numbers[k];
-        Py_INCREF(numbers[k]);
-        own->numbers[k] = numbers[k];
-        Py_XDECREF(before);
-    }
+    PyObject *numbers = PyDict_New();
+    PyObject *before[] = {own->number_of, own->judges, own->numbers};
+    if (numbers == NULL)
+        return -1;
+    Py_INCREF(number_of);
+    Py_INCREF(judges);
+    own->number_of = number_of;
+    own->judges = judges;
+    own->numbers = numbers;
+    for (size_t k = 0; k < sizeof before / sizeof *before; k++)
+        Py_XDECREF(before[k]);
+    return 0;
 }
 
 static void find_function(Loads *own) {
@@ -174,6 +182,43 @@ static int is_old(PyObject *data) {
     return bytes[0] != 0x80 || bytes[1] < 3;
 }
 
+/* Has the guard tell what has stopped a load, and raise it. */
+static PyObject *raised(PyObject *self, PyObject *data) {
+    PyObject *type, *error, *trace;
+    PyErr_Fetch(&type, &error, &trace);
+    PyErr_NormalizeException(&type, &error, &trace);
+    if (trace != NULL)
+        PyException_SetTraceback(error, trace);
+    PyObject *made = PyObject_CallMethod(self, "_loads_stopped", "OO", data, error);
+    Py_XDECREF(type);
+    Py_XDECREF(error);
+    Py_XDECREF(trace);
+    return made;
+}
+
+/* The object of a pickle that was accepted and imports something. What it does with that says who
+   loads it. */
+static PyObject *loaded_judging(PyObject *self, PyObject *data) {
+    const Loads *own = (const Loads *)self;
+    PyObject *judges = own->judges, *numbers = own->numbers, *made = NULL, *told;
+    int what;
+    Py_INCREF(judges); /* (the guard may get others meanwhile) */
+    Py_INCREF(numbers);
+    told = told_of(data, own->number_of, numbers, &what);
+    if (told != NULL && what == NOTHING)
+        made = loaded(own, data);
+    else if (told != NULL && judges == Py_None)
+        made = PyObject_CallMethod(self, "_loads_accepted", "O", data);
+    else if (told != NULL && what == OBJECTS)
+        made = (made = judged_load(judges, told)) != NULL ? made : raised(self, data);
+    else if (told != NULL)
+        made = PyObject_CallMethod(self, "_loads_accepted", "OOO", data, Py_True, told);
+    Py_DECREF(judges);
+    Py_DECREF(numbers);
+    Py_XDECREF(told);
+    return made;
+}
+
 static PyObject *loads(PyObject *self, PyObject *const *given, Py_ssize_t count, PyObject *names) {
     const Loads *own = (const Loads *)self;
     int which = count == 1 && is_old(given[0]);
@@ -186,18 +231,13 @@ static PyObject *loads(PyObject *self, PyObject *const *given, Py_ssize_t count,
     }
     Py_INCREF(list); /* the guard may get another one while a long check runs without the GIL */
     int is_judging = own->is_judging;
-    PyObject *number_of = which == 0 ? own->numbers[0] : NULL;
-    Py_XINCREF(number_of);
     uint64_t imports;
     PyObject *no = refusal_of(list, given[0], &imports), *made = NULL;
     Py_DECREF(list);
-    if (no == Py_None && is_judging && imports > 0 && number_of != NULL)
-        is_judging = is_judged(given[0], number_of);
-    Py_XDECREF(number_of);
-    if (is_judging < 0)
-        Py_CLEAR(no);
-    else if (no == Py_None && is_judging && imports > 0)
-        made = PyObject_CallMethod(self, "_loads_accepted", "O", given[0]);
+    if (no == Py_None && is_judging && imports > 0)
+        made = which == 0 && own->judges != NULL
+            ? loaded_judging(self, given[0])
+            : PyObject_CallMethod(self, "_loads_accepted", "O", given[0]);
     else if (no == Py_None) /* what imports nothing can't call anything */
         made = imports > 0 ? loaded(own, given[0]) : loaded_at_once(own, given[0]);
     else if (no != NULL)

@@ -32,8 +32,12 @@ int set_loads(PyObject *guard, PyObject *const lists[2], PyObject *reader, int i
    `pickle.loads`: of the function that it calls, the module `_pickle` and its doc as bytes. */
 PyObject *stand_in(PyObject *self, PyObject *words);
 
-/* Says what `is_judged` asks of the names in new and old pickles that this guard accepts. */
-void set_numbers(PyObject *guard, PyObject *const numbers[2]);
+/* Says what `told_of` asks of the names in pickles that this guard accepts, and what loads those in
+   which no name is judged; None leaves them to `_loads_accepted`. Returns -1 after an error. */
+int set_judges(PyObject *guard, PyObject *number_of, PyObject *judges);
+
+/* The second number of the version of Python, of which the first is 3. */
+long version(void);
 
 /* Adds the class of the audit hook of installed guards to the module. Returns -1 after an error. */
 int add_audit_hook(PyObject *module);

@@ -1,85 +1,6 @@
-#include "walk.h"
+#include "uses.h"
 
 #include <string.h>
-
-/* What is known of an object: its kind, the number of its name, a mask, and the place of the
-   instruction that pushed it. For a tuple these are of a class in it, and the mask has a bit for
-   each; for a name it is 1 if it can't become real; a dict, and what a call has MADE, has its
-   number for a place. GIVEN is what was there before the load, JUDGED a class of which each object
-   is judged when it is made. */
-typedef uint64_t slot;
-enum { ABSENT, MARK, OTHER, TEXT, GIVEN, MADE, JUDGED, NAME, TUPLE, DICT, WRAPPER };
-#define SLOT(kind, name, place) ((slot)(kind) | (slot)(name) << 4 | (slot)(place) << 24)
-#define MASK(bits) ((slot)(bits) << 16)
-#define NAMES 1024
-#define LONGEST 4096     /* no listed name is longer */
-
-/* What a name is: one that becomes the real object where it is a value; a class that some names
-   take as an argument; joblib's wrapper; one whose objects are judged. The bits from TAKES on are
-   the arguments that it takes. */
-enum { BECOMES_REAL = 1, IS_PASSED = 2, WRAPS = 4, IS_JUDGED = 8, TAKES = 4 };
-
-/* What the pickles of one reader have in common. */
-struct kept {
-    slot *memo, *dicts; /* of each dict the class that it has as a value; OTHER if it is shared */
-    size_t numbers, entries, count, calls; /* `calls` of all pickles before this one */
-    uint16_t roles[NAMES];
-};
-
-struct uses {
-    struct kept *kept;
-    const uint8_t *bytes;
-    size_t start, length, at, next; /* `start` of the pickle; `next`: where the instruction ends */
-    size_t size;                    /* of the stack */
-    slot *stack;
-    PyObject *number_of, *real; /* `real`: where names become real */
-    struct notes changes;       /* where instructions are that a reader is given in other words */
-    int takes_any;              /* whether BUILD may take what no call of the pickle has made */
-    int is_named;               /* whether a name has a substitute */
-    slot fault;                 /* what is used as a value, or is changed, and can't be */
-};
-
-enum { DONE, LOST, FAILED }; /* LOST: a reader gets no further, or needn't */
-
-static unsigned kind_of(slot s) {
-    return s & 15;
-}
-
-static unsigned mask_of(slot s) {
-    return s >> 16 & 255;
-}
-
-static size_t place_of(slot s) {
-    return (size_t)(s >> 24);
-}
-
-static unsigned name_of(slot s) {
-    return s >> 4 & (NAMES - 1);
-}
-
-static unsigned role_of(const struct uses *u, slot s) {
-    return kind_of(s) == NAME ? u->kept->roles[name_of(s)] : 0;
-}
-
-/* Makes room for one more item in an array, whose room is a power of two. */
-static int grown(slot **items, size_t count) {
-    if ((count & (count - 1)) != 0)
-        return DONE;
-    slot *made = PyMem_Realloc(*items, (count == 0 ? 1 : 2 * count) * sizeof *made);
-    if (made == NULL) {
-        PyErr_NoMemory();
-        return FAILED;
-    }
-    *items = made;
-    return DONE;
-}
-
-static inline int push(struct uses *u, slot s) {
-    if (grown(&u->stack, u->size) != DONE)
-        return FAILED;
-    u->stack[u->size++] = s;
-    return DONE;
-}
 
 static slot pop(struct uses *u) {
     return u->stack[--u->size];
@@ -133,6 +54,8 @@ static int make_real(struct uses *u, size_t at) {
         length = length_of(u->bytes + at, u->length - at);
         at += length;
     } while (length > 0 && at < u->length && effects[u->bytes[at]] == IS_PUT);
+    if (u->real == NULL && (u->real = PyList_New(0)) == NULL)
+        return FAILED;
     PyObject *place = PyLong_FromSize_t(at);
     int is_wrong = place == NULL || PyList_Append(u->real, place) < 0;
     Py_XDECREF(place);
@@ -165,9 +88,17 @@ static int use_from(struct uses *u, size_t index, size_t below) {
     return is;
 }
 
+/* Whether the objects from an index on are short texts. */
+static int are_texts(const struct uses *u, size_t index) {
+    while (index < u->size && kind_of(u->stack[index]) == TEXT && name_of(u->stack[index]))
+        index++;
+    return index == u->size;
+}
+
 /* The objects from an index on become a tuple, in which only classes stay what they are. */
 static int make_tuple(struct uses *u, size_t index, size_t below) {
-    slot made = OTHER, mask = 0;
+    size_t count = u->size - index < FULL ? u->size - index : FULL;
+    slot made = SLOT(ROW, are_texts(u, index) ? count | TEXTS : count, 0), mask = 0;
     int is = DONE;
     for (size_t k = index; k < u->size && is == DONE; k++) {
         slot s = u->stack[k];
@@ -200,7 +131,7 @@ static int set_items(struct uses *u, size_t index, size_t below, slot dict) {
 
 static int make_dict(struct uses *u, size_t index, size_t below) {
     struct kept *kept = u->kept;
-    if (grown(&kept->dicts, kept->count) != DONE)
+    if (kept->count == kept->room && grow(&kept->dicts, &kept->room) != DONE)
         return FAILED;
     kept->dicts[kept->count] = ABSENT;
     slot made = SLOT(DICT, 0, kept->count++);
@@ -234,6 +165,17 @@ static int change(struct uses *u, slot s, uint8_t how) {
     return DONE;
 }
 
+/* Whether a substitute would do with these arguments what the real object does. */
+static int is_free(unsigned role, slot words, uint8_t code) {
+    unsigned count = name_of(words) & FULL;
+    if (kind_of(words) != ROW || (code != 'R' && code != 0x81))
+        return 0;
+    if (code == 0x81)
+        return count == 0 && role & NEW_OF_NONE;
+    int is_of_texts = name_of(words) & TEXTS && role & (count == 1 ? OF_TEXT | OF_TEXTS : OF_TEXTS);
+    return (count == 0 && role & OF_NONE) || (count == 1 && role & OF_ONE) || is_of_texts;
+}
+
 /* Calls an object with arguments, or makes an object of a class with them. */
 static int call(struct uses *u, slot called, slot words, uint8_t code) {
     unsigned role = role_of(u, called), how = kind_of(called) == NAME && code != 'R' ? IS_NEW : 0;
@@ -246,6 +188,7 @@ static int call(struct uses *u, slot called, slot words, uint8_t code) {
     if (is == DONE && kind_of(called) != NAME)
         is = use(u, called);
     how |= !is_known || role & IS_JUDGED ? OF_JUDGED : 0;
+    u->is_named |= kind_of(called) == NAME && !is_free(role, words, code);
     return is == DONE ? push_made(u, how, is_wrapper) : is;
 }
 
@@ -326,7 +269,41 @@ static int put(struct uses *u, size_t last) {
     return DONE;
 }
 
-/* Asks what is imported, given the instructions that push the module and the name. */
+/* Asks what is imported, given the instructions that push the module and the name; -1 after an
+   error. */
+static long ask_number(struct uses *u, size_t module, size_t first, size_t name, size_t second) {
+    PyObject *asked = PyObject_CallFunction(
+        u->number_of, "y#y#", (const char *)u->bytes + module, (Py_ssize_t)first,
+        (const char *)u->bytes + name, (Py_ssize_t)second);
+    long said = asked != NULL ? PyLong_AsLong(asked) : -1;
+    Py_XDECREF(asked);
+    return said;
+}
+
+/* The same, as it was said before, where the instructions follow one another as picklers write
+   them: so that these bytes are of no other names. */
+static long number_of(struct uses *u, size_t module, size_t first, size_t name, size_t second) {
+    size_t end = module + first, between = name != module ? name - end : 0;
+    if (u->numbers == NULL || between > 1 || (between == 1 && u->bytes[end] != 0x94))
+        return ask_number(u, module, first, name, second);
+    PyObject *key = PyBytes_FromStringAndSize(
+        (const char *)u->bytes + module, (Py_ssize_t)(name + second - module));
+    PyObject *known = key != NULL ? PyDict_GetItemWithError(u->numbers, key) : NULL;
+    long said = known != NULL ? PyLong_AsLong(known) : -1;
+    if (known == NULL && !PyErr_Occurred()) {
+        said = ask_number(u, module, first, name, second);
+        if (PyDict_Size(u->numbers) >= REMEMBERED)
+            PyDict_Clear(u->numbers);
+        PyObject *number = said >= 0 ? PyLong_FromLong(said) : NULL;
+        if (number == NULL || PyDict_SetItem(u->numbers, key, number) < 0)
+            said = -1;
+        Py_XDECREF(number);
+    }
+    Py_XDECREF(key);
+    return said;
+}
+
+/* Pushes what is imported by the names that two instructions push, or one. */
 static int import(struct uses *u, size_t module, size_t name) {
     if (module >= u->length || name >= u->length)
         return LOST;
@@ -334,18 +311,14 @@ static int import(struct uses *u, size_t module, size_t name) {
     size_t second = length_of(u->bytes + name, u->length - name);
     if (first > LONGEST || second > LONGEST)
         return push(u, GIVEN); /* nothing that is listed */
-    PyObject *asked = PyObject_CallFunction(
-        u->number_of, "y#y#", (const char *)u->bytes + module, (Py_ssize_t)first,
-        (const char *)u->bytes + name, (Py_ssize_t)second);
-    long said = asked != NULL ? PyLong_AsLong(asked) : -1;
-    Py_XDECREF(asked);
+    long said = number_of(u, module, first, name, second);
     if (said < 0)
         return FAILED;
-    if (said % NAMES == 0)
+    if (said % MOST == 0)
         return push(u, said == 0 ? GIVEN : JUDGED);
-    u->is_named = 1;
-    u->kept->roles[said % NAMES] = (uint16_t)(said / NAMES);
-    return push(u, SLOT(NAME, said % NAMES, u->at));
+    u->kept->roles[said % MOST] = (uint32_t)(said / MOST);
+    u->is_named |= !(u->are_real && u->kept->roles[said % MOST] & IS_FREE);
+    return push(u, SLOT(NAME, said % MOST, u->at));
 }
 
 /* Follows an instruction that moves objects, or pushes a name. */
@@ -373,13 +346,17 @@ static int moved(struct uses *u, uint8_t code, size_t mark) {
     return get(u);
 }
 
+static inline slot text(const struct uses *u, uint8_t code) {
+    return SLOT(TEXT, (code == 0x8c || code == 'X') && u->next - u->at <= SHORT, u->at);
+}
+
 /* Follows an instruction. `last`: the last one before it that isn't a PUT. */
 static int followed_one(struct uses *u, uint8_t code, size_t last) {
     uint8_t effect = effects[code];
     if (effect == 0)
-        return push(u, is_given(code) ? GIVEN : OTHER);
+        return push(u, is_given(code) ? GIVEN : code == ')' ? SLOT(ROW, TEXTS, 0) : OTHER);
     if (effect == IS_TEXT)
-        return push(u, SLOT(TEXT, 0, u->at));
+        return push(u, text(u, code));
     if (effect == IS_PUT)
         return put(u, last);
     size_t count = effect & 3, below = effect & SLICE ? last_mark(u) : u->size - count;
@@ -394,6 +371,7 @@ static int followed_one(struct uses *u, uint8_t code, size_t last) {
     if (code == 'o' && index < u->size && kind_of(u->stack[index]) == NAME) {
         index++; /* the name that OBJ calls isn't to become real */
         how |= IS_NEW;
+        u->is_named = 1;
     }
     int is = use_from(u, index, below);
     is = is == DONE && effect & STAYS && !are_there(u, 1) ? LOST : is;
@@ -404,27 +382,12 @@ static int followed_one(struct uses *u, uint8_t code, size_t last) {
     return is == DONE && !(effect & KEEPS) ? push(u, is_given(code) ? GIVEN : OTHER) : is;
 }
 
-static void freed(PyObject *capsule) {
-    struct kept *kept = PyCapsule_GetPointer(capsule, NULL);
-    PyMem_Free(kept->memo);
-    PyMem_Free(kept->dicts);
-    PyMem_Free(kept);
-}
-
-PyObject *begin_uses(PyObject *Py_UNUSED(module), PyObject *Py_UNUSED(args)) {
-    struct kept *kept = PyMem_Calloc(1, sizeof *kept);
-    PyObject *made = kept != NULL ? PyCapsule_New(kept, NULL, freed) : PyErr_NoMemory();
-    if (made == NULL)
-        PyMem_Free(kept);
-    return made;
-}
-
-/* Follows the pickle as long as a reader gets on, and notes what changes up to STOP. */
-static int followed_all(struct uses *u) {
+int followed_all(struct uses *u) {
     const uint8_t *bytes = u->bytes;
     size_t length = u->length, next, last = u->start;
     int is = DONE, is_stopped = 0;
     for (size_t at = u->start; at < length && !is_stopped; at = next) {
+        at = is == DONE ? usual_run(u, at, &last) : at;
         size_t taken = length_of(bytes + at, length - at);
         uint8_t code = bytes[at];
         u->at = at, u->next = next = at + taken;
@@ -441,55 +404,4 @@ static int followed_all(struct uses *u) {
         last = effects[code] == IS_PUT ? last : at;
     }
     return is_stopped ? is : LOST;
-}
-
-/* What a reader has to judge in the pickle: 0 nothing, 1 objects, 2 what its names stand for. */
-static int judged_in(const struct uses *u, int is) {
-    return is != DONE || u->is_named ? 2 : u->changes.is_more;
-}
-
-PyObject *uses(PyObject *Py_UNUSED(module), PyObject *args) {
-    PyObject *capsule, *data, *pieces = NULL;
-    Py_ssize_t start;
-    struct uses u = {.fault = ABSENT};
-    if (!PyArg_ParseTuple(args, "OSnOp", &capsule, &data, &start, &u.number_of, &u.takes_any)
-        || (u.kept = PyCapsule_GetPointer(capsule, NULL)) == NULL
-        || (u.real = PyList_New(0)) == NULL)
-        return NULL;
-    u.bytes = (const uint8_t *)PyBytes_AsString(data);
-    u.length = (size_t)PyBytes_Size(data);
-    u.start = start < 0 || (size_t)start > u.length ? u.length : (size_t)start;
-    u.next = u.changes.last = u.start;
-    int is = followed_all(&u);
-    if (is != FAILED && PyList_Sort(u.real) == 0)
-        pieces = u.fault == ABSENT ? respelled(data, u.start, u.next, &u.changes, u.real)
-                                   : PyList_New(0);
-    u.kept->calls += u.changes.count;
-    PyMem_Free(u.stack);
-    PyMem_Free(u.changes.bytes);
-    PyMem_Free(u.changes.calls);
-    Py_DECREF(u.real);
-    return pieces == NULL ? NULL : Py_BuildValue(
-        "NOini", pieces, is == DONE ? Py_True : Py_False, (int)name_of(u.fault),
-        u.fault != ABSENT ? (Py_ssize_t)place_of(u.fault) : -1, judged_in(&u, is));
-}
-
-int is_judged(PyObject *data, PyObject *number_of) {
-    struct uses u = {.fault = ABSENT, .number_of = number_of};
-    if ((u.kept = PyMem_Calloc(1, sizeof *u.kept)) == NULL || (u.real = PyList_New(0)) == NULL) {
-        PyMem_Free(u.kept);
-        PyErr_NoMemory();
-        return -1;
-    }
-    u.bytes = (const uint8_t *)PyBytes_AsString(data);
-    u.length = (size_t)PyBytes_Size(data);
-    int is = followed_all(&u);
-    PyMem_Free(u.stack);
-    PyMem_Free(u.changes.bytes);
-    PyMem_Free(u.changes.calls);
-    PyMem_Free(u.kept->memo);
-    PyMem_Free(u.kept->dicts);
-    PyMem_Free(u.kept);
-    Py_DECREF(u.real);
-    return is == FAILED ? -1 : judged_in(&u, is);
 }

@@ -44,37 +44,32 @@ int parse_number(const uint8_t *bytes, size_t length, uint64_t *number) {
     return !is_line || length > 2;
 }
 
-int note(struct notes *notes, size_t place) {
+/* Doubles the room of notes. Returns 0, and sets an error, if there is no memory. */
+static int enlarge(uint8_t **bytes, size_t *room) {
+    size_t wanted = *room == 0 ? FIRST : 2 * *room;
+    uint8_t *more = PyMem_Realloc(*bytes, wanted);
+    if (more == NULL) {
+        PyErr_NoMemory();
+        return 0;
+    }
+    *bytes = more;
+    *room = wanted;
+    return 1;
+}
+
+int note_far(struct notes *notes, size_t place) {
     size_t left = place - notes->last;
     do {
-        size_t size = notes->size;
-        if (size == 0 || (size >= FIRST && (size & (size - 1)) == 0)) {
-            uint8_t *more = PyMem_Realloc(notes->bytes, size == 0 ? FIRST : 2 * size);
-            if (more == NULL) {
-                PyErr_NoMemory();
-                return 0;
-            }
-            notes->bytes = more;
-        }
+        if (notes->size == notes->room && !enlarge(&notes->bytes, &notes->room))
+            return 0;
         notes->bytes[notes->size++] = (uint8_t)(left > 127 ? 128 | (left & 127) : left);
     } while ((left >>= 7) > 0);
     notes->last = place;
     return 1;
 }
 
-int note_call(struct notes *notes, uint8_t how) {
-    size_t count = notes->count;
-    if (count == 0 || (count >= FIRST && (count & (count - 1)) == 0)) {
-        uint8_t *more = PyMem_Realloc(notes->calls, count == 0 ? FIRST : 2 * count);
-        if (more == NULL) {
-            PyErr_NoMemory();
-            return 0;
-        }
-        notes->calls = more;
-    }
-    notes->calls[notes->count++] = how;
-    notes->is_more |= how != 0;
-    return 1;
+int note_more(struct notes *notes, uint8_t how) {
+    return enlarge(&notes->calls, &notes->places) && note_call(notes, how);
 }
 
 /* The place that is noted from an index on, given the one before it. */
@@ -137,7 +132,7 @@ static const char *new_of(uint8_t code) {
 /* Writes the instructions between two places. A real object comes before what changes there. */
 static void write_pieces(
     struct writing *w, size_t at, size_t end, const struct notes *changes, PyObject *real) {
-    Py_ssize_t next = 0, count = PyList_Size(real);
+    Py_ssize_t next = 0, count = real != NULL ? PyList_Size(real) : 0;
     size_t index = 0, change = at, calls = 0;
     uint8_t how = 0;
     do {

@@ -41,8 +41,14 @@ PyObject *followed(PyObject *module, PyObject *args);
 PyObject *begin_uses(PyObject *module, PyObject *args);
 PyObject *uses(PyObject *module, PyObject *args);
 
-/* What a reader has to judge in a pickle, as `uses` says it, or -1 after an error. */
-int is_judged(PyObject *data, PyObject *number_of);
+/* What a reader has to judge: nothing, objects, or what names stand for. */
+enum { NOTHING, OBJECTS, NAMES };
+
+/* What is told of a pickle that is the first of its reader: None if nothing is to be judged; the
+   pieces if only objects are; and otherwise what `uses` returns. A name isn't judged if a
+   substitute would do no more with its arguments: the pieces are for a reader without substitutes.
+   `numbers`, a dict, remembers what `number_of` says. */
+PyObject *told_of(PyObject *data, PyObject *number_of, PyObject *numbers, int *what);
 
 /* The library's number of the layout of an opcode's argument: its bytes; 16 for each line; or 64
    and the bytes of the count before a payload. 0 if no opcode has the code. */
@@ -71,8 +77,9 @@ int parse_number(const uint8_t *bytes, size_t length, uint64_t *number);
    byte. So they take no more bytes than the instructions. And a byte for each call among them. */
 struct notes {
     uint8_t *bytes, *calls;
-    size_t size, last, count; /* `last`: the last place, or where the first instruction begins */
-    int is_more;              /* whether more than a call is noted, or of one that more is done */
+    size_t size, count, room, places; /* `room` for bytes, `places` for calls */
+    size_t last; /* the last place, or where the first instruction begins */
+    int is_more; /* whether more than a call is noted, or of one that more is done */
 };
 
 /* What happens to the object that a call makes: it gets a state, or items; it is judged; what stands
@@ -80,12 +87,27 @@ struct notes {
 enum { HAS_STATE = 1, HAS_ITEMS = 2, OF_JUDGED = 4, IS_NEW = 8 };
 
 /* Notes a place, or a call. Returns 0, and sets an error, if there is no memory. */
-int note(struct notes *notes, size_t place);
-int note_call(struct notes *notes, uint8_t how);
+int note_far(struct notes *notes, size_t place);
+int note_more(struct notes *notes, uint8_t how);
+static inline int note(struct notes *notes, size_t place) {
+    size_t left = place - notes->last;
+    if (left > 127 || notes->size == notes->room)
+        return note_far(notes, place);
+    notes->bytes[notes->size++] = (uint8_t)left;
+    notes->last = place;
+    return 1;
+}
+static inline int note_call(struct notes *notes, uint8_t how) {
+    if (notes->count == notes->places)
+        return note_more(notes, how);
+    notes->calls[notes->count++] = how;
+    notes->is_more |= how != 0;
+    return 1;
+}
 
 /* The pieces that `uses` returns, of the instructions from one place to another. Takes the places
-   of BUILD, BINPERSID, FRAME and calls, and those where names become real, in a list that ascends.
-*/
+   of BUILD, BINPERSID, FRAME and calls, and those where names become real, in a list that ascends,
+   or null. */
 PyObject *respelled(
     PyObject *data, size_t begin, size_t end, const struct notes *changes, PyObject *real);
 

@@ -1,7 +1,7 @@
 #!/usr/bin/env python3
 """Tests what others put the package into, with the shipped wheel or the one that is named: an
-environment with its manual page and completions, the hooks of pre-commit, the workflow and the
-Dockerfile of examples/ci. The last line counts.
+environment with its program, manual page and completions, in which the tutorial needs nothing else,
+the hooks of pre-commit, the workflow and the Dockerfile of examples/ci. The last line counts.
 
 They run as far as they can be run here: each command of the workflow and of the Dockerfile, not
 the actions and the image that these name.
@@ -20,9 +20,9 @@ import tempfile
 import unittest
 import venv
 from pathlib import Path
-from typing import Any, Dict, List
+from typing import Any, Dict, Optional
 
-from worked import ROOT
+from worked import ROOT, blocks_of, commands_of, session_of
 
 HOSTILE = b"cos\nsystem\n(Vtouch /nowhere/at-all\ntR."
 HARMLESS = b"\x80\x04K\x01."
@@ -81,6 +81,31 @@ class Packages(unittest.TestCase):
         said = ran(python, "-m", "storklocker", "--version", cwd="/")
         self.assertEqual(said.stdout, f"storklocker {version}\n", said.stderr)
 
+    def test_the_program_is_installed(self) -> None:
+        command = self.environment / "bin" / "storklocker"
+        listed = ROOT / "examples" / "pickles" / "ordered-dict.pickle"
+        for words in (("dis", listed), ("json", listed), ("dis", "/none"), ("optimize",)):
+            theirs = ran(os.environ.get("PKTOOL", ROOT / "pktool"), *words, cwd="/")
+            mine = ran(command, *words, cwd="/")
+            self.assertEqual((mine.returncode, mine.stdout), (theirs.returncode, theirs.stdout))
+            usage = theirs.stderr.replace("Usage: pktool", "Usage: storklocker")
+            self.assertEqual(mine.stderr, usage)
+
+    def test_the_tutorial_needs_nothing_else(self) -> None:
+        folder, tools = (Path(tempfile.mkdtemp(dir=self.folder)) for _ in range(2))
+        for name in ("sh", "mkdir", "tee", "grep"):
+            (tools / name).symlink_to(str(shutil.which(name)))
+        named: Dict[str, Any] = {"cwd": folder, "env": {"PATH": f"{self.environment}/bin:{tools}"}}
+        blocks = list(blocks_of((ROOT / "docs" / "TUTORIAL.md").read_text()))
+        for block in blocks:
+            for _, command, printed in commands_of(block) if block.language == "console" else ():
+                said = ran(tools / "sh", "-c", command, **named)
+                self.assertEqual((said.stdout + said.stderr).rstrip("\n"), printed, command)
+        session = session_of([it for it in blocks if it.language == "pycon"])
+        python = self.environment / "bin" / "python"
+        said = ran(python, ROOT / "tests" / "worked.py", input=session, **named)
+        self.assertEqual(said.stdout + said.stderr, "")
+
     def test_pages_are_installed(self) -> None:
         share = self.environment / "share"
         python = self.environment / "bin" / "python"
@@ -123,8 +148,9 @@ class Packages(unittest.TestCase):
             words = shlex.split(hooks[0]["entry"])
             said = ran(clone / words[0], *words[1:], name, cwd=files)
             self.assertEqual(said.returncode, status, said.stdout + said.stderr)
-        said = ran(clone / "release/storklocker", "--version", cwd=files)
-        self.assertEqual((said.returncode, said.stderr), (0, ""))
+        for words in (("--version",), ("dis", "good.pickle")):
+            said = ran(clone / "release/storklocker", *words, cwd=files)
+            self.assertEqual((said.returncode, said.stderr), (0, ""))
 
     def clone(self) -> Path:
         """A folder with the script and the wheels that a hook uses."""
@@ -149,16 +175,44 @@ class Packages(unittest.TestCase):
 
     def test_workflow(self) -> None:
         jobs: Dict[str, Any] = parsed("examples/ci/github-workflow.yml")["jobs"]
-        steps: List[Dict[str, Any]] = jobs["scan"]["steps"]
-        files = self.files()
-        (files / "wheels").symlink_to(wheels())
-        statuses = []
-        for step in steps:
-            if "run" in step:
-                said = ran("sh", "-euc", step["run"], cwd=files, env={"RUNNER_TEMP": str(files)})
-                statuses.append(said.returncode)
-        self.assertEqual(statuses, [0, 0, 1], "the last one finds the hostile file")
-        self.assertIn('"os.system', (files / "pickles.sarif").read_text())
+        (own,) = (it for it in jobs["scan"]["steps"] if "/.github@" in it["uses"])
+        self.assertLessEqual(set(own["with"]), set(parsed(".github/action.yml")["inputs"]))
+
+    def test_action(self) -> None:
+        action, clone, runner = parsed(".github/action.yml"), self.clone(), self.folder / "runner"
+        runner.mkdir()
+        (clone / ".github").mkdir()
+        around = {"RUNNER_TEMP": str(runner), "GITHUB_OUTPUT": str(runner / "output"),
+                  "GITHUB_ACTION_PATH": str(clone / ".github")}
+        install, scan = [it for it in action["runs"]["steps"] if "run" in it]
+        self.assertEqual(self.acted(install, clone, around), 0)
+        inputs = {name: it["default"] for name, it in action["inputs"].items()}
+        for given, status, wanted in (
+            ({}, 1, '"os.system'), ({"path": "good.pickle"}, 0, '"results": [\n]'),
+            ({"path": "good.pickle\nbad.pkl", "format": "table"}, 1, "os.system"),
+            ({"fail-on": "never", "output": "a b.sarif"}, 0, '"os.system'),
+            ({"allow": "@datetime\n@numpy,@pandas"}, 1, "refused"),
+            ({"path": "$(touch ran) `touch ran`; touch ran"}, 2, "No such file"),
+        ):
+            files, its = self.files(), {**inputs, **given}
+            self.assertEqual(self.acted(scan, files, around, its), status, given)
+            self.assertIn(wanted, (files / its["output"]).read_text())
+            self.assertIn(f"report={its['output']}\n", (runner / "output").read_text())
+            self.assertFalse((files / "ran").exists(), "an input ran")
+
+    def acted(
+        self,
+        step: Any,
+        files: Path,
+        around: Dict[str, str],
+        inputs: Optional[Dict[str, str]] = None,
+    ) -> int:
+        """The status of a step of the action, with these inputs."""
+        self.assertNotIn("${{", step["run"], "an input in a script can run anything")
+        named = {f"${{{{ inputs.{name} }}}}": value for name, value in (inputs or {}).items()}
+        env = {name: named[value] for name, value in step.get("env", {}).items()}
+        words = ("bash", "--noprofile", "--norc", "-eo", "pipefail", "-c", step["run"])
+        return ran(*words, cwd=files, env={**around, **env}).returncode
 
     def test_dockerfile(self) -> None:
         lines = (ROOT / "examples/ci/Dockerfile").read_text().splitlines()

@@ -20,6 +20,21 @@ const PACKED = [
   [[0x5a, 0x46], "", "joblib's compression"],
   [[0x89, 0x48, 0x44, 0x46], "", "HDF5"],
 ];
+
+// Stores and caches of pickles, which this page doesn't read, by how they begin.
+const STORES = [
+  [/^SQLite format 3\0/, "SQLite"],
+  [/^(?:\x13\x57\x9a[\xcd-\xd1]|[\xcd-\xd1]\x9a\x57\x13)/, "GDBM"],
+  [/^[^]{12}\0(?:\x05\x31\x62|\x06\x15\x61|\x04\x22\x53)/, "Berkeley DB"],
+  [/^[^]{12}(?:\x62\x31\x05|\x61\x15\x06|\x53\x22\x04)\0/, "Berkeley DB"],
+  [/^[^]{16}\xde\xc0\xef\xbe/, "LMDB"],
+  [/^[^]{512}\x89HDF/, "HDF5"],
+  [/^(?:ARROW1|FEA1)/, "Arrow"],
+  [/^PAR1/, "Parquet"],
+  [/^(?:FS(?:21|20|30)|SEQ[\x04-\x06])/, "other stores"],
+  [/^[\x81-\x8f\xde][^]{0,9}(?:\xa2|\xc4\x02)nd\xc3/, "other stores"],
+  [/^[^\x80][^]{3}\x80[\x02-\x05]/, "cachelib"],
+];
 const DIFFERING = "differing-readings";
 const NUMPY = [0x93, 0x4e, 0x55, 0x4d, 0x50, 0x59];
 
@@ -66,9 +81,28 @@ export async function* piecesOf(path, blob, budget, depth = 0, kind = "pickle") 
     yield* insideTar(path, blob, budget, depth);
   } else if (begins(front, NUMPY)) {
     yield* insideArray(path, blob, front);
+  } else if (storeOf(front)) {
+    yield unread(path, storeOf(front));
   } else {
     yield { path, kind, blob, isWhole: depth === 0 };
   }
+}
+
+function storeOf(front) {
+  const text = String.fromCharCode(...front);
+  return STORES.find(([pattern]) => pattern.test(text))?.[1];
+}
+
+function unread(path, kind) {
+  const problem = `This page doesn't read ${kind}. \`storklocker scan\` does.`;
+  return { path, kind, fault: "unknown-container", problem };
+}
+
+// What is told of bytes behind a pickle that are packed, as the values of Django's cache are.
+export async function packedBehind(path, blob) {
+  const front = new Uint8Array(await blob.slice(0, 2).arrayBuffer());
+  const isZlib = (front[0] & 0x8f) === 8 && (front[0] * 256 + front[1]) % 31 === 0;
+  return isZlib ? unread(path, "what is packed behind a pickle") : undefined;
 }
 
 async function* insideZip(path, zip, budget, depth) {

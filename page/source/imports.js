@@ -4,7 +4,7 @@ import { counted, dotted } from "./words.js";
 
 const MOST = 500;
 // a name of which nothing is known to do harm has no word: it may do some in a call of another
-const TITLES = { danger: "dangerous", warning: "warning", unknown: "note", harmless: "" };
+const TITLES = { danger: "dangerous", warning: "warning", unknown: "unknown", harmless: "" };
 const ORDER = Object.keys(TITLES);
 
 const get = (id) => document.getElementById(id);

@@ -26,7 +26,8 @@ export class Judge {
     if (worst === "unreadable" && ["unjudged", "accepted", "undecided"].includes(status)) {
       return "unreadable";
     }
-    return worst === "warning" && status === "unjudged" ? "warning" : status;
+    const isMild = worst === "warning" || worst === "unknown";
+    return isMild && status === "unjudged" ? worst : status;
   }
 
   // The line above all that was found.
@@ -75,7 +76,7 @@ export class Judge {
     const { any, verdict, costs } = part;
     if (listed === null) {
       if (any.status === YES) {
-        return ["unjudged", `${any.taken} bytes, ${part.imports?.length ?? "many"} names`];
+        return ["unjudged", verdictLine(any).replace("yes: ", "")];
       }
       findings.push({ kind: "broken-pickle", why: verdictLine(any) });
       return ["unreadable", verdictLine(any)];

@@ -2,7 +2,7 @@
 
 import { Checker, NO, NO_LIST, OutOfMemory, YES } from "./checker.js";
 import { Costs } from "./costs.js";
-import { Budget, piecesOf } from "./files.js";
+import { Budget, packedBehind, piecesOf } from "./files.js";
 import { NotFollowed } from "./following.js";
 import { Cutter, isWrapper } from "./joblib.js";
 
@@ -77,6 +77,8 @@ async function judgePiece(piece) {
     add(part);
     offset += part.any.taken;
     if (part.any.status !== YES || offset >= piece.blob.size) return undefined;
+    const behind = await packedBehind(piece.path, piece.blob.slice(offset));
+    if (behind) return add(behind);
   }
   const problem = `After ${PICKLES} pickles the rest isn't read.`;
   return add({ path: piece.path, kind: kindOf(piece, 1), fault: "too-much", problem });

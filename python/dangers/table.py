@@ -1,4 +1,4 @@
-"""Reads the file of judgements, and makes the table of the scan from it and from a walk."""
+"""Reads the files of judgements, and makes the table of the scan from it and from a walk."""
 
 import importlib.util
 import platform
@@ -12,7 +12,7 @@ from storklocker.scanning.known import Known
 from walk import Module, Walk
 
 HERE = Path(__file__).resolve().parent
-JUDGEMENTS = HERE / "judgements.txt"
+JUDGEMENTS = (HERE / "judgements.txt", HERE / "harmless.txt")
 TABLE = HERE.parent / "storklocker" / "scanning" / "known.txt"
 LIBRARIES = {"numpy": "numpy", "pandas": "pandas", "joblib": "joblib",
              "sklearn": "scikit-learn", "torch": "torch"}
@@ -94,7 +94,8 @@ def parts(text):
 
 def front():
     """The part of the table with the judgements."""
-    lines = JUDGEMENTS.read_text(encoding="utf-8").splitlines()
+    texts = (path.read_text(encoding="utf-8") for path in JUDGEMENTS)
+    lines = [line for text in texts for line in text.splitlines()]
     kept = [line for line in lines if line and not line.startswith("#")]
     return "\n".join(["# Made by python/dangers/make. Don't edit it.", *kept, ""])
 

@@ -21,7 +21,7 @@ ENUMS = (calendar, http, inspect, plistlib, re, signal, uuid)
 _GIVEN = [
     ("why",), (), (1, "why"), ("utf-8", b"\xff", 0, 1, "why"), ("utf-8", "\xff", 0, 1, "why"),
     ("\xff", 0, 1, "why"), ("why", "text", 0), (1, ["command"]), ("why", [ValueError("inner")]),
-    (550, b"why", "sender"), ("option", "section", "value"),
+    (550, b"why", "sender"), ("option", "section", "value"), ("file", 1, "line"),
 ]
 """What exceptions are made with: the first that fits."""
 
@@ -56,6 +56,14 @@ def _made(kind):
         if is_same:
             yield made
             return
+
+
+LATER = {
+    "EXCEPTIONS": (
+        ("configparser", "InvalidWriteError"), ("configparser", "UnnamedSectionDisabledError")
+    ),
+}
+"""Names of later Pythons than most have, here 3.14, by list: they stand in it whoever makes it."""
 
 
 def enum_classes():

@@ -35,12 +35,26 @@ def run():
             log = scanned(folder, *more)
             kind(schema, format_checker=jsonschema.FormatChecker()).validate(log)
             assert len(log["runs"][0]["results"]) == count, log
+            for result in log["runs"][0]["results"]:
+                fits(result, log["runs"][0]["tool"]["driver"]["rules"])
     log["runs"][0]["results"] = [{"level": "error"}]
     assert not kind(schema).is_valid(log), "the schema takes a result without a message"
 
 
+def fits(result, rules):
+    """A result has what Code scanning asks for."""
+    rule = rules[result["ruleIndex"]]
+    assert rule["id"] == result["ruleId"] and rule["help"]["text"], rule
+    assert 0 < float(rule["properties"]["security-severity"]) <= 10, rule
+    place = result["locations"][0]["physicalLocation"]
+    assert place["artifactLocation"]["uriBaseId"] == "%SRCROOT%", place
+    assert not place["artifactLocation"]["uri"].startswith(("/", ".")), place
+    assert set(place["region"]) == {"startLine", "startColumn", "endLine", "endColumn"}, place
+    assert result["partialFingerprints"]["primaryLocationLineHash"], result
+
+
 def scanned(folder, *more):
     """The log of a folder."""
-    words = ["-m", "storklocker", "scan", folder, "--format", "sarif", *more]
-    ran = subprocess.run([sys.executable, *words], capture_output=True, check=False)
+    words = ["-m", "storklocker", "scan", ".", "--format", "sarif", *more]
+    ran = subprocess.run([sys.executable, *words], cwd=folder, capture_output=True, check=False)
     return json.loads(ran.stdout)

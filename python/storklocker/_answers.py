@@ -163,7 +163,7 @@ class Verdict(Named):
         if self.number is not None:
             more = f"({self.number})"
         elif self.pair is not None:
-            more = f"({_quoted(self.pair[0], most)},{_quoted(self.pair[1], most)})"
+            more = f"({printed(self.pair[0], most)},{printed(self.pair[1], most)})"
         return f"{self.reason.name if self.reason else ''}{more}"
 
 
@@ -306,7 +306,7 @@ def _shown_as() -> "Dict[int, str]":
     }
 
 
-def _quoted(text: str, most: "Optional[int]") -> str:
+def printed(text: str, most: "Optional[int]" = None) -> str:
     """The text in quotes, as the program prints it, cut after `most` bytes."""
     data = text.encode()
     shown = data if most is None else data[:most]

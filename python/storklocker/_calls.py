@@ -9,7 +9,10 @@ import array
 from typing import TYPE_CHECKING, Any, Callable, Dict, Tuple
 
 from ._answers import Misused
-from ._substitute import BECOMES_REAL, IS_JUDGED, Class, Remembering, Substitute
+from ._substitute import (
+    BECOMES_REAL, EMPTY, IS_JUDGED, NEW_OF_NONE, OF_NONE, OF_TEXT, OF_TEXTS, Class, Remembering,
+    Substitute,
+)
 from ._weighing import CONTAINERS, keys_of, values
 
 if TYPE_CHECKING:
@@ -24,10 +27,18 @@ def wrong(name: str) -> Misused:
     return Misused(f"{name} is called with other arguments")
 
 
-def takes_text(name: str, given: Tuple[Any, ...]) -> None:
+def takes_text(reader: Reader, name: str, given: Tuple[Any, ...]) -> None:
     """Has NEWOBJ take nothing, or the text of a class of texts."""
     if given and (len(given) > 1 or type(given[0]) not in (str, bytes)):
         raise wrong(name)
+    reader.pay(sum(map(len, given)))
+
+
+def takes_row(reader: Reader, name: str, given: Tuple[Any, ...]) -> None:
+    """Has NEWOBJ take nothing, or the items of a class of tuples."""
+    if given and (len(given) > 1 or type(given[0]) not in (list, tuple)):
+        raise wrong(name)
+    reader.pay(sum(map(len, given)) * 16)
 
 
 def plain(reader: Reader, name: str, given: Any) -> Any:
@@ -190,7 +201,6 @@ def shown(module: str, name: str) -> Remembering:
     """A function that shows its arguments, or looks through them: only values that aren't large."""
     def judged(reader: Reader, *given: Any) -> Any:
         values(reader, given)
-        reader.pay(sum(len(it) for it in given if type(it) in (str, bytes)))
         return made.real()(*given)
 
     made = Remembering(f"{module}.{name}", judged, BECOMES_REAL | IS_JUDGED)
@@ -209,8 +219,10 @@ def _group(name: str) -> Remembering:
     return made
 
 
-def row(module: str, name: str, judged: Callable[..., Any]) -> Tuple[Tuple[str, str], Substitute]:
-    return (module, name), Remembering(f"{module}.{name}", judged, BECOMES_REAL)
+def row(
+    module: str, name: str, judged: Callable[..., Any], role: int = 0
+) -> Tuple[Tuple[str, str], Substitute]:
+    return (module, name), Remembering(f"{module}.{name}", judged, BECOMES_REAL | role)
 
 
 _ADDRESSES = "IPv4Address IPv6Address IPv4Network IPv6Network IPv4Interface IPv6Interface".split()
@@ -226,22 +238,26 @@ _SHOWN = {
 
 TABLE: Dict[Tuple[str, str], Substitute] = dict(
     [
-        row("builtins", "set", _set(set)),
-        row("builtins", "frozenset", _set(frozenset)),
-        row("builtins", "list", _list),
-        row("builtins", "tuple", _tuple),
-        row("builtins", "int", _int),
-        row("builtins", "complex", _complex),
+        row("builtins", "set", _set(set), EMPTY),
+        row("builtins", "frozenset", _set(frozenset), EMPTY),
+        row("builtins", "list", _list, EMPTY),
+        row("builtins", "tuple", _tuple, EMPTY),
+        row("builtins", "int", _int, EMPTY),
+        row("builtins", "complex", _complex, EMPTY),
         row("builtins", "range", _range),
         row("builtins", "slice", _slice),
         row("array", "array", _array),
         row("array", "_array_reconstructor", _array_reconstructor),
-        row("decimal", "Decimal", _decimal),
+        row("decimal", "Decimal", _decimal, OF_NONE | OF_TEXT),
         row("fractions", "Fraction", _fraction),
         *(row("ipaddress", name, _address(name)) for name in _ADDRESSES),
-        *(row(at, name, _path(name)) for name in _PATHS for at in ("pathlib", "pathlib._local")),
+        *(
+            row(at, name, _path(name), OF_TEXTS)
+            for name in _PATHS
+            for at in ("pathlib", "pathlib._local")
+        ),
         *(((at, name), shown(at, name)) for at in _SHOWN for name in _SHOWN[at].split()),
         *((("builtins", name), _group(name)) for name in ("ExceptionGroup", "BaseExceptionGroup")),
-        (("uuid", "UUID"), Class("uuid.UUID", call=_uuid)),
+        (("uuid", "UUID"), Class("uuid.UUID", call=_uuid, role=OF_TEXT | NEW_OF_NONE)),
     ]
 )

@@ -6,7 +6,7 @@ import collections
 from typing import TYPE_CHECKING, Any, Dict, Tuple
 
 from ._calls import plain, takes_text, wrong
-from ._substitute import BECOMES_REAL, Class, Remembering, Substitute
+from ._substitute import BECOMES_REAL, EMPTY, OF_ONE, Class, Remembering, Substitute
 from ._weighing import keys_of
 
 if TYPE_CHECKING:
@@ -59,13 +59,13 @@ def _deque(reader: Reader, *given: Any) -> Any:
 
 
 TABLE: Dict[Tuple[str, str], Substitute] = {
-    (module, name): Remembering(f"{module}.{name}", judged, BECOMES_REAL)
-    for module, name, judged in (
-        ("builtins", "dict", _dict),
-        ("collections", "OrderedDict", _ordered),
-        ("collections", "defaultdict", _defaults),
-        ("collections", "Counter", _counter),
-        ("collections", "deque", _deque),
+    (module, name): Remembering(f"{module}.{name}", judged, role | EMPTY)
+    for module, name, judged, role in (
+        ("builtins", "dict", _dict, BECOMES_REAL),
+        ("collections", "OrderedDict", _ordered, BECOMES_REAL),
+        ("collections", "defaultdict", _defaults, BECOMES_REAL | OF_ONE),
+        ("collections", "Counter", _counter, BECOMES_REAL),
+        ("collections", "deque", _deque, BECOMES_REAL),
     )
 }
 TABLE.update(

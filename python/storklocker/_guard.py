@@ -17,6 +17,7 @@ if TYPE_CHECKING:
 
     from ._refusal import Refusal
     from ._unpickler import GuardedUnpickler
+    from ._uses import Told
 
 MAX_BYTES = 1 << 30
 """The default of a guard's `max_bytes`."""
@@ -99,7 +100,7 @@ class Guard(Loads):
         "_new",
         "_old",
         "_unpickler",
-        "_quick",
+        "_is_begun",
         # (PyPy gives the base class one)
         *(() if hasattr(Loads, "__weakref__") else ("__weakref__",)),
     )
@@ -133,7 +134,7 @@ class Guard(Loads):
         self._new = allow._for_loading()._under(settings)
         self._old = allow._for_old_names()._under(settings) if fix_imports else self._new
         self._unpickler: Optional[Type[GuardedUnpickler]] = None
-        self._quick: Optional[Callable[[bytes], Any]] = None
+        self._is_begun = False
         new, old = (None, None) if old_strings == "bytes" else (self._new, self._old)
         begin_loads(self, new, old, _loads, len(allow) > 0)
 
@@ -199,23 +200,21 @@ class Guard(Loads):
             if self._enforce:
                 raise self._told(no, data)  # a variable of it would make a cycle with this frame
             self._told(no, data)
-        encoding, errors = self._decoding(encoding, errors)
-        return self._loaded(data, encoding, errors, buffers, no is None)
+        return self._loaded(data, self._decoding(encoding, errors), buffers, no is None)
 
     def _loads_refused(self, data: bytes, no: Verdict) -> "Any":
         """`loads` of a pickle that is refused."""
-        if self._enforce:
-            raise self._told(no, data)
-        self._told(no, data)
+        self._refuse(no, data)
         return self._loads_accepted(data, False)
 
-    def _loads_accepted(self, data: bytes, is_accepted: bool = True) -> "Any":
-        """`loads` of a pickle that is accepted, or loaded all the same."""
-        if self._quick is not None and is_accepted:
-            made = self._quick(data)
-            if made is not self._quick:
-                return made
-        return self._loaded(data, *self._decoding(None, None), None, is_accepted)
+    def _loads_accepted(self, data: bytes, is_accepted: bool = True, *told: "Told") -> "Any":
+        """`loads` of a pickle that is accepted, or loaded all the same, given what its uses are."""
+        return self._loaded(data, self._decoding(None, None), None, is_accepted, *told)
+
+    def _loads_stopped(self, data: bytes, error: BaseException) -> None:
+        """Raises what has stopped a load, and tells of it if the pickle is misused."""
+        with _later("_telling").Misuses(self, data):
+            raise error
 
     def load(
         self,
@@ -235,7 +234,7 @@ class Guard(Loads):
         data = self._next_in(file) if self._enforce else None
         if data is None:
             return self.Unpickler(file, encoding=encoding, errors=errors, buffers=buffers).load()
-        return self._loaded(data, encoding, errors, buffers)
+        return self._loaded(data, (encoding, errors), buffers)
 
     async def loads_async(self, data: "Any", /, **named: "Any") -> "Any":
         """`loads`, which runs in a thread from 65,536 bytes on, so that the check of a large pickle
@@ -349,8 +348,8 @@ class Guard(Loads):
         no = self._listed_for(data)._refusal(data)
         if no is not None and not no.accepted:
             self._refuse(no, data, 0)
-        encoding, errors = self._decoding(encoding, errors)
-        return self._loaded(data, encoding, errors, buffers, no is None or no.accepted)
+        decoding = self._decoding(encoding, errors)
+        return self._loaded(data, decoding, buffers, no is None or no.accepted)
 
     def _for_children(self) -> "Guard":
         """The guard for another process: without its hook if that can't be pickled."""
@@ -368,26 +367,27 @@ class Guard(Loads):
     def _loaded(
         self,
         data: bytes,
-        encoding: str,
-        errors: str,
-        buffers: "Optional[Iterable[Any]]",
+        decoding: "Tuple[str, str]",
+        buffers: "Optional[Iterable[Any]]" = None,
         is_accepted: bool = True,
+        *told: "Told",
     ) -> "Any":
         """The object of a pickle, with its imports under the names that were checked. One that is
         loaded though it is refused is judged only where names have substitutes.
         """
-        words: Any = {"encoding": encoding, "errors": errors, "buffers": buffers}
+        words: Any = {"encoding": decoding[0], "errors": decoding[1], "buffers": buffers}
         is_old = self._has_old_names(data)
         if not (len(self._allow) if is_accepted else self._has_substitutes):
             return plain_loads(data, is_old, **words)
         its: Any = _later("_substitutes")
-        if self._quick is None:
+        if not self._is_begun:
+            self._is_begun = True
             its.begin(self)
         how = its.Judged(is_old, self._takes_any)
         if self._on_refusal is None:
-            return its.loads(data, self._allow, how, **words)
+            return its.loads(data, self._allow, how, *told, **words)
         with _later("_telling").Misuses(self, data):
-            return its.loads(data, self._allow, how, **words)
+            return its.loads(data, self._allow, how, *told, **words)
 
 
 _SETTINGS = (

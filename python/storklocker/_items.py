@@ -10,16 +10,23 @@ from __future__ import annotations
 import functools
 import types
 from collections import deque
+from typing import Any
+
+from ._answers import Misused
 
 _HEAP = 1 << 9
 """The flag of classes that are made while Python runs, as all are that are written in Python."""
 _CONTAINERS = (dict, list, set, deque)
 _SAYING = ("__reduce_ex__", "__reduce__")
+SHOWING = ("http.cookies",)
+"""Modules whose dicts make texts of their items: the items of such are judged one by one."""
 
 
 @functools.lru_cache(maxsize=512)
 def takes_items(kind: type) -> bool:
     """Whether an object of a class may be given items."""
+    if kind.__module__ in SHOWING:
+        return False
     return issubclass(kind, _CONTAINERS) or _is_own(kind)
 
 
@@ -29,3 +36,21 @@ def _is_own(kind: type) -> bool:
     return isinstance(next(held, None), types.FunctionType) and all(
         it in (object, *_CONTAINERS) or it.__flags__ & _HEAP for it in kind.__mro__
     )
+
+
+@functools.lru_cache(maxsize=64)
+def judging(kind: Any) -> Any:
+    """A subclass of a dict of cookies, or of one cookie, which takes cookies or short values. It
+    stands for the class until the pickle is loaded.
+    """
+    from http.cookies import BaseCookie, Morsel
+
+    taken: Any = Morsel if issubclass(kind, BaseCookie) else (str, bool, int, float, type(None))
+
+    def put(self: Any, key: Any, value: Any) -> None:
+        is_long = type(value) is int and value.bit_length() > 64
+        if type(key) is not str or not isinstance(value, taken) or is_long:
+            raise Misused(f"a {kind.__name__} has an item of another kind")
+        kind.__setitem__(self, key, value)
+
+    return type(kind.__name__, (kind,), {"__setitem__": put, "__module__": __name__})

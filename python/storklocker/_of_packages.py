@@ -13,17 +13,18 @@ import types
 from typing import TYPE_CHECKING, Any, Callable, Dict, Optional, Tuple
 
 from . import _of_pandas, _of_sklearn
-from ._calls import row, shown, takes_text, wrong
+from ._calls import row, shown, takes_row, takes_text, wrong
+from ._items import SHOWING, judging
 from ._substitute import BECOMES_REAL, Class, Remembering, Substitute, Value
-from ._weighing import SCALARS, keys_of, values
+from ._weighing import CONTAINERS, SCALARS, keys_of, values
 
 if TYPE_CHECKING:
     from ._substitutes import Reader
 
 PACKAGES = ("sklearn", "scipy", "pandas", "django", "celery", "kombu", "billiard")
-_LIBRARY = ("http.cookies",)
-"""Modules of the standard library for whose names the same holds."""
 _REDUCE = ("__reduce__", "__reduce_ex__")
+MOST_TOGETHER = 10_000
+"""The most flags together that pickles may have Python keep of a class."""
 
 
 def substitute_for(it: Any) -> Optional[Substitute]:
@@ -34,7 +35,7 @@ def substitute_for(it: Any) -> Optional[Substitute]:
     if isinstance(it, enum.EnumMeta):
         return _members(it)
     package = module.partition(".")[0]
-    if package not in PACKAGES and package != "numpy" and module not in _LIBRARY:
+    if package not in PACKAGES and package != "numpy" and module not in SHOWING:
         return None
     try:
         return _found(it, module, package)
@@ -45,11 +46,25 @@ def substitute_for(it: Any) -> Optional[Substitute]:
 @functools.lru_cache(maxsize=4096)
 def _members(kind: Any) -> Substitute:
     """An enum, which hashes the value that names a member, and shows one that names none."""
+    name = f"{kind.__module__}.{kind.__qualname__}"
+
     def judged(reader: Reader, *given: Any) -> Any:
         keys_of(reader, given)
+        values(reader, tuple(it for it in given if type(it) in CONTAINERS))
+        if issubclass(kind, enum.Flag) and _is_full(kind, given):
+            raise wrong(name)
         return kind(*given)
 
-    return _Members(f"{kind.__module__}.{kind.__qualname__}", judged, kind)
+    return _Members(name, judged, kind)
+
+
+def _is_full(kind: Any, given: Tuple[Any, ...]) -> bool:
+    """Whether Python would keep more flags together until the process ends than are ever needed: it
+    keeps each that it makes.
+    """
+    kept = kind._value2member_map_
+    is_known = len(given) == 1 and type(given[0]) is int and given[0] in kept
+    return not is_known and len(kept) >= len(kind.__members__) + MOST_TOGETHER
 
 
 class _Members(Remembering):
@@ -61,6 +76,20 @@ class _Members(Remembering):
 
     def real(self) -> Any:
         return self._kind
+
+
+class _Showing(Class):
+    """A class of dicts that makes texts of their items."""
+
+    __slots__ = ()
+
+    def new(self, reader: Any, *given: Any) -> Any:
+        self.judge_new(reader, given)
+        kind = judging(self._kind)
+        made = kind.__new__(kind)
+        reader.unbuilt[id(made)] = made
+        reader.disguised.append((made, self._kind))
+        return made
 
 
 @functools.lru_cache(maxsize=4096)
@@ -78,7 +107,11 @@ def _found(it: Any, module: str, package: str) -> Optional[Substitute]:
         return shown(module, it.__qualname__)
     if _says_how(it) and not (package == "pandas" and _is_filled(it)):
         return None
-    return Class(name, it, _fields if issubclass(it, tuple) else takes_text)
+    if module in SHOWING:
+        return _Showing(name, it)
+    if not issubclass(it, tuple):
+        return Class(name, it, takes_text)
+    return Class(name, it, _fields if hasattr(it, "_fields") else takes_row)
 
 
 def _says_how(kind: type) -> bool:
@@ -92,7 +125,7 @@ def _is_filled(kind: type) -> bool:
     return any(base.__name__ in names for base in kind.__mro__)
 
 
-def _fields(name: str, given: Tuple[Any, ...]) -> None:
+def _fields(reader: Reader, name: str, given: Tuple[Any, ...]) -> None:
     """Takes the fields of a named tuple."""
 
 

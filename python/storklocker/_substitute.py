@@ -15,12 +15,20 @@ some functions take as an argument; joblib's wrapper of arrays; what makes objec
 """
 
 
+OF_NONE, OF_ONE, OF_TEXT, OF_TEXTS, NEW_OF_NONE = (1 << 12 + k for k in range(5))
+"""More roles: what does as the real object does when it is called with nothing, with one argument,
+with a short text, or with such texts, or makes a new object with nothing.
+"""
+EMPTY = OF_NONE | NEW_OF_NONE
+"""The role of a class of values that are empty by default."""
+
+
 def takes(*places: int) -> int:
     """The role of a function that takes classes as these of its arguments."""
     return sum(16 << place for place in places)
 
 
-def nothing(name: str, given: Tuple[Any, ...]) -> None:
+def nothing(reader: Any, name: str, given: Tuple[Any, ...]) -> None:
     """Takes no arguments."""
     if given:
         raise Misused(f"{name} is made with other arguments")
@@ -44,8 +52,8 @@ class Substitute:
     def __repr__(self) -> str:
         return f"<substitute for {self.name}>"
 
-    def new(self, *given: Any) -> Any:
-        """What NEWOBJ makes of it."""
+    def new(self, reader: Any, *given: Any) -> Any:
+        """What NEWOBJ makes of it for a reader."""
         if given or not self.name.startswith(("builtins.", "collections.")):
             raise Misused(f"NEWOBJ of {self.name}, which picklers only call")
         kind = self.real()
@@ -108,16 +116,17 @@ class Class(Substitute):
         kind: Any = None,
         news: Callable[..., Any] = nothing,
         call: Optional[Callable[..., Any]] = None,
+        role: int = 0,
     ) -> None:
-        super().__init__(name, call or functools.partial(_refuse, name), BECOMES_REAL)
+        super().__init__(name, call or functools.partial(_refuse, name), BECOMES_REAL | role)
         self._kind, self._news = kind, news
 
-    def judge_new(self, given: Tuple[Any, ...]) -> None:
+    def judge_new(self, reader: Any, given: Tuple[Any, ...]) -> None:
         """Refuses what NEWOBJ isn't given by picklers."""
-        self._news(self.name, given)
+        self._news(reader, self.name, given)
 
-    def new(self, *given: Any) -> Any:
-        self.judge_new(given)
+    def new(self, reader: Any, *given: Any) -> Any:
+        self.judge_new(reader, given)
         kind = self.real()
         return kind.__new__(kind, *given)
 

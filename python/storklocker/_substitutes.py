@@ -31,7 +31,7 @@ from typing import (
 from . import (
     _arrays, _builtins, _calls, _collections, _compiled, _names, _of_packages, _random
 )
-from ._answers import Misused
+from ._answers import Misused, told
 from ._guard import _later
 from ._lists import AllowList
 from ._objects import found
@@ -41,7 +41,7 @@ from ._substitute import Substitute
 from ._weighing import Scales
 
 if TYPE_CHECKING:
-    from ._uses import Uses
+    from ._uses import Told, Uses
 
 Pair = Tuple[str, str]
 Piece = Tuple[bytes, int, int]
@@ -134,6 +134,8 @@ class Reader(pickle.Unpickler):
         """Types of NumPy's arrays whose state was set, by id, each with its size as a tree."""
         self.states: Dict[int, Callable[[Any], Any]] = {}
         """What judges the state of an object in `unbuilt`, and gives the one to be set."""
+        self.disguised: List[Tuple[Any, Any]] = []
+        """Objects of a class that judges their items, each with the class that they are of."""
         self.raised: Dict[int, Tuple[BaseException, int]] = {}
         """The exceptions that were judged, by id, each with its levels."""
         self.looked = 0
@@ -158,6 +160,9 @@ class Reader(pickle.Unpickler):
         size = sum(end - begin for _, begin, end in pieces)
         self._room, self._steps = MOST_FREE + 16 * size, STEPS_FREE + 8 * size
         made = self.load()
+        while self.disguised:
+            disguised, kind = self.disguised.pop()
+            disguised.__class__ = kind
         if not self._uses.is_whole:
             raise Misused(_UNFOLLOWED)
         return made
@@ -205,12 +210,32 @@ class Reader(pickle.Unpickler):
         elif len(asked) != 3:
             return self.persistent(asked[0])
         elif type(asked[2]) is list:
-            return _new(asked[0], asked[1])
+            return self._new(asked[0], asked[1])
         elif asked[2] is not None:
             judge_made(self, asked)
         elif isinstance(asked[0], Substitute):
             return asked[0].real()
         return asked[0]
+
+    def _new(self, kind: Any, given: Any) -> Any:
+        """What NEWOBJ makes of a class, or of what stands for it; OBJ or NEWOBJ_EX, if these are
+        all in a tuple.
+        """
+        if given is None:
+            kind, *given = kind
+            if given or not isinstance(kind, (Substitute, type)):
+                return kind(*given)
+            given = ()
+        elif given is True:
+            kind, given, words = kind
+            if words != {}:
+                raise Misused(f"NEWOBJ_EX of {told(kind)} with words")
+        if type(given) is not tuple or not isinstance(kind, (Substitute, type)):
+            raise pickle.UnpicklingError("NEWOBJ class argument must be a type")
+        if isinstance(kind, Substitute):
+            return kind.new(self, *given)
+        maker: Any = kind
+        return maker.__new__(maker, *given)
 
     def copied_memo(self) -> Dict[int, Any]:
         """A copy of the memo."""
@@ -238,18 +263,24 @@ def begin(guard: Any) -> None:
     pickle on.
     """
     if not declared(guard._allow):
-        _later("_uses").begin(guard)
-        if guard._on_refusal is None and guard._old_strings == "unknown" and not guard._takes_any:
-            guard._quick = _later("_judging").quick
+        is_quick = guard._old_strings == "unknown" and not guard._takes_any
+        _later("_uses").begin(guard, _later("_judging").JUDGES if is_quick else None)
 
 
-def loads(data: bytes, allow: AllowList, how: Judged, **named: Any) -> Any:
-    """The object of a pickle that is accepted under the list."""
+def loads(
+    data: bytes, allow: AllowList, how: Judged, told: Optional[Told] = None, **named: Any
+) -> Any:
+    """The object of a pickle that is accepted under the list, of which the guard may have been
+    told.
+    """
     if named == _DEFAULTS:
         named = {}
     uses: Uses = _later("_uses").Uses(declared(allow), frozenset())
     uses.takes_any = how.takes_any
-    pieces = uses.respelled(data, 0, how.is_old)
+    if told is None or how.takes_any:
+        pieces = uses.respelled(data, 0, how.is_old)
+    else:
+        pieces = uses.taken(told)
     if not uses.judges:
         return plain_loads(data, how.is_old, **named)
     if uses.judges > 1 or named or how.is_old or how.takes_any:
@@ -300,24 +331,3 @@ def _lent_by(buffers: Iterable[Any], lent: Dict[int, Any]) -> Iterator[Any]:
     for it in buffers:
         lent[id(it)] = it
         yield it
-
-
-def _new(kind: Any, given: Any) -> Any:
-    """What NEWOBJ makes of a class, or of what stands for it; OBJ or NEWOBJ_EX, if these are all in
-    a tuple.
-    """
-    if given is None:
-        kind, *given = kind
-        if given or not isinstance(kind, (Substitute, type)):
-            return kind(*given)
-        given = ()
-    elif given is True:
-        kind, given, words = kind
-        if words != {}:
-            raise Misused(f"NEWOBJ_EX of {kind!r:.80} with words")
-    if type(given) is not tuple or not isinstance(kind, (Substitute, type)):
-        raise pickle.UnpicklingError("NEWOBJ class argument must be a type")
-    if isinstance(kind, Substitute):
-        return kind.new(*given)
-    maker: Any = kind
-    return maker.__new__(maker, *given)

@@ -20,6 +20,8 @@ from ._substitute import IS_JUDGED, IS_WRAPPER, Substitute
 from ._substitutes import Piece, substitute_of
 
 Pair = Tuple[str, str]
+Told = Tuple[List[Piece], bool, int, int, int]
+"""What is told of a pickle, as `walk.h` has it."""
 
 _MOST = 1 << 10
 """More than the names that `uses.c` numbers, and what it divides a role by."""
@@ -91,9 +93,11 @@ class Uses:
         number_of = self._number_of
         if self._numbers is _SHARED:
             number_of = _shared_old if is_old else _shared_new
-        pieces, self.is_whole, number, place, self.judges = uses(
-            self._kept, data, at, number_of, self.takes_any
-        )
+        return self.taken(uses(self._kept, data, at, number_of, self.takes_any))
+
+    def taken(self, told: Told) -> List[Piece]:
+        """The same, of what is told of the pickle."""
+        pieces, self.is_whole, number, place, self.judges = told
         if place >= 0 and number == 0:
             raise Misused(
                 f"at byte {place:,} an object gets a state or items that the pickle hasn't made, or"
@@ -115,10 +119,11 @@ class Uses:
         return self._numbers.number(pair, self._own.get(pair, role))
 
 
-def begin(guard: Guard) -> None:
-    """Has a guard find out by itself whether a pickle needs another reader than that of `pickle`.
+def begin(guard: Guard, judges: Any) -> None:
+    """Has a guard find out by itself which reader a pickle needs, and load what needs no
+    substitutes.
     """
-    begin_judging(guard, _shared_new, _shared_old)
+    begin_judging(guard, _shared_new, judges)
 
 
 @functools.lru_cache(maxsize=4096)

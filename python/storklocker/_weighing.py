@@ -18,15 +18,19 @@ if TYPE_CHECKING:
 
 MOST, DEEPEST = 1_000_000, 1_000
 """The most parts and levels of a value, as a tree: those that a key may have by default."""
+SHOWN = 14_000
+"""The most bits of a number that is shown: somewhat less than CPython's 4,300 digits."""
 SCALARS = (
     type(None), bool, int, float, complex, str, bytes, bytearray, type(...), datetime.date,
     datetime.datetime, datetime.time, datetime.timedelta, datetime.timezone,
 )
 CONTAINERS = (list, tuple, set, frozenset, dict)
 """The classes of containers that a pickle fills itself."""
+_LONG = 1 << 64
 _ROWS = (str, bytes, bytearray, list, tuple, dict, set, frozenset, deque)
 _NAMES = (type, types.ModuleType, types.FunctionType, types.BuiltinFunctionType, types.MethodType)
-_Cost = Tuple[int, int]
+_Cost = Tuple[int, int, int]
+"""The number of parts as a tree, and of its levels, and what its numbers and texts take beside."""
 
 
 class Scales:
@@ -35,14 +39,16 @@ class Scales:
     def __init__(self, reader: Reader, are_keys: bool) -> None:
         self._held, self._are_keys = reader.itself, are_keys
         self._costs: Dict[int, Tuple[Any, _Cost]] = {}
-        """The parts by id, each with the number of its parts as a tree, and of its levels."""
+        """The parts by id."""
 
     def weigh(self, value: Any) -> int:
-        """The number of parts of a value. Raises Misused if it has too many, or contains itself."""
-        size, levels = self._cost(value)
+        """The number of parts of a value, and the length of those that are long. Raises Misused if
+        it has too many parts, or contains itself.
+        """
+        size, levels, length = self._cost(value)
         if size > MOST or levels > DEEPEST:
             raise Misused("a value has too many parts, counted as often as they occur")
-        return size
+        return size + length
 
     def _cost(self, value: Any) -> _Cost:
         left: List[Tuple[Any, Any]] = [(value, None)]
@@ -55,7 +61,7 @@ class Scales:
                 inside = self._parts_of(part)
                 reader: Any = self._held()
                 reader.step(1 + len(inside))
-                self._costs[id(part)] = (part, (-1, 0))  # (as long as it is open)
+                self._costs[id(part)] = (part, (-1, 0, 0))  # (as long as it is open)
                 left.append((part, inside))
                 left += [(it, None) for it in inside]
             else:
@@ -67,14 +73,28 @@ class Scales:
             raise Misused("a value that is copied or shown contains itself")
 
     def _sum(self, inside: Iterable[Any]) -> _Cost:
-        size, levels = 1, 0
+        size, levels, length = 1, 0, 0
         for it in inside:
-            own, deep = self._of(it)
+            own, deep, its = self._of(it)
             size, levels = min(size + own, MOST + 1), max(levels, deep)
-        return size, min(levels + 1, DEEPEST + 1)
+            length = min(length + its, 1 << 62)
+        return size, min(levels + 1, DEEPEST + 1), length
 
     def _of(self, part: Any) -> _Cost:
-        return (1, 0) if type(part) in SCALARS else self._costs[id(part)][1]
+        if type(part) in SCALARS:
+            return 1, 0, self._length(part)
+        return self._costs[id(part)][1]
+
+    def _length(self, part: Any) -> int:
+        """What a plain value takes beside a part: the words of a number, whose hash it doesn't
+        keep, or the text that is shown. That of a number takes much time.
+        """
+        if type(part) is not int:
+            is_text = not self._are_keys and type(part) in (str, bytes, bytearray)
+            return len(part) if is_text else 0
+        if not self._are_keys and part.bit_length() > SHOWN:
+            raise Misused("a number that is shown has too many digits")
+        return part.bit_length() >> 6
 
     def _parts_of(self, part: Any) -> List[Any]:
         """What a hash, or for other values anything, may look at."""
@@ -102,7 +122,9 @@ def keys_of(reader: Reader, keys: Iterable[Any]) -> None:
     total = 0
     for key in keys:
         total += 1
-        if type(key) not in SCALARS:
+        if type(key) is int:
+            total += 0 if -_LONG < key < _LONG else key.bit_length() >> 6
+        elif type(key) not in SCALARS:
             total += reader.keys.weigh(key)
     reader.pay(total)
 

@@ -24,6 +24,7 @@ ARCHIVE = os.environ.get("STORKLOCKER_ARCHIVE", str(GUARD / "out" / "libpkguard.
 PROGRAM = os.environ.get("PKTOOL", str(ROOT / "pktool"))
 COMPILER = os.environ.get("CC", "cc")
 IMPORTED_FROM = pathlib.Path(storklocker.__file__).resolve().parents[1]
+ITS_PROGRAM = str(IMPORTED_FROM / "storklocker" / "pktool")
 
 LIST_TEXT = (
     b"version = 1\n[imports]\n" b'collections = ["OrderedDict", "deque"]\ndatetime = ["datetime"]\n'
@@ -48,9 +49,11 @@ def needs(*things):
     """Skips a test where a program, a file, a module (`module:NAME`) or what several processes
     share (`semaphores`) is missing.
 
-    The gate (STORKLOCKER_STRICT) has just built the archive: there it must not be missing.
+    The gate (STORKLOCKER_STRICT) has just built the archive and the program: there they must not be
+    missing.
     """
-    wanted = [it for it in things if it != ARCHIVE or "STORKLOCKER_STRICT" not in os.environ]
+    built = (ARCHIVE, ITS_PROGRAM) if "STORKLOCKER_STRICT" in os.environ else ()
+    wanted = [it for it in things if it not in built]
     missing = [it.rpartition(":")[2].rpartition("/")[2] for it in wanted if not _has(it)]
     return unittest.skipIf(missing, f"there is no {', '.join(missing)}")
 

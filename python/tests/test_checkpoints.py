@@ -286,8 +286,9 @@ class Numbers(unittest.TestCase):
 
     def test_pickles(self):
         other = b"ca_module\nwith_a_name\n)R."
+        long = b"ccollections\nOrderedDict\n0V" + b"a" * 5_000 + b"\n0" + RUNS
         for name, data in (
-            ("m/data/0", RUNS), ("m/data/0", EVIL), ("m/data/0", b"\x80\2" + other),
+            *(("m/data/0", data) for data in (RUNS, EVIL, long, b"\x80\2" + other)),
             ("m/data/x", other), ("m/others/0", other), ("n/data/0", other),
         ):
             self.assertTrue(self.is_red((name, data)), (name, data))

@@ -211,7 +211,7 @@ class Command(unittest.TestCase):
         path.write_bytes(ATTACK)
         listed = ("--allow", str(self.folder / "list.toml"))
         for words, status in (
-            ((), 0), (("--fail-on", "warning"), 1), (listed, 1),
+            ((), 1), (("--fail-on", "warning"), 1), (listed, 1),
             ((*listed, "--fail-on", "warning"), 1), (("--fail-on", "danger"), 0),
         ):
             for form in ("table", "json", "sarif", "html", "junit"):

@@ -136,7 +136,7 @@ class Findings(unittest.TestCase):
         for name in HARMLESS:
             self.assertEqual(kinds(name), [], name)
 
-    def test_what_nobody_has_judged_is_a_note(self):
+    def test_what_nobody_has_judged(self):
         for name in ("shop.orders.Order", "collections.OrderedDict.fromkeys", "os2.system"):
             self.assertEqual(kinds(name), ["unknown-import"], name)
         self.assertEqual([it.kind for it in import_findings([(None, None)])], ["hidden-import"])
@@ -160,13 +160,13 @@ class Findings(unittest.TestCase):
 
 
 class Lint(unittest.TestCase):
-    def linted(self, text):
+    def linted(self, text, *words):
         with tempfile.TemporaryDirectory() as folder:
             path = Path(folder, "list.toml")
             path.write_text(text, encoding="utf-8")
             out = io.StringIO()
             with contextlib.redirect_stdout(out):
-                status = main(["lint", str(path)])
+                status = main(["lint", str(path), *words])
         return status, out.getvalue()
 
     def test_shipped_lists_have_no_dangers(self):
@@ -191,6 +191,13 @@ class Lint(unittest.TestCase):
         self.assertEqual(status, 1)
         self.assertIn("dangerous: builtins.getattr", out)
         self.assertIn("1 dangerous, 0 warnings, 1 not judged", out)
+
+    def test_a_list_of_unjudged_names_has_a_status_of_its_own(self):
+        text = 'version = 1\n[imports]\nbuiltins = ["set"]\nshop = ["Order"]\n'
+        self.assertEqual(self.linted(text)[0], 3)
+        self.assertEqual(self.linted(text, "--fail-on", "danger")[0], 0)
+        self.assertEqual(self.linted(text.replace("set", "exec"))[0], 1)
+        self.assertEqual(self.linted(text.partition("shop")[0])[0], 0)
 
 
 if __name__ == "__main__":

@@ -19,6 +19,8 @@ from storklocker.scanning.formats import table
 from storklocker.scanning.html import FOUND, page
 from storklocker.scanning.judging import Question, reports_of
 from storklocker.scanning.report import Finding, Report
+from storklocker.scanning.sarif import MOST as MOST_RESULTS
+from storklocker.scanning.sarif import as_sarif
 from storklocker.scanning.words import Word
 from test_scanning import BAD, GOOD, npy, zipped
 
@@ -48,10 +50,11 @@ class Formats(unittest.TestCase):
 
     def test_statuses(self):
         self.files()
-        for name, by_default in (("bad", 1), ("partial", 0), ("unknown", 0), ("cut.npy", 2)):
-            self.assertEqual(self.run_command("scan", self.folder / "f" / name)[0], by_default)
-        order = ("never", "refused", "danger", "warning", "note")
-        for name, first in (("bad", 2), ("partial", 3), ("unknown", 4), ("good", 5)):
+        by_default = {"bad": 1, "partial": 1, "unknown": 1, "good": 0, "cut.npy": 2}
+        for name, status in by_default.items():
+            self.assertEqual(self.run_command("scan", self.folder / "f" / name)[0], status)
+        order = ("never", "refused", "danger", "warning", "unknown", "note")
+        for name, first in (("bad", 2), ("partial", 3), ("unknown", 4), ("good", 6)):
             for place, word in enumerate(order):
                 words = ("scan", self.folder / "f" / name, "--fail-on", word)
                 self.assertEqual(self.run_command(*words)[0], int(place >= first), words)
@@ -72,23 +75,25 @@ class Formats(unittest.TestCase):
         suite = ET.fromstring(out.encode())[0]
         cases = {case.get("name").rpartition("/f/")[2]: case for case in suite}
         self.assertEqual(len(cases), int(suite.get("tests")))
-        self.assertEqual((suite.get("failures"), suite.get("errors")), ("2", "1"))
+        self.assertEqual((suite.get("failures"), suite.get("errors")), ("4", "1"))
         self.assertEqual(cases["bad"][0].tag, "failure")
         self.assertIn("posix.system", cases["bad"][0].get("message"))
         self.assertEqual(cases["cut.npy"][0].tag, "error")
-        self.assertEqual(cases["partial"][0].tag, "system-out")
+        self.assertEqual(cases["partial"][0].tag, "failure")
         self.assertEqual(list(cases["good"]), [])
         self.assertEqual(cases["deep/bad.bin!a]]><b"][0].tag, "failure")
         _, out = self.run_command("scan", self.folder / "f", "--format", "junit",
-                                  "--fail-on", "note")
-        self.assertEqual(ET.fromstring(out.encode())[0].get("failures"), "4")
+                                  "--fail-on", "danger")
+        suite = ET.fromstring(out.encode())[0]
+        self.assertEqual(suite.get("failures"), "2")
+        self.assertEqual(len(suite.findall("testcase/system-out")), 2)
 
     def test_sarif(self):
         _, out = self.run_command("scan", self.files(), "--format", "sarif")
         run = json.loads(out)["runs"][0]
         levels = {result["ruleId"]: result["level"] for result in run["results"]}
         self.assertEqual(levels, {
-            "dangerous-import": "error", "risky-import": "warning", "unknown-import": "note",
+            "dangerous-import": "error", "risky-import": "warning", "unknown-import": "warning",
             "broken-pickle": "warning",
         })
         rules = {rule["id"] for rule in run["tool"]["driver"]["rules"]}
@@ -122,6 +127,42 @@ class Formats(unittest.TestCase):
             self.assertIn("left out by --include and --exclude", errors.getvalue())
         lone = ("scan", self.folder / "f" / "bad", "--exclude", "*")
         self.assertEqual(self.run_command(*lone)[0], 1)
+
+
+class Sarif(unittest.TestCase):
+    """What Code scanning takes, beside what the tests against SARIF's schema look at."""
+
+    def log(self, reports):
+        return json.loads("".join(as_sarif(reports, "0.1.0")))["runs"][0]
+
+    def test_the_worst_results_stay(self):
+        kinds = ["unknown-import"] * MOST_RESULTS + ["dangerous-import"] * 3 + ["dangling-link"] * 2
+        reports = [
+            Report(f"f{number}", "pickle", Word.UNKNOWN, findings=(Finding(kind, "w"),),
+                   file=f"f{number}")
+            for number, kind in enumerate(kinds)
+        ]
+        run = self.log(reports)
+        found = [it["ruleId"] for it in run["results"]]
+        self.assertEqual(len(found), MOST_RESULTS)
+        self.assertEqual(found[:4], ["dangerous-import"] * 3 + ["unknown-import"])
+        told = run["invocations"][0]["toolExecutionNotifications"][0]["message"]["text"]
+        self.assertEqual(told, "5 more results are left out: --format json has them")
+        prints = {it["partialFingerprints"]["primaryLocationLineHash"] for it in run["results"]}
+        self.assertEqual(len(prints), MOST_RESULTS)
+
+    def test_where_files_are(self):
+        found = Finding("dangling-link", "w")
+        for path, wanted in (
+            ("./a b/c", "a%20b/c"), (os.path.abspath("d/e"), "d/e"), ("f/../g", "g"),
+            ("a:b", "a%3Ab"), ("/nowhere/h", "file:///nowhere/h"), ("s3://i/j", "s3://i/j"),
+            ("\udcff", "%FF"),
+        ):
+            (it,) = self.log([Report(path, "file", Word.NO_PICKLE, findings=(found,), file=path)])[
+                "results"]
+            place = it["locations"][0]["physicalLocation"]["artifactLocation"]
+            self.assertEqual(place["uri"], wanted)
+            self.assertEqual("uriBaseId" in place, "://" not in wanted)
 
 
 class Terminals(unittest.TestCase):
@@ -162,7 +203,12 @@ class Terminals(unittest.TestCase):
         self.assertIn("1 with names that nobody has judged: in 1 of 1 file, all in", last)
         (folder / "link").symlink_to("nowhere")
         last = self.shown("scan", folder).strip().splitlines()[-1]
-        self.assertIn("2 with notes: in 2 of 2 files, all in", last)
+        self.assertIn("judged, 1 with notes: in 2 of 2 files, all in", last)
+
+    def test_the_table_says_what_to_do_about_unknown_names(self):
+        for data, is_told in ((UNKNOWN, True), (GOOD, False), (BAD, False)):
+            _, *told, _ = table(reports_of("x", io.BytesIO(data), Question()))
+            self.assertEqual(any("`storklocker learn`" in line for line in told), is_told, data)
 
 
 class Looks(unittest.TestCase):

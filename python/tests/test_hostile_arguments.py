@@ -1,5 +1,7 @@
-"""Hostile arguments for the names of ready-made lists of Python's library, under this Python.
-`hostile/arguments.py` tries those of all lists.
+"""What hostile pickles do under ready-made lists, under this Python: nothing.
+
+`hostile/arguments.py` calls every name of every list with whatever a pickle can make, and
+`hostile/generated.py` loads as many generated pickles as it is told. Here are a few of both.
 """
 
 import os
@@ -9,21 +11,38 @@ import unittest
 
 from common import IMPORTED_FROM, PYTHON
 
-SCRIPT = PYTHON / "tests" / "hostile" / "arguments.py"
-NAMED = "STANDARD_TYPES COLLECTIONS".split()
+HOSTILE = PYTHON / "tests" / "hostile"
 
 
-class Arguments(unittest.TestCase):
-    @unittest.skipUnless(hasattr(os, "fork"), "children are forked")
-    @unittest.skipIf(sys.implementation.name == "pypy", "PyPy's collector takes memory as it likes")
-    def test_nothing_runs_or_takes_much(self):
+@unittest.skipUnless(hasattr(os, "fork"), "children are forked")
+@unittest.skipIf(sys.implementation.name == "pypy", "PyPy's collector takes memory as it likes")
+class Hostile(unittest.TestCase):
+    def run_of(self, script, *words):
+        """What a script prints that finds nothing."""
         ran = subprocess.run(
-            [sys.executable, str(SCRIPT), "--seconds", "20", *NAMED],
+            [sys.executable, str(HOSTILE / script), "--seconds", "20", *words],
             stdout=subprocess.PIPE, stderr=subprocess.STDOUT, encoding="utf-8", errors="replace",
             env={**os.environ, "PYTHONPATH": str(IMPORTED_FROM), "PYTHONDONTWRITEBYTECODE": "1"},
         )
         self.assertEqual(ran.returncode, 0, ran.stdout[-3000:])
-        self.assertRegex(ran.stdout, r"[2-9]\d names of storklocker.lists, 0 findings")
+        return ran.stdout
+
+    def test_arguments(self):
+        told = self.run_of("arguments.py", "STANDARD_TYPES", "COLLECTIONS")
+        self.assertRegex(told, r"[2-9]\d names of storklocker.lists, 0 findings")
+
+    def test_generated_pickles(self):
+        told = self.run_of("generated.py", "--few", "--pickles", "1000")
+        self.assertRegex(told, r"EXCEPTIONS: 1,000 pickles, \d\d\d accepted, \d\d\d loaded, 0 f")
+
+    def test_what_is_wrong_is_found(self):
+        """The control: the same, without a guard."""
+        ran = subprocess.run(
+            [sys.executable, str(HOSTILE / "unguarded.py")], stdout=subprocess.PIPE,
+            env={**os.environ, "PYTHONPATH": str(IMPORTED_FROM)}, encoding="utf-8",
+        )
+        for word in ("takes too long", "memory", "process ended", "dangerous", "changes what was"):
+            self.assertIn(word, ran.stdout)
 
 
 if __name__ == "__main__":

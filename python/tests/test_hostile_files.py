@@ -317,7 +317,7 @@ class HostileFiles(unittest.TestCase):
                 uri = place["physicalLocation"]["artifactLocation"]["uri"]
                 self.assertTrue(uri.endswith(name.replace("!", "%21")), uri)
                 self.assertEqual("logicalLocations" in place, bool(member))
-                self.assertEqual("region" in place["physicalLocation"], not member)
+                self.assertEqual("byteOffset" in result["properties"], not member)
         bad = b"\x80\x04\x8c\x0e[x](http://a)\n\x8c\x01y\x93."
         path = self.put("file", bad)
         _, out = self.run_command("scan", path, "--format", "sarif", "--allow", self.list)
@@ -345,7 +345,7 @@ class HostileFiles(unittest.TestCase):
             self.assertEqual(status, 2)
             self.assertIn("no-list", errors)
         for jobs in ("x", "-1", "1000", "1_0", ""):
-            status, _, errors = told("scan", path, "--jobs", jobs)
+            status, _, errors = told("scan", path, f"--jobs={jobs}")
             self.assertEqual(status, 2)
             self.assertIn("expected a number from 1 to 256", errors)
 

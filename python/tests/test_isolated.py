@@ -104,6 +104,20 @@ class Resuming(unittest.TestCase):
         self.assertEqual(same[0], same[1], "the control")
         self.assertEqual(self.scans(*words)[::2], (1, ["a"]))
 
+    def test_a_file_in_place_of_another_of_its_size_and_time(self):
+        (self.folder / "f").mkdir()
+        words, path = ("--resume", self.folder / "store"), self.put("f/a", GOOD)
+        self.assertEqual(self.scans(*words)[::2], (0, ["a"]))
+        before = os.stat(path)
+        other = self.put("other", BAD.ljust(len(GOOD), b"."))
+        os.utime(other, ns=(before.st_atime_ns, before.st_mtime_ns))
+        os.replace(other, path)
+        after = os.stat(path)
+        same = [(it.st_size, it.st_mtime_ns) for it in (before, after)]
+        self.assertEqual(same[0], same[1], "the control")
+        self.assertNotEqual(before.st_ino, after.st_ino)
+        self.assertEqual(self.scans(*words)[::2], (1, ["a"]))
+
     def test_what_could_not_be_read_is_read_again(self):
         (self.folder / "f").mkdir()
         self.put("f/a", GOOD)

@@ -31,8 +31,8 @@ def records(*pickles):
     return b"".join(struct.pack(">L", len(it)) + it for it in pickles)
 
 
-def told(data, name="file"):
-    return list(reports_of(name, io.BytesIO(data), Question()))
+def told(data, name="file", question=Question()):
+    return list(reports_of(name, io.BytesIO(data), question))
 
 
 class Kinds(unittest.TestCase):
@@ -52,7 +52,8 @@ class Kinds(unittest.TestCase):
         for data, is_counted in ((BINARY, True), (PNG, False), (GOOD, False)):
             for choice in ("note", UNRECOGNIZED):
                 summary = Summary(choice)
-                list(summary.heard(told(data)))
+                question = Question(with_unrecognized=choice == UNRECOGNIZED)
+                list(summary.heard(told(data, question=question)))
                 self.assertEqual(summary.is_found, is_counted and choice == UNRECOGNIZED)
 
     def test_safetensors(self):
@@ -73,6 +74,8 @@ class Kinds(unittest.TestCase):
     def test_pickles_in_other_stores(self):
         for name, make in (
             ("records", lambda data: records(GOOD, data)),
+            ("old records", lambda data: records(b"}.", data[2:] if data == EVIL else data)),
+            ("cut records", lambda data: records(GOOD, data, GOOD)[: -len(GOOD)]),
             ("ZODB", lambda data: b"FS21" + bytes(40) + data),
             ("SequenceFile", lambda data: b"SEQ\6\x21org.apache.hadoop.io" + bytes(40) + data),
             ("msgpack-numpy", lambda data: b"\x85\xc4\2nd\xc3\xc4\4kind\xc4\1O" + data),

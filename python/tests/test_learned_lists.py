@@ -129,6 +129,19 @@ class Lists(Learning):
         path.write_text(path.read_text() + '[substitutes]\n"builtins.getattr" = "a of b.C"\n')
         self.assertNotIn("ByValue", self.run_command("lint", path)[1])
 
+    def test_unjudged_names_stand_below_a_comment(self):
+        path = self.folder / "a.pickle"
+        path.write_bytes(b"\x80\x02cshop\nOrder\nccollections\nUnheard\nccollections\ndeque\n\x87.")
+        out = self.run_command("learn", path)[1]
+        said = [line.strip().partition(",")[0] for line in out.splitlines()]
+        unjudged = [line for line in said if line.startswith("# Nobody has judged")]
+        self.assertEqual(len(unjudged), 2)
+        wanted = ['"collections" = [', '"deque"', unjudged[0], '"Unheard"', "]",
+                  '"shop" = [', unjudged[0], '"Order"', "]"]
+        at = said.index(wanted[0])
+        self.assertEqual(said[at : at + len(wanted)], wanted)
+        self.assertEqual(len(AllowList.from_text(out)), 3)
+
     def test_diff(self):
         old, new = self.folder / "old.toml", self.folder / "new.toml"
         old.write_text('version = 2\n[imports]\na = ["b", "c"]\n[limits]\nstack = 5\n')

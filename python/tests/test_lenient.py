@@ -1,10 +1,13 @@
 """What any reader of CPython's imports is named: the readers in C and in Python are asked, too.
 
-    python3 test_lenient.py --fronts 1000000     more of the generated fronts than the gate has
+    python3 test_lenient.py --fronts 1000000 [SEED]
+
+compares more of the generated fronts than the gate does. Another state of the sources has others.
 """
 
 import io
 import os
+import pathlib
 import pickle
 import random
 import struct
@@ -13,14 +16,18 @@ import sys
 import unittest
 import warnings
 import zipfile
+import zlib
 
+from storklocker.scanning import lenient
 from storklocker.scanning.judging import Question, reports_of
 from storklocker.scanning.lenient import UNKNOWN, followed_from
 from storklocker.scanning.severity import DANGER, UNREADABLE
 from storklocker.scanning.source import in_memory
 
-FRONTS, STORED = 12_000, 3_000
-SEED = 20261130
+FRONTS, STORED = 8_000, 3_000
+SEED = zlib.crc32(b"".join(
+    it.read_bytes() for it in sorted(pathlib.Path(lenient.__file__).parent.glob("*.py"))
+))
 MEMORY = 1 << 31
 """What a reader may take, which makes room for any number before it looks for the bytes."""
 
@@ -45,7 +52,11 @@ COUNTED = (
 )
 PLAIN = b"(012N\x88\x89]})aesutld\x85\x86\x87\x8f\x90\x91bRoQ\x81\x92\x97\x98\x94((0t.\x93"
 NAMES = (b"os\nsystem\n", b"a.b\nc.d\n", b"os\0x\nsystem\n", b"a b\nc\n", b"\xff\nc\n",
-         b"\xc3\xa9\nc\n")
+         b"\xc3\xa9\nc\n", b"\xe2\x84\x98\nc\n", b"os\n\xed\xa0\x80\n", b"os\r\nsystem\r\n",
+         b"os\n\n", b"os\n system\n", b"os\0\nsystem\0x\n")
+WORDS = ("os", "system", "os", "system", "a.b", "\xe9", "\u2118", "a\xb7b", "\ud800", "", "o s",
+         "os\0x", "a-b", "\U0001d4b3", "-", ".", *"os system a.b".split() * 3, "a" * 1001)
+PLACES = (0, 1, 2, 7, 255, 256, 65_536, 99_999)
 ENDS = (
     b"cos\nsystem\n.", b"\x8c\x02os\x8c\x06system\x93.", b"(S'a'\nios\nsystem\n.", b"ios\nsystem\n",
     b"cos\nsystemX", b"cos\n", b"cosX", b"iosX", b"ios\nsystemX", b"\x93.", b".", b"",
@@ -81,15 +92,17 @@ def text_of(*_):
 class Noting:
     """A reader that notes what it would import, and goes on with something else."""
 
+    buffers = ("os", "system")
+
     def __init__(self, *words, **more):
-        super().__init__(*words, **more)
+        super().__init__(*words, **more, buffers=self.buffers)
         self.asked = []
 
     def find_class(self, module, name):
         if not all(it.isidentifier() for it in module.partition("\0")[0].split(".")):
             raise ImportError  # as it does of each name that no module has
         self.asked.append((module, name))
-        if not name:
+        if not all(it.isidentifier() for it in name.split(".")):
             raise AttributeError  # no module has that
         return text_of if len(self.asked) % 3 == 2 else Anything
 
@@ -109,6 +122,23 @@ class Written(Noting, pickle._Unpickler):
             raise ValueError
         self.asked.append((None, None))
         self.append(Anything)
+
+
+class Alone:
+    """A reader to which its program gives nothing."""
+
+    buffers = None
+
+    def persistent_load(self, name):
+        raise pickle.UnpicklingError
+
+
+class CompiledAlone(Alone, Compiled):
+    """The one in C."""
+
+
+class WrittenAlone(Alone, Written):
+    """The one in Python."""
 
 
 class Unbuffered(io.RawIOBase):
@@ -143,9 +173,65 @@ def instruction(chosen):
     return bytes([chosen.choice(PLAIN)])
 
 
+def written(word, chosen):
+    """Instructions that make a text."""
+    data = word.encode("utf-8", "surrogatepass")
+    kind = chosen.randrange(9)
+    if kind < 3:
+        code, width = ((b"\x8c", 1), (b"X", 4), (b"\x8d", 8))[kind]
+        data = data[: (1 << 8 * width) - 1]
+        return code + len(data).to_bytes(width, "little") + data
+    if kind == 3:
+        return b"V" + word.encode("raw-unicode-escape", "surrogatepass") + b"\n"
+    if kind == 4:
+        return b"V" + b"".join(b"\\U%08x" % ord(it) for it in word) + b"\n"
+    if kind == 5:
+        return b"T" + struct.pack("<i", len(data)) + data
+    if kind == 6:
+        return b"U" + bytes([min(len(data), 255)]) + data[:255]
+    form = chosen.choice((b"\\x%02x", b"\\%03o", b"\\%o", b"%c"))
+    return b"S'" + b"".join(form % it for it in data) + b"'\n"
+
+
+def placed(letters, chosen):
+    """An instruction of the memo: GET or PUT, in one of its forms."""
+    place, form = chosen.choice(PLACES), chosen.randrange(3)
+    if form == 0:
+        line = chosen.choice((b"%d", b" %d", b"%d ", b"0%d", b"+%d", b"%d\0", b"%d_0")) % place
+        return letters[:1] + line + b"\n"
+    if form == 1:
+        return letters[1:2] + bytes([place & 255])
+    return letters[2:] + struct.pack("<I", place)
+
+
+def stored_text(chosen):
+    """A text that stands on the stack, in the memo, or below other values."""
+    made = written(chosen.choice(WORDS), chosen)
+    kind = chosen.randrange(8)
+    kept = placed(b"pqr", chosen)
+    ways = (b"", b"2", b"\x94", kept, b"20", b"(0", b"(N1", instruction(chosen) + b"0")
+    return made + ways[kind] + (b"0" if kind in (2, 3) and chosen.random() < 0.5 else b"")
+
+
+def spelled(chosen):
+    """Instructions that find the texts of an import by all ways."""
+    parts = [stored_text(chosen) for _ in range(chosen.randint(1, 4))]
+    for _ in range(chosen.randint(0, 3)):
+        parts.append(chosen.choice((
+            placed(b"ghj", chosen), b"2", b"0", b"(", b"1", b"h\0h\1", b"\x97", b"Pos\n", b"NQ",
+            placed(b"pqr", chosen), b"cos\nsystem\n)R", b"cos\nsystem\n)R}b", instruction(chosen),
+        )))
+    ends = (b"\x93", b"\x93", b"\x93", b"o", b"ios\nsystem\n", b"\x82\1\x93")
+    parts.append(chosen.choice(ends))
+    return parts
+
+
 def front(chosen):
     """The bytes of a pickle, perhaps a broken one, perhaps in a frame."""
-    parts = [instruction(chosen) for _ in range(chosen.randint(1, 12))]
+    if chosen.random() < 0.5:
+        parts = [instruction(chosen) for _ in range(chosen.randint(1, 12))]
+    else:
+        parts = [it for _ in range(chosen.randint(1, 3)) for it in spelled(chosen)]
     data = b"".join(parts) + chosen.choice(ENDS)
     kind = chosen.random()
     if kind < 0.15:
@@ -157,12 +243,18 @@ def front(chosen):
     return data
 
 
+def buffered(data):
+    """A file that can look ahead."""
+    return io.BufferedReader(io.BytesIO(data))
+
+
 def imported(data, kinds=(Compiled, Written)):
     """What the readers ask for, and whether one gets to STOP."""
     asked, is_ended = {}, False
+    has_bytes = any(code in data for code in b"STU")
     for kind in kinds:
-        for opened in (io.BytesIO, Unbuffered) if kind is Compiled else (io.BytesIO,):
-            for coding in ("ASCII", "latin1", "bytes"):
+        for opened in (io.BytesIO, Unbuffered, buffered) if kind is Compiled else (io.BytesIO,):
+            for coding in ("ASCII", "latin1", "bytes") if has_bytes else ("ASCII",):
                 reader = kind(opened(data), encoding=coding)
                 try:
                     reader.load()
@@ -220,8 +312,9 @@ def main(count, seed):
     confine()
     *different, (_, imports) = compared(count, seed)
     for data, said in different[:50]:
-        print(data, said)
+        print(data[:400], said[:400])
     print(f"{len(different)} of {count} fronts differ; {imports} import something")
+    print(f"seed {seed}")
     return bool(different) or int(imports) < count // 10
 
 
@@ -261,12 +354,12 @@ class Lenient(unittest.TestCase):
             warnings.simplefilter("ignore")
             for _ in range(STORED):
                 data = b"(0" * chosen.randrange(2) + front(chosen)
-                if ("os", "system") not in imported(data)[0]:
+                if ("os", "system") not in imported(data, (CompiledAlone, WrittenAlone))[0]:
                     continue
                 runs += 1
-                files = [numbers] if data[:1] in b"PQ" else [cached, numbers]
+                files = [cached, numbers]
                 # (where these end a value isn't known, so no line is the last; C wants all lines)
-                if ("os", "system") in imported(data, (Compiled,))[0]:
+                if ("os", "system") in imported(data, (CompiledAlone,))[0]:
                     files += [gdbm, lmdb]
                 for made in files:
                     self.assertTrue(is_told(made(data)), (made.__name__, data))

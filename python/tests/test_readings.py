@@ -4,6 +4,7 @@ import bz2
 import gzip
 import importlib.util
 import io
+import itertools
 import lzma
 import pickle
 import random
@@ -275,6 +276,36 @@ class Readings(unittest.TestCase):
         names = ("xz behind lzma", "lzma behind xz", "xz behind zeros", "lzma of another window")
         for name in names:
             self.assertIn(RUNS, lzma.LZMAFile(io.BytesIO(HOSTILE[name])).read(), name)
+
+    def test_two_streams_of_lzma_alone(self):
+        """Each with any properties, and with its size or without, in front of the mark of its end.
+        """
+        made = 0
+        for lc, lp, pb in itertools.product(range(5), repeat=3):
+            if lc + lp > 4:
+                continue
+            for sizes in itertools.product((False, True), repeat=2):
+                streams = [b"", b""]
+                for place, data in enumerate((b"c", RUNS[1:])):
+                    packed = alone(data, lc=lc, lp=lp, pb=pb)
+                    size = len(data).to_bytes(8, "little") if sizes[place] else packed[5:13]
+                    streams[place] = packed[:5] + size + packed[13:]
+                whole = b"".join(streams)
+                with lzma.open(io.BytesIO(whole), format=lzma.FORMAT_ALONE) as file:
+                    self.assertEqual(file.read(), RUNS)
+                with lzma.open(io.BytesIO(whole)) as file:
+                    self.assertEqual(file.read(), RUNS)
+                found = reports(whole, storklocker.AllowList([]))
+                self.assertTrue(any(it.is_finding for it in found), (lc, lp, pb, sizes))
+                made += 1
+        self.assertEqual(made, 300)
+
+    def test_a_tar_file_whose_first_name_looks_like_a_memo_number(self):
+        """The line ends where a line feed is in a member: far behind the name."""
+        for name in ("m/0.pkl", "abcdp1.bin", "abcdg/text"):
+            data = tar(header(name.encode(), 9_000), b"\x01" * 8_999 + b"\n")
+            found = reports(data, storklocker.AllowList([]))
+            self.assertNotIn("cachelib", {it.kind for it in found}, name)
 
     def test_lzma_alone_may_begin_with_zeros(self):
         plain = {"id": lzma.FILTER_LZMA1, "lc": 0, "lp": 0, "pb": 0, "dict_size": 1 << 18}

@@ -62,6 +62,11 @@ CALLS["uses"] = lambda: _storklocker.uses(
     _storklocker.begin_uses(), NAMED, 0, lambda *it: 1 + ROLE, True
 )
 assert CALLS["uses"]()[1], "it is followed to its end"
+import argparse, collections, pickle
+JUDGED = pickle.dumps([collections.OrderedDict(a=1), argparse.Namespace(a=1)], 4)
+JUDGING = storklocker.Guard(storklocker.AllowList([collections.OrderedDict, argparse.Namespace]))
+CALLS["judged"] = lambda: JUDGING.loads(JUDGED)
+assert CALLS["judged"]() == CALLS["judged"]() == [{"a": 1}, argparse.Namespace(a=1)]
 try:
     from _testcapi import set_nomemory, remove_mem_hooks
 except ImportError:
@@ -138,6 +143,7 @@ class Sanitized(unittest.TestCase):
             "test_guarded_files.Files",
             "test_loads.Memory",
             "test_joblib_files.Hastened",
+            "test_judging",
             "test_builds",
             "test_uses",
             "test_walk",

@@ -11,11 +11,15 @@ import sys
 import tempfile
 import time
 import unittest
+import zlib
 
 import storklocker
 from common import needs
 from test_readings import HDF5, header, npy, tar, with_record
 
+DEFLATE = b"\x0b\0\x18\0\0\0\0\0\1\1\0\0\0\0\0\0\1\0\0\0\1\0\1\0\6\0\0\0\0\0\0\0"
+PACKED = HDF5 + DEFLATE
+"""The front of a file of HDF5, and a message of a header that says that chunks are packed."""
 SECONDS = 20
 """The most processor time for a file of at most a megabyte: ten times what a quiet machine takes,
 so that a slow one does, and what has no bound doesn't.
@@ -76,6 +80,9 @@ class Cost(unittest.TestCase):
             "words": HDF5 + (b"c" * 99 + b"\n") * 10_000, "lines": HDF5 + b"V" * 1_000_000,
             "modules": HDF5 + b"\x8c\x02os" * 250_000, "tails": HDF5 + b"\x8c\x02osV" * 190_000,
             "imports": HDF5 + b"\x8c\x02osN0\x93" * 140_000, "NULs": HDF5 + b"cos\0" * 250_000,
+            "streams": PACKED + b"\x78\x9c" * 500_000,
+            "empty": PACKED + zlib.compress(b"") * 120_000,
+            "chunk": PACKED + zlib.compress(bytes(range(256)) * 400_000, 9),
             "endless": tar(header(b"a", -512), b"") * 2,
         }
         for name, data in made.items():

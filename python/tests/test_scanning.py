@@ -225,7 +225,7 @@ class Scanning(unittest.TestCase):
     def test_check_and_imports(self):
         good, bad = self.put("good", GOOD), self.put("bad", BAD)
         status, out = self.run_command("check", "--allow", self.list, good)
-        self.assertEqual((status, out), (0, f"yes: {len(GOOD)} bytes, 2 names\n"))
+        self.assertEqual((status, out), (0, f"yes: {len(GOOD)} bytes, 2 imports\n"))
         self.assertEqual(self.run_command("check", "--allow", self.list, good, bad)[0], 1)
         status, out = self.run_command("imports", bad)
         self.assertEqual(out.splitlines()[0], '"posix" "system"')

@@ -1,7 +1,9 @@
 """`scan` on SQLite's files: values in chains of pages, logs and journals, values of odd files."""
 
+import base64
 import colorsys
 import datetime
+import itertools
 import pathlib
 import pickle
 import random
@@ -11,6 +13,7 @@ import struct
 import tempfile
 import time
 import unittest
+import zlib
 
 from storklocker import AllowList
 from storklocker.scanning.sqlite_pages import DATABASE, JOURNAL, LOGS
@@ -228,6 +231,47 @@ class Broken(Case):
             for front in (DATABASE, JOURNAL, *LOGS):
                 for filled in (b"\0", b"\xff", b"\x05", b"\x02"):
                     self.check(front.ljust(length, filled), False, (front, filled))
+
+
+class Many(Case):
+    """Values of a page that are told by one call."""
+
+    PACKED = {
+        "as it is": (bytes, bytes),
+        "Base64": (lambda data: base64.b64encode(data).decode(), base64.b64decode),
+        "zlib": (zlib.compress, zlib.decompress),
+    }
+
+    def values(self, number):
+        """Honest pickles."""
+        return [pickle.dumps([DAY, it % 9, f"name {it}"], 3 + it % 3) for it in range(number)]
+
+    def test_honest_ones_are_told_together(self):
+        for (name, (pack, unpack)), table in itertools.product(self.PACKED.items(), TABLES):
+            values = self.values(800)
+            packed = [pack(value) for value in values]
+            self.assertEqual([unpack(value) for value in packed], values)
+            size = 512 if table == TABLES[0] else 4096
+            found = reports(self.base(packed, size, table), DAYS)
+            self.assertEqual({it.status for it in found}, {"accepted"}, (name, table, size))
+            self.assertIn("more values like these", found[-1].why)
+            self.assertLess(len(found), 200)
+
+    def test_a_hostile_one_among_them(self):
+        payload = b"\x80\4" + MODULE + NAME + CALL
+        self.assertEqual(pickle.loads(payload), colorsys.rgb_to_hls(0, 0, 0))
+        pairs = (
+            (payload,),
+            (b"\x80\4N.\x80\4C%c" % len(payload[:-1]), payload),  # one row, but other values
+            (payload + b"N.",),
+            (payload[:-1] + b"N.",),
+        )
+        for hostile in pairs:
+            for (name, (pack, _)), place in itertools.product(self.PACKED.items(), (70, 390)):
+                values = [pack(value) for value in self.values(400)]
+                values[place:place] = map(pack, hostile)
+                found = reports(self.base(values), DAYS)
+                self.assertIn("refused", {it.status for it in found}, (name, place, hostile))
 
 
 if __name__ == "__main__":

@@ -43,6 +43,12 @@ class Starters(unittest.TestCase):
                 count += 1
             self.assertGreater(count, 3, name)
 
+    def test_names_of_later_pythons(self):
+        for name, pairs in of_python.LATER.items():
+            for pair in pairs:
+                self.assertIn(pair, getattr(lists, name))
+        self.assertIn(("ConfigParser", "InvalidWriteError"), lists.EXCEPTIONS)
+
     def test_lint_finds_no_danger(self):
         for name in lists.__all__:
             allow = getattr(lists, name)

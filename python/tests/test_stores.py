@@ -76,6 +76,13 @@ class Stores(unittest.TestCase):
         for value in (EVIL, RUNS, b"(" + RUNS, large, pickle.dumps(print, 4)):
             self.check(self.sqlite(*GOOD, value), "SQLite", True)
 
+    def test_blobs_of_digits(self):
+        for spelled in (bytes.hex, lambda data: data.hex().upper(), lambda data: f"{data.hex()}\n"):
+            for value, is_evil in ((GOOD[1], False), (EVIL, True), (pickle.dumps(print, 4), True)):
+                text = spelled(value)
+                self.assertEqual(bytes.fromhex(text), value)
+                self.check(self.sqlite(text), "SQLite, packed", is_evil)
+
     def test_frames_that_end_inside_an_argument(self):
         """`pickle.loads` runs what nobody has judged, behind a frame that readers of files misread.
         """

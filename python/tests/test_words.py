@@ -39,7 +39,7 @@ FILES = {
 WORDS = {
     "": {
         "bad": "dangerous", "bad and cut": "dangerous", "in a row": "dangerous",
-        "partial": "warning", "unknown": "unjudged", "good": "unjudged", "cut": "unreadable",
+        "partial": "warning", "unknown": "unknown", "good": "unjudged", "cut": "unreadable",
         "keys": "warning", "text": "no pickle",
     },
     'version = 2\n[imports]\n"shop.orders" = ["Order"]\n': {

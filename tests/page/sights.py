@@ -105,7 +105,7 @@ def honest_file(stage: Stage) -> None:
     stage.open()
     stage.choose("honest.pickle", honest())
     size = len(honest())
-    line = f"unjudged, pickle: {size} bytes, 1 names"
+    line = f"unjudged, pickle: {size} bytes, 1 imports"
     assert stage.text("line") == line, stage.text("line")
     assert stage.text("caution") == "1 unjudged.", stage.text("caution")
     stage.browser.run("document.querySelector('#imports button').click()")

@@ -12,6 +12,7 @@ import json
 import os
 import pickle
 import shutil
+import sqlite3
 import subprocess
 import tarfile
 import tempfile
@@ -36,7 +37,8 @@ LISTS = {
     '"numpy._core.multiarray" = ["_reconstruct", "scalar"]\n',
 }
 PLACES = ("row of pickles", "pickle")
-LESS = {"packed.bz2": "unreadable", "rows.npy": "unreadable"}
+STORES = ("base", "gdbm", "berkeley", "lmdb", "blocks.h5", "arrow", "parquet", "zodb", "cachelib")
+LESS = dict.fromkeys(("packed.bz2", "rows.npy", "django", *STORES), "unreadable")
 """What the page can't unpack, or doesn't read to its end."""
 
 
@@ -93,9 +95,30 @@ def _files() -> Dict[str, bytes]:
         "packed.bz2": bz2.compress(HOSTILE), "a.tar": _tarred("a.pickle", b"\x80\x02" + HOSTILE),
         "model.zip": _zipped(("m/data.pkl", HOSTILE), ("m/version", b"3\n")),
         "calm.zip": _zipped(("m/data.pkl", HONEST), ("m/data/0", bytes(64))),
+        **_stores(),
         "legacy.pt": legacy + pickle.dumps({"w": 1}, 2) + pickle.dumps(["0"], 2) + bytes(24),
         "hostile legacy.pt": legacy + b"\x80\x02" + HOSTILE + pickle.dumps(["0"], 2) + bytes(24),
     }
+
+
+def _stores() -> Dict[str, bytes]:
+    """Hostile files that only `scan` reads."""
+    evil = b"\x80\x02" + HOSTILE
+    fronts = (
+        b"\xce\x9a\x57\x13", bytes(12) + b"\x61\x15\x06\0",
+        bytes(16) + b"\xde\xc0\xef\xbe", bytes(512) + b"\x89HDF\r\n\x1a\n", b"ARROW1\0\0",
+        b"PAR1", b"FS21",
+    )
+    with tempfile.TemporaryDirectory() as folder:
+        path = Path(folder, "base")
+        base = sqlite3.connect(str(path))
+        base.execute("create table kept (value blob)")
+        base.execute("insert into kept values (?)", (evil,))
+        base.commit()
+        base.close()
+        made = [path.read_bytes(), *(front + bytes(40) + evil for front in fronts)]
+    django = pickle.dumps(9e9, 4) + zlib.compress(evil)
+    return {**dict(zip(STORES, [*made, bytes(4) + evil])), "django": django}
 
 
 def _of_libraries() -> Iterator[Any]:
@@ -128,9 +151,10 @@ def _scanned(name: str, data: bytes, listed: str) -> List[Dict[str, Any]]:
     from storklocker.scanning.judging import Question, reports_of
 
     allow = AllowList.from_text(listed) or None  # (an empty list of the page is none)
-    reports = reports_of(name, io.BytesIO(data), Question(allow))
+    reports = list(reports_of(name, io.BytesIO(data), Question(allow)))
     # (a file that begins otherwise may be one of cachelib's too, which the page doesn't know)
-    return [it.as_dict() for it in reports if it.kind != "cachelib"]
+    known = [it.as_dict() for it in reports if it.kind != "cachelib"]
+    return known or [it.as_dict() for it in reports]
 
 
 def _kinds(parts: Iterable[Dict[str, Any]], word: str) -> Set[str]:

@@ -3,10 +3,10 @@
 
 Each file goes to the real readers in a process of its own (`real.py`), which imports nothing
 unlisted, and through `scan`. It fails if a reader asks for a name off the list and scan finds
-nothing; if that name is dangerous and scan without a list would end with status 0; and if a library
-wrote the file, and scan finds something. A file that fails is named by its number and kept in the
-folder --keep. The last line counts the files. A long run may be done in parts, by --first and
---files.
+nothing; if that name is dangerous and scan without a list would end with status 0; if a library
+wrote the file, and scan finds something; and if a reader never asks for anything. A file that fails
+is named by its number and kept in the folder --keep. The last line counts the files. A long run may
+be done in parts, by --first and --files.
 """
 
 import argparse
@@ -28,6 +28,7 @@ sys.path.append(str(PACKAGE))  # unless PYTHONPATH names another
 
 import made_by_libraries  # noqa: E402
 import progress  # noqa: E402
+import rows  # noqa: E402
 import shapes  # noqa: E402
 from listed import LISTED, may_run  # noqa: E402
 from storklocker import AllowList  # noqa: E402
@@ -178,6 +179,9 @@ def main():
             break
     told = ", ".join(f"{name} {count:,}" for name, count in readers.most_common())
     print(f"asked for a name off the list: {told}; {deaths} files killed a reader")
+    for reader in rows.silent(readers, passed + failed):
+        failed += 1
+        print(f"failed: {reader} asked for nothing")
     print(f"{passed} passed, {failed} failed")
     return 0 if not failed and passed else 1
 

@@ -1,11 +1,11 @@
 -- A check that ends because a pickle exceeds a limit.
 use Rattle.std.proofs.Common.{◌≡◌, ◌+◌, ◌<◌, ℕ, false, List, [], ◌∷◌, ◌++◌, length, append-nil}
 use Rattle.std.proofs.Common.{append_assoc, Option, None, Some, refl, sym, ap, subst, Result, Ok}
-use Rattle.std.proofs.Common.{◌∙◌, arith, Err}
+use Rattle.std.proofs.Common.{◌∙◌, ◌≤◌, ◌^◌, arith, Err}
 use Rattle.std.proofs.lemmas.Grind.{flat_map-append}
 use Rattle.std.proofs.lemmas.List.Elements.{All-head, All-tail, All-cons, All-nil}
 use Rattle.std.specs.Io.KnownBytes.{Consumes, prepend_known}
-use Rattle.std.specs.Prelude.{All, ◌≢◌}
+use Rattle.std.specs.Prelude.{All, ◌≢◌, ◌⊎◌}
 use Rattle.pkops.specs.Limits.{Bounds}
 use Rattle.pkops.specs.Payloads.{payload_limit}
 use Rattle.pkops.specs.Spelling.{Instruction, spelling}
@@ -37,8 +37,9 @@ use Rattle.pkload.specs.Costly.{EndsAbove, ExceedsIn, IsReached, NextTaken, Take
 use Rattle.pkload.specs.Costly.{unread, whole}
 use Rattle.pkload.specs.Laws.{EndsBilled}
 use Rattle.pkload.specs.Private.Meter.{Fits, IsOver}
-use Rattle.pkload.specs.Private.Told.{Metering, ready}
+use Rattle.pkload.specs.Private.Told.{CantBeMetered, Metering, next_if, ready}
 use Rattle.pkload.specs.Tolls.{Exceeds}
+use Rattle.pkload.specs.Unkept.{CantBeKept, IsUnkept}
 use Rattle.pkload.specs.declared.tolls.Excess.{Excess}
 use Rattle.pkload.specs.declared.tolls.Excess.TheVariants.{OutOfMemory}
 use Rattle.pkload.specs.declared.tolls.Tolls.{Tolls}
@@ -275,8 +276,15 @@ module _ (loading : Loading) (policy : Policy) (limits : Bounds) where
     over_ready : (rs : List Report) (m : Metering) → (ready loading.memo m).bill.ended ≡ false
         → Over rs m → Over rs (ready loading.memo m)
     over_ready [] m e o = o
-    over_ready (r ∷ []) m e o =
-        (o.0, λ ne. (made_ready tolls loading r m e ∙ (o.1 ne).0, (o.1 ne).1))
+    over_ready (r ∷ []) m e o = (
+      o.0,
+      record {
+        limit = λ ne. (made_ready tolls loading r m e ∙ (o.1.limit ne).0, (o.1.limit ne).1);
+        unkept = λ out. subst
+            (λ q. CantBeMetered (next_if q loading.memo (ready loading.memo m)) r.told) (sym e)
+            (o.1.unkept out);
+      },
+    )
     over_ready (r ∷ s ∷ rs) m e o = (o.0, made_ready tolls loading r m e ∙ o.1, o.2, o.3)
 
     -- the instruction is reached, and if the bill was kept it exceeds the limit
@@ -285,6 +293,7 @@ module _ (loading : Loading) (policy : Policy) (limits : Bounds) where
       pub behind : TakesNoMore limits reached.there new
       pub number : excess ≢ OutOfMemory → n.pickle ≡ length before
       pub over : excess ≢ OutOfMemory → ExceedsIn loading policy limits tolls here before at excess
+      pub unkept : excess ≡ OutOfMemory → IsUnkept before reached.last reached.earlier
 
     exceeds_in : (before : List Pickle) (here : Sight)
         (k : IsReached loading policy limits tolls here before at)
@@ -332,4 +341,6 @@ module _ (loading : Loading) (policy : Policy) (limits : Bounds) where
           behind = p.behind;
           number = λ ne. k.pickle ne ∙ r.pickle;
           over = λ ne. exceeds_in before here reached (k.adds ne) (k.exceeds ne);
+          unkept = λ out. subst (λ p. (2 ^ 64 ≤ p) ⊎ CantBeKept k.last k.earlier) r.pickle
+              (k.unkept out);
         }

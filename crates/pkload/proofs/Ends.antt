@@ -161,7 +161,7 @@ module _ (loading : Loading) (policy : Policy) (limits : Bounds) (tolls : Tolls)
 
   -- the check ended because of the instruction, and if the bill was kept it exceeds the limit
   pub record EndsOver (old new : Sight) (extent : Extent) : Type 0 where
-    pub stops : StopsAt loading policy limits tolls old new extent at
+    pub stops : StopsAt loading policy limits tolls old new extent at excess
     pub costly : excess ≢ OutOfMemory
         → CostsTooMuch loading policy limits tolls old extent n.pickle at excess
 
@@ -177,6 +177,7 @@ module _ (loading : Loading) (policy : Policy) (limits : Bounds) (tolls : Tolls)
       alone = alone;
       reached = h.reached;
       behind = h.behind;
+      unkept = h.unkept;
     };
     costly = λ ne. let o = h.over ne in
         record {

@@ -1,13 +1,17 @@
 -- The instruction that is too much, found among the reports of a pickle.
 use Rattle.std.proofs.Common.{◌≡◌, ◌+◌, ℕ, false, List, [], ◌∷◌, ◌++◌, length, append-nil}
-use Rattle.std.proofs.Common.{append_assoc, Ok, IfOk, refl, sym, ap, subst, ◌∙◌}
+use Rattle.std.proofs.Common.{append_assoc, Ok, IfOk, refl, sym, ap, subst, ◌∙◌, ◌≤◌, ◌^◌, Bool}
+use Rattle.std.proofs.Common.{true, cond, inl, inr}
 use Rattle.std.proofs.lemmas.List.Elements.{All-head, All-tail, All-cons, All-nil}
-use Rattle.std.specs.Prelude.{All, ◌≢◌}
+use Rattle.std.specs.Prelude.{All, IsTrue, ◌≢◌, ◌⊎◌}
 use Rattle.pkops.specs.Contents.{IsGood}
-use Rattle.pkops.specs.Spelling.{Instruction}
+use Rattle.pkops.specs.Payloads.{is_passed}
+use Rattle.pkops.specs.Spelling.{Instruction, spelling}
+use Rattle.pkops.specs.declared.Op.{Op}
 use Rattle.pkops.specs.declared.Op.TheVariants as op
 use Rattle.pkread.specs.Sequence.{NoStop, spellings}
-use Rattle.pkcheck.specs.Reports.{AreReportsBehind, Report, told_of}
+use Rattle.pkcheck.specs.Reports.{AreReportsBehind, Report, Skipped, Whole, told_of}
+use Rattle.pkmachine.specs.Memory.{WantsNoMemory}
 use Rattle.pkmachine.specs.RowRuns.{Beginning}
 use Rattle.pkstack.specs.Shape.{and_then}
 use Rattle.pkmachine.specs.declared.memo.Memo.{Memo}
@@ -16,7 +20,9 @@ use Rattle.pkload.proofs.Loading.{IsMetered, metered_is}
 use Rattle.pkload.proofs.Tolds.{NoneBehindStop, one_told, still_going}
 use Rattle.pkload.specs.Bill.{Bill, all_billed, billed}
 use Rattle.pkload.specs.Private.Meter.{AllFit, Fits, IsOver}
-use Rattle.pkload.specs.Private.Told.{Metering, all_metered, metered}
+use Rattle.pkload.specs.Private.Told.{CantBeMetered, CantBeTold, Metering, all_metered, metered}
+use Rattle.pkload.specs.Private.Told.{next_if, ready}
+use Rattle.pkload.specs.Unkept.{CantBeKept}
 use Rattle.pkload.specs.Tolls.{Exceeds, KeepsWithin}
 use Rattle.pkload.specs.declared.tolls.Excess.{Excess}
 use Rattle.pkload.specs.declared.tolls.Excess.TheVariants.{OutOfMemory}
@@ -104,6 +110,31 @@ module _ (memo : Memo) (tolls : Tolls) (excess : Excess) (at : ℕ) (n : Meterin
       pub pickle : excess ≢ OutOfMemory → n.pickle ≡ m.pickle
       pub adds : excess ≢ OutOfMemory → billed last earlier ≡ Ok n.bill
       pub exceeds : excess ≢ OutOfMemory → Exceeds excess tolls n.bill.tally n.bill.memory
+      pub unkept : excess ≡ OutOfMemory → (2 ^ 64 ≤ m.pickle) ⊎ CantBeKept last earlier
+
+    -- a payload that is skipped is that of an object, which is pushed
+    passed_object : (o : Op) → IsTrue (is_passed o) → WantsNoMemory o → ⊥
+    passed_object op.BinBytes h w = w
+    passed_object op.ShortBinBytes h w = w
+    passed_object op.BinBytes8 h w = w
+    passed_object op.ByteArray8 h w = w
+    passed_object _ h w = cc h
+
+    unkept_told : (i : Instruction) (b : Bill) (passed : Bool) → is_passed i.op ≡ passed
+        → CantBeTold (cond passed (Skipped i.op (length (spelling i))) (Whole i)) b
+        → CantBeKept i b
+    unkept_told i b true e h w = absurd (passed_object i.op e w)
+    unkept_told i b false e h w = h w
+
+    unkept_at : (i : Instruction) (r : Report) (m : Metering) → r.told ≡ told_of false i
+        → m.bill.ended ≡ false → CantBeMetered (ready memo m) r.told
+        → (2 ^ 64 ≤ m.pickle) ⊎ CantBeKept i m.bill
+    unkept_at i r m same e h = told_in (subst (λ q. CantBeMetered (next_if q memo m) r.told) e h)
+      where
+        told_in : CantBeMetered m r.told → (2 ^ 64 ≤ m.pickle) ⊎ CantBeKept i m.bill
+        told_in (inl many) = inl many
+        told_in (inr k) = inr (unkept_told i m.bill (is_passed i.op) refl
+            (subst (λ t. CantBeTold t m.bill) same k))
 
     over_step : (i : Instruction) (r : Report) (m : Metering) → r.told ≡ told_of false i → IsGood i
         → m.bill.ended ≡ false → metered memo r m ≡ Ok n → IsMetered m n (billed i m.bill)
@@ -125,9 +156,11 @@ module _ (memo : Memo) (tolls : Tolls) (excess : Excess) (at : ℕ) (n : Meterin
           so_far = refl;
           within = f;
           pickle = λ ne.
-              (over_step i r m h.0.same (All-head IsGood i [] g) e (o.1 ne).0).pickle;
-          adds = λ ne. (over_step i r m h.0.same (All-head IsGood i [] g) e (o.1 ne).0).bill;
-          exceeds = λ ne. (o.1 ne).1;
+              (over_step i r m h.0.same (All-head IsGood i [] g) e (o.1.limit ne).0).pickle;
+          adds = λ ne.
+              (over_step i r m h.0.same (All-head IsGood i [] g) e (o.1.limit ne).0).bill;
+          exceeds = λ ne. (o.1.limit ne).1;
+          unkept = λ out. unkept_at i r m h.0.same e (o.1.unkept out);
         }
     over_along before (i ∷ j ∷ is) (r ∷ s ∷ rs) m h g q e f o =
         let k = metered_is memo setting beginning from m o.0 (billed i m.bill)
@@ -147,5 +180,7 @@ module _ (memo : Memo) (tolls : Tolls) (excess : Excess) (at : ℕ) (n : Meterin
           pickle = λ ne. rest.pickle ne ∙ k.pickle;
           adds = rest.adds;
           exceeds = rest.exceeds;
+          unkept = λ out. subst (λ p. (2 ^ 64 ≤ p) ⊎ CantBeKept rest.last rest.earlier) k.pickle
+              (rest.unkept out);
         }
     over_along before _ _ m h g s e f o = absurd (search)

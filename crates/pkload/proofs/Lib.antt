@@ -35,7 +35,10 @@ pub mod Estimated
 pub mod Declined
 -- the machine
 pub mod Slots
+pub mod Losses
+pub mod Metered
 pub mod Lights
+pub mod Counted
 pub mod ShortTexts
 -- worked rows
 mod Rows

@@ -1,15 +1,16 @@
 -- Worked rows, by computation: what the bill counts of some pickles.
 use Rattle.std.proofs.Common.{◌≡◌, ℕ, List, [], ◌∷◌, Result, Ok, Err, refl}
-use Rattle.std.proofs.Common.{Bool, ◌++◌, false, replicate, true}
+use Rattle.std.proofs.Common.{Bool, ◌++◌, arith, false, inl, inr, replicate, true}
 use Rattle.pkops.specs.declared.Op.{Op}
 use Rattle.pkops.specs.declared.Op.TheVariants as op
 use Rattle.pkops.specs.Spelling.{Counted, Instruction, Line, Nothing, Number, Pair, instruction}
 use Rattle.pkmachine.specs.Runs.{Foreign, Go, Raise, Stopped, WentOn, Raised, Stuck, start}
 use Rattle.pkstack.specs.Shape.{Breach}
 use Rattle.pkmachine.specs.WholeRuns.{Ended, EndedBy, Reached, run}
-use Rattle.pkload.specs.Bill.{Bill, all_billed, no_bill}
+use Rattle.pkload.specs.Bill.{Bill, all_billed, billed, no_bill}
 use Rattle.pkload.specs.declared.tally.Tally.{Tally}
 use Rattle.pkload.specs.Tally.{no_tally}
+use Rattle.pkload.specs.Unkept.{CantBeKept, IsLost}
 use Rattle.pkload.specs.Weighed.{account_of}
 
 abbrev bare : Op → Instruction
@@ -270,3 +271,20 @@ an_import_of_an_earlier_object : (tally_of
     (bare op.EmptyDict ∷ global ∷ bare op.EmptyDict ∷ bare op.Build ∷ bare op.Stop ∷ [])
     (Go 0 Foreign ∷ Go 9 Foreign ∷ []) start)).builds ≡ true
 an_import_of_an_earlier_object = refl
+
+-- the bill is kept behind a PROTO, unless its sums are great, and needs memory for a mark
+a_proto_is_kept : CantBeKept (bare op.Proto) no_bill → ⊥
+a_proto_is_kept h = none (h tt)
+  where
+    none : IsLost (billed (bare op.Proto) no_bill) no_bill → ⊥
+    none (inl many) = omega (arith, many)
+    none (inr (inl great)) = omega (arith, great)
+    none (inr (inr (inl great))) = omega (arith, great)
+    none (inr (inr (inr great))) = omega (arith, great)
+
+a_great_sum_is_not :
+    CantBeKept (bare op.Proto) (record no_bill { memory = 18_446_744_073_709_551_600 })
+a_great_sum_is_not w = inr (inl (omega arith))
+
+a_mark_may_not_be : CantBeKept (bare op.Mark) no_bill
+a_mark_may_not_be w = absurd w

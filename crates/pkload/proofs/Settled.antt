@@ -137,7 +137,8 @@ module _ (loading : Loading) (policy : Policy) (limits : Bounds) (tolls : Tolls)
 
   -- the check ended because of the instruction
   abbrev pub StopsThere : Extent → Costly → Type 0
-  StopsThere extent costly = StopsAt loading policy limits tolls old new extent costly.at
+  StopsThere extent costly =
+      StopsAt loading policy limits tolls old new extent costly.at costly.excess
 
   by_answer : (y : Meter) (rs : List Report) (extent : Extent)
       (answer : Result YesAll RefusedPickle) (costly : Costly) → Meters begun y rs
@@ -170,7 +171,7 @@ module _ (loading : Loading) (policy : Policy) (limits : Bounds) (tolls : Tolls)
       → IfErr settled (StopsThere extent)
   settled_stops y rs extent (Ok a) answer told h k = tt
   settled_stops y rs extent (Err costly) answer told h k =
-      subst (λ at. StopsAt loading policy limits tolls old new extent at) (sym k.at)
+      subst (λ at. StopsAt loading policy limits tolls old new extent at costly.excess) (sym k.at)
       (by_answer y rs extent answer costly told h k).stops
 
   -- the audience stopped the check because of the instruction that it was told of last
@@ -197,7 +198,7 @@ module _ (loading : Loading) (policy : Policy) (limits : Bounds) (tolls : Tolls)
       → costly ≡ record { pickle = z.metering.pickle; at = z.at; excess = excess }
       → StopsThere extent costly
   stopped_stops z extent excess costly h same = subst (StopsThere extent) (sym same)
-      (subst (λ m. StopsAt loading policy limits tolls old new extent m.at) (sym h.5.same)
+      (subst (λ m. StopsAt loading policy limits tolls old new extent m.at excess) (sym h.5.same)
       (stopped_there z extent excess h).stops)
 
 -- ---- the count of failed reads

@@ -1,12 +1,13 @@
 -- How the entries of the stack change with its codes, and what the slice above its mark is.
 use Rattle.std.proofs.Common.{◌≡◌, ◌+◌, ◌-◌, ◌≤◌, ℕ, zero, suc, List, [], ◌∷◌, ◌++◌, length, take}
 use Rattle.std.proofs.Common.{Result, Ok, Err, get_or, refl, sym, ap, ◌∙◌, arith, drop, map, set}
-use Rattle.std.proofs.Common.{append-nil, length-append, reverse, ◌<◌, subst}
+use Rattle.std.proofs.Common.{append-nil, length-append, min, reverse, ◌<◌, subst}
 use Rattle.std.proofs.Math.Seq.{take-length, take-suc}
 use Rattle.std.proofs.lemmas.List.{get_or-set_same, length-drop, length-map, length-reverse}
 use Rattle.std.proofs.lemmas.List.{length-set, length-take-le, reverse-append, take-set, take-take}
 use Rattle.std.proofs.lemmas.List.{take-append-drop}
-use Rattle.pkstack.specs.Shape.{Breach, Entry, Item, Mark, Taken, items, slice}
+use Rattle.pkstack.specs.Shape.{Breach, Entry, Item, Mark, NoItem, NoMark, Taken, items, slice}
+use Rattle.pkstack.specs.Shape.{top}
 use Rattle.pkload.specs.Heft.{Heft}
 use Rattle.pkload.specs.Private.Billing.{HasItems, HasReplaced, HasSlice}
 use Rattle.pkload.specs.Private.Packed.{unpacked}
@@ -31,6 +32,56 @@ object_on_top fence n codes d size within =
     ∙ take-suc codes n d (omega (arith, size)))
     ∙ pushed_object fence (take n codes) (get_or codes n d)
     (omega (arith, within, length-take-le n codes (omega (arith, size))))
+
+-- at the fence there is a mark on top, or nothing
+at_fence : (codes : List ℕ) → top (shown 0 codes) ≡ Err NoItem
+at_fence [] = refl
+at_fence (code ∷ codes) = refl
+
+pub no_object : (fence : ℕ) (codes : List ℕ) → length codes ≤ fence
+    → top (entries_of fence codes) ≡ Err NoItem
+no_object fence codes few =
+    ap (λ n. top (shown n (reverse codes))) (omega (arith, few)) ∙ at_fence (reverse codes)
+
+pub nothing_left : (fence : ℕ) (codes : List ℕ) → length codes ≡ 0 → entries_of fence codes ≡ []
+nothing_left fence [] none = refl
+nothing_left fence (code ∷ codes) none = cc none
+
+pub object_popped : (fence : ℕ) (codes : List ℕ) → fence < length codes
+    → (entry : Entry Heft) × (entries_of fence codes
+    ≡ entry ∷ entries_of fence (take (length codes - 1) codes))
+object_popped fence codes above = (
+  Item (unpacked (get_or codes (length codes - 1) 0)),
+  object_on_top fence (length codes - 1) codes 0 (omega (arith, above)) (omega (arith, above)),
+)
+
+-- a mark says how many codes there are up to the next mark, or more
+under_mark : (place outer : ℕ) (codes : List ℕ) → place ≤ length codes
+    → entries_of (min outer place) (take place codes)
+    ≡ shown (length (reverse (take place codes)) - outer) (reverse (take place codes))
+under_mark place outer codes within = ap (λ n. shown n (reverse (take place codes)))
+    (omega (arith, length-reverse (take place codes), length-take-le place codes within))
+
+pub mark_popped : (fence : ℕ) (codes : List ℕ) → fence ≤ length codes → length codes ≤ fence
+    → 0 < length codes
+    → (entry : Entry Heft) × (entries_of fence codes
+    ≡ entry ∷ entries_of (min (get_or codes (length codes - 1) 0) (fence - 1))
+    (take (length codes - 1) codes))
+mark_popped fence codes within few some =
+    let place = length codes - 1 in
+    let size : length codes ≡ suc place = omega (arith, some) in
+    let same : fence - 1 ≡ place = omega (arith, within, few) in
+    let outer = get_or codes place 0 in
+    let last : reverse codes ≡ outer ∷ reverse (take place codes) =
+    ap reverse (sym (take-length codes) ∙ ap (λ k. take k codes) size
+    ∙ take-suc codes place 0 (omega (arith, size)))
+    ∙ reverse-append (take place codes) (outer ∷ []) in (
+      Mark,
+      ap (λ n. shown n (reverse codes)) (omega (arith, few))
+          ∙ ap (shown 0) last
+          ∙ ap (λ l. Mark ∷ l) (sym (under_mark place outer codes (omega (arith, size))))
+          ∙ ap (λ k. Mark ∷ entries_of (min outer k) (take place codes)) (sym same),
+    )
 
 pub replaced : (fence n : ℕ) (codes : List ℕ) (code : ℕ) (heft : Heft) → length codes ≡ suc n
     → fence ≤ n → unpacked code ≡ heft → (entry : Entry Heft) (below : List (Entry Heft))
@@ -148,12 +199,19 @@ sliced place codes d within =
 
 -- likewise, with the number of its objects
 pub slice_shown : (fence place : ℕ) (codes : List ℕ) → fence ≡ suc place → fence ≤ length codes
-    → HasSlice (entries_of fence codes) (entries_of (get_or codes place 0) (take place codes))
-    (length codes - fence)
+    → HasSlice (entries_of fence codes)
+    (entries_of (min (get_or codes place 0) place) (take place codes)) (length codes - fence)
 slice_shown fence place codes is within = record {
   hefts = map unpacked (drop (suc place) codes);
   is = ap (λ n. slice (entries_of n codes) []) is
-      ∙ sliced place codes 0 (omega (arith, is, within));
+      ∙ sliced place codes 0 (omega (arith, is, within))
+      ∙ ap (λ below. Ok (record {
+        operands = map unpacked (drop (suc place) codes);
+        below = below;
+      }))
+      (ap (λ n. shown (n - get_or codes place 0) (reverse (take place codes)))
+      (sym (length-reverse (take place codes)))
+      ∙ sym (under_mark place (get_or codes place 0) codes (omega (arith, is, within))));
   count_is = omega (
     arith,
     is,
@@ -164,17 +222,17 @@ slice_shown fence place codes is within = record {
 
 -- likewise, and an object that is put in place of the slice lies above what lies below it
 pub slice_replaced : (fence place : ℕ) (codes : List ℕ) (code : ℕ) (heft : Heft)
-    → fence ≡ suc place → fence ≤ length codes → get_or codes place 0 < fence
-    → unpacked code ≡ heft
+    → fence ≡ suc place → fence ≤ length codes → unpacked code ≡ heft
     → HasReplaced (entries_of fence codes)
-    (entries_of (get_or codes place 0) (take place codes ++ code ∷ [])) heft
+    (entries_of (min (get_or codes place 0) place) (take place codes ++ code ∷ [])) heft
     (length codes - fence)
-slice_replaced fence place codes code heft is within lower shown_is = record {
-  below = entries_of (get_or codes place 0) (take place codes);
+slice_replaced fence place codes code heft is within shown_is = record {
+  below = entries_of (min (get_or codes place 0) place) (take place codes);
   found = slice_shown fence place codes is within;
-  new_is = pushed_object (get_or codes place 0) (take place codes) code
-      (omega (arith, is, lower, length-take-le place codes (omega (arith, is, within))))
-      ∙ ap (λ h. Item h ∷ entries_of (get_or codes place 0) (take place codes)) shown_is;
+  new_is = pushed_object (min (get_or codes place 0) place) (take place codes) code
+      (omega (arith, length-take-le place codes (omega (arith, is, within))))
+      ∙ ap (λ h. Item h ∷ entries_of (min (get_or codes place 0) place) (take place codes))
+      shown_is;
 }
 
 abbrev taken_in : Result (Taken Heft) Breach → Taken Heft
@@ -194,21 +252,8 @@ objects_shown fence codes within = subst (HasObjects (entries_of fence codes))
     (sym (ap (λ n. take n (drop fence codes)) (sym (length-drop fence codes))
     ∙ take-length (drop fence codes))) (drop_shown fence codes within)
 
-slice_grows : (entries : List (Entry Heft)) (above : List Heft) (taken : Taken Heft)
-    → slice entries above ≡ Ok taken → length above ≤ length taken.operands
-slice_grows [] above taken is = cc
-slice_grows (Mark ∷ entries) above taken is =
-    let same : length above ≡ length taken.operands =
-    ap (λ r. length (taken_in r).operands) is in
-    omega (arith, same)
-slice_grows (Item item ∷ entries) above taken is =
-    omega (arith, slice_grows entries (item ∷ above) taken is)
-
--- a slice without objects is a mark on top
-pub mark_on_top : (entries below : List (Entry Heft)) (hefts : List Heft)
-    → slice entries [] ≡ Ok (record { operands = hefts; below = below }) → length hefts ≡ 0
-    → entries ≡ Mark ∷ below
-mark_on_top [] below hefts is none = cc
-mark_on_top (Mark ∷ entries) below hefts is none = ap (λ r. Mark ∷ (taken_in r).below) is
-mark_on_top (Item item ∷ entries) below hefts is none =
-    absurd (omega (arith, none, slice_grows entries (item ∷ []) _ is))
+-- without a mark there is no slice
+pub no_slice : (fence : ℕ) (codes : List ℕ) → fence ≡ 0
+    → slice (entries_of fence codes) [] ≡ Err NoMark
+no_slice fence codes none =
+    ap (λ n. slice (entries_of n codes) []) none ∙ all_passed 0 codes (omega arith)

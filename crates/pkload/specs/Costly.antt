@@ -26,7 +26,9 @@ use Rattle.pkload.specs.Bill.{Bill, all_billed, bill_before, billed}
 use Rattle.pkload.specs.Loading.{EndsSo, KeepWithin}
 use Rattle.pkload.specs.Tolls.{Exceeds, IsExcess, KeepsWithin}
 use Rattle.pkload.specs.Weighed.{tally_since}
+use Rattle.pkload.specs.Unkept.{IsUnkept}
 use Rattle.pkload.specs.declared.tolls.Excess.{Excess}
+use Rattle.pkload.specs.declared.tolls.Excess.TheVariants.{OutOfMemory}
 use Rattle.pkload.specs.declared.tolls.Tolls.{Tolls}
 
 -- a run that gets past the instruction counts what the reason says, behind earlier pickles
@@ -125,11 +127,10 @@ pub record CostsTooMuch (loading : Loading) (policy : Policy) (limits : Bounds) 
   pub some : InSomeNewRun loading.old_strings (begins loading.memo before)
       (over.reached.instructions ++ over.reached.last ∷ []) GetsPast
 
--- the check ended because of an instruction at this offset, whatever the reason: an excess, also if
--- that is OutOfMemory. Of that nothing more is proved: neither that an allocation was refused or a
--- sum passed 2^64, nor the number of the pickle
+-- the check ended because of an instruction at this offset, for this reason: an excess, also if
+-- that is OutOfMemory, of which the number of the pickle isn't proved
 pub record StopsAt (loading : Loading) (policy : Policy) (limits : Bounds) (tolls : Tolls)
-    (old new : Sight) (extent : Extent) (at : ℕ) : Type 0 where
+    (old new : Sight) (extent : Extent) (at : ℕ) (excess : Excess) : Type 0 where
   -- the pickles before its own were accepted, and each keeps within the limits
   pub before : List Pickle
   pub here : Sight
@@ -140,6 +141,8 @@ pub record StopsAt (loading : Loading) (policy : Policy) (limits : Bounds) (toll
   pub reached : IsReached loading policy limits tolls here before at
   -- behind it no more was taken than the next instruction
   pub behind : TakesNoMore limits reached.there new
+  -- OutOfMemory says that the bill can't be kept behind it
+  pub unkept : excess ≡ OutOfMemory → IsUnkept before reached.last reached.earlier
 
 -- no read failed, or one did
 abbrev pub FailsOnce : ℕ → ℕ → Type 0

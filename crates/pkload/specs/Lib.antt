@@ -9,6 +9,7 @@ pub mod Weighed
 -- limits, and what an answer says about them
 pub mod Tolls
 pub mod Loading
+pub mod Unkept
 pub mod Costly
 -- how an excess is printed
 pub mod Printed

@@ -34,7 +34,9 @@ pub enum Action {
     Sets,
     /// Puts a slice of keys and values into the dict below it.
     SetsSlice,
-    /// Takes objects in another way, and pushes a new one or leaves the first.
+    /// Takes a state, and leaves the object below it.
+    Builds,
+    /// Takes objects in another way, and pushes a new one.
     Operates,
     /// Pushes a mark.
     Marks,
@@ -44,8 +46,15 @@ pub enum Action {
     StoresNext,
     /// Stores the top under a number.
     Stores,
-    /// Moves in another way.
-    Moves,
+    /// Removes the topmost entry, or the topmost mark and what is above it.
+    Pops,
+    PopsMark,
+    /// Pushes the top again.
+    Duplicates,
+    /// Changes nothing.
+    Passes,
+    /// Names an extension code, which is always missing.
+    Extends,
     /// Takes the result.
     Stops,
 }
@@ -70,6 +79,7 @@ pub fn action_of(op: Op) -> Action
         Op::AddItems => Action::AddsSlice,
         Op::Tuple => Action::TiesSlice,
         Op::FrozenSet => Action::FreezesSlice,
+        Op::Build => Action::Builds,
         Op::SetItem => Action::Sets,
         Op::SetItems => Action::SetsSlice,
         Op::Mark => Action::Marks,
@@ -90,8 +100,11 @@ pub fn rare_action_of(op: Op) -> Action
         Op::SetItem | Op::SetItems | Op::Dict | Op::AddItems => Action::Operates,
         Op::Reduce | Op::NewObj | Op::NewObjEx | Op::Inst | Op::Obj => Action::Operates,
         Op::StackGlobal | Op::BinPersid | Op::ReadonlyBuffer | Op::Build => Action::Operates,
-        Op::Pop | Op::PopMark | Op::Dup | Op::Proto | Op::Frame => Action::Moves,
-        Op::Ext1 | Op::Ext2 | Op::Ext4 => Action::Moves,
+        Op::Pop => Action::Pops,
+        Op::PopMark => Action::PopsMark,
+        Op::Dup => Action::Duplicates,
+        Op::Proto | Op::Frame => Action::Passes,
+        Op::Ext1 | Op::Ext2 | Op::Ext4 => Action::Extends,
         Op::Mark => Action::Marks,
         Op::Get | Op::BinGet | Op::LongBinGet => Action::Fetches,
         Op::Put | Op::BinPut | Op::LongBinPut => Action::Stores,

@@ -65,9 +65,10 @@ impl fmt::Display for Costly {
 /// objects gets past the instruction, and each run that gets there exceeds the limit, whatever is
 /// answered, if old strings are decoded to new objects.
 ///
-/// `OutOfMemory` says that the bill couldn't be kept behind the instruction. As for a limit, the
-/// check accepts it, and all that precedes it keeps within the limits. For either, the bytes up to
-/// its end were taken, and at most the next instruction. A read can only fail there.
+/// `OutOfMemory` says that the bill couldn't be kept behind the instruction: its step may allocate,
+/// or a sum of the bill doesn't fit 64 bits. As for a limit, the check accepts it, and all that
+/// precedes it keeps within the limits. For either, the bytes up to its end were taken, and at most
+/// the next instruction. A read can only fail there.
 pub fn check_loading<R: Source>(
     alloc: Global,
     source: &mut R,
@@ -85,7 +86,7 @@ pub fn check_loading<R: Source>(
     // Also if the bill couldn't be kept.
     ensures stops { IfErr result (λ costly. StopsAt terms.now.loading (permit_of permit.now)
         terms.now.limits tolls.now (sight R.left R.failures source.old)
-        (sight R.left R.failures source.new) terms.now.extent costly.at) }
+        (sight R.left R.failures source.new) terms.now.extent costly.at costly.excess) }
     ensures count { MatchResult result
         (CountsLoaded (R.failures source.old) (R.failures source.new))
         (λ _. FailsOnce (R.failures source.old) (R.failures source.new)) }

@@ -1,12 +1,12 @@
 //! Takes slices from the stack, and sums up their objects.
 
 ghost use Rattle.std.specs.List.{list_all};
-ghost use Rattle.std.specs.Prelude.{◌≡◌, IfErr, IfOk, OnOk, map, suc, true};
+ghost use Rattle.std.specs.Prelude.{◌≡◌, IfErr, IfOk, OnErr, OnOk, map, suc, true};
 ghost use Rattle.pkstack.specs.Shape.{is_even};
 ghost use Rattle.pkload.specs.Keys.{every_other};
 ghost use Rattle.pkload.specs.Private.Billing.{HasKeys, HasPairs};
 ghost use Rattle.pkload.specs.Private.Gathered.{IsTied, is_light};
-ghost use Rattle.pkload.specs.Private.Lost.{IsTooGreat};
+ghost use Rattle.pkload.specs.Private.Lost.{IsTallyTooGreat, IsTooGreat, LacksKeys, LacksPairs};
 ghost use Rattle.pkload.specs.Private.Packed.{unpacked};
 ghost use Rattle.pkload.specs.Tally.{with_keys};
 
@@ -18,7 +18,8 @@ use crate::tally::Tally;
 
 /// Counts objects as keys. Most keys are small ints, of which only the others are numbered.
 fn count_items(codes: &[u32], tally: &mut Tally) -> Result<(), Halt>
-    ensures { OnOk result (tally.new ≡ with_keys tally.old (map unpacked codes.now)) }
+    ensures ok { OnOk result (tally.new ≡ with_keys tally.old (map unpacked codes.now)) }
+    ensures err { OnErr result (IsTallyTooGreat (with_keys tally.old (map unpacked codes.now))) }
 {
     let mut seen: u64 = 0;
     let mut others: u64 = 0;
@@ -46,6 +47,8 @@ fn count_pairs(codes: &[u32], tally: &mut Tally) -> Result<(), Halt>
     ensures even { OnOk result (is_even (map unpacked codes.now) ≡ true) }
     ensures counted { OnOk result (tally.new
         ≡ with_keys tally.old (every_other (map unpacked codes.now))) }
+    ensures err { OnErr result (is_even (map unpacked codes.now) ≡ true
+        → IsTallyTooGreat (with_keys tally.old (every_other (map unpacked codes.now)))) }
 {
     let mut seen: u64 = 0;
     let mut others: u64 = 0;
@@ -75,7 +78,8 @@ fn count_pairs(codes: &[u32], tally: &mut Tally) -> Result<(), Halt>
 #[inline(always)]
 #[tactic(auto, using(crate::proofs::Lights::keys_counted))]
 pub fn take_items(stack: &mut Stack, tally: &mut Tally) -> Result<u64, Halt>
-    ensures { IfOk result (HasKeys stack.old stack.new tally.old tally.new) }
+    ensures ok { IfOk result (HasKeys stack.old stack.new tally.old tally.new) }
+    ensures err { OnErr result (LacksKeys stack.old tally.old) }
 {
     count_items(stack.objects(), tally)?;
     stack.drop_slice()
@@ -86,7 +90,8 @@ pub fn take_items(stack: &mut Stack, tally: &mut Tally) -> Result<u64, Halt>
 #[inline(always)]
 #[tactic(auto, using(crate::proofs::Lights::pairs_counted))]
 pub fn take_pairs(stack: &mut Stack, tally: &mut Tally) -> Result<u64, Halt>
-    ensures { IfOk result (HasPairs stack.old stack.new tally.old tally.new) }
+    ensures ok { IfOk result (HasPairs stack.old stack.new tally.old tally.new) }
+    ensures err { OnErr result (LacksPairs stack.old tally.old) }
 {
     count_pairs(stack.objects(), tally)?;
     stack.drop_slice()

@@ -1,6 +1,6 @@
 //! Whether an instruction is billed, or why the bill can't be kept.
 
-ghost use Rattle.std.specs.Prelude.{◌≡◌, ◌+◌, IfErr, IfOk, Ok, false, true};
+ghost use Rattle.std.specs.Prelude.{◌≡◌, ◌+◌, IfErr, IfOk, IsErr, Ok, false, true};
 ghost use Rattle.pkload.specs.Private.Lost.{IsTooGreat};
 
 /// Why the bill can't be kept.
@@ -40,6 +40,7 @@ impl Billing {
     pub fn of(noted: Result<bool, Halt>) -> Billing
         ensures plain { result ≡ Billing.Plain → noted ≡ Ok false }
         ensures noted { result ≡ Billing.Noted → noted ≡ Ok true }
+        ensures failed { result ≡ Billing.Failed → IsErr noted }
     {
         match noted {
             Ok(false) => Billing::Plain,

@@ -1,12 +1,14 @@
 //! The machine that keeps the bill.
 
-ghost use Rattle.std.specs.Prelude.{◌≡◌, IfOk, Ok, OnOk, false, true};
+ghost use Rattle.std.specs.Prelude.{◌≡◌, ◌⊎◌, IfOk, Ok, OnErr, OnOk, false, true};
 ghost use Rattle.pkops.specs.Inst.{instruction_of};
 ghost use Rattle.pkops.specs.Operands.{memo_number};
 ghost use Rattle.pkcheck.specs.Reports.{Skipped};
+ghost use Rattle.pkstack.specs.Faults.{MoveMayWantMemory};
 ghost use Rattle.pkstack.specs.Shape.{top};
 ghost use Rattle.pkload.specs.Bill.{billed, moved_by, no_bill, stop_billed};
-ghost use Rattle.pkload.specs.Private.Billing.{IfBilled, IsQuiet, op_billed, pushed};
+ghost use Rattle.pkload.specs.Private.Billing.{IfBilled, IsQuiet, pushed};
+ghost use Rattle.pkload.specs.Unkept.{CantBeKept, IsLost};
 ghost use Rattle.pkload.specs.Private.Told.{next_in, told_billed};
 
 mod answering;
@@ -136,6 +138,8 @@ impl Machine {
         ensures ends { IfOk result (λ noted. noted ≡ true) }
         ensures billed { OnOk result (stop_billed self.old (top self.old.shape.entries)
             ≡ Ok self.new) }
+        ensures lost { OnErr result (IsLost (stop_billed self.old (top self.old.shape.entries))
+            self.old) }
     {
         let Some(_heft) = self.stack.pop_object() else {
             return Err(Halt::Lost);
@@ -150,6 +154,8 @@ impl Machine {
     fn go(&mut self, what: Move, number: u32) -> Result<bool, Halt>
         ensures billed { OnOk result (moved_by what number self.old ≡ Ok self.new) }
         ensures quiet { OnOk result (IsQuiet self.old self.new) }
+        ensures lost { OnErr result (MoveMayWantMemory what
+            ⊎ IsLost (moved_by what number self.old) self.old) }
     {
         let kept = number_kept(what, number, &self.memo)?;
         apply(&mut self.stack, &mut self.memo, what, number)?;
@@ -169,18 +175,15 @@ impl Machine {
         self.go(what, inst.memo_number().unwrap_or(0))
     }
 
-    /// Executes the move of an opcode that is rare. Returns false.
-    fn go_rarely(&mut self, op: Op) -> Result<bool, Halt>
-        ensures billed { OnOk result (op_billed op self.old ≡ Ok self.new) }
+    /// Executes a move that is rare and names no number. Returns false.
+    #[inline(never)]
+    fn go_rarely(&mut self, what: Move) -> Result<bool, Halt>
+        ensures billed { OnOk result (moved_by what 0 self.old ≡ Ok self.new) }
         ensures quiet { OnOk result (IsQuiet self.old self.new) }
+        ensures lost { OnErr result (MoveMayWantMemory what
+            ⊎ IsLost (moved_by what 0 self.old) self.old) }
     {
-        match op {
-            Op::Pop => self.go(Move::Pops, 0),
-            Op::PopMark => self.go(Move::PopsMark, 0),
-            Op::Dup => self.go(Move::Duplicates, 0),
-            Op::Proto | Op::Frame => self.go(Move::NoOp, 0),
-            _ => Err(Halt::Lost),
-        }
+        self.go(what, 0)
     }
 
     /// Bills an instruction with this opcode and so many bytes, whose payload is skipped. Nothing
@@ -206,11 +209,13 @@ impl Machine {
     /// the compiler inlines nothing. No address of the instruction is passed on, since that would
     /// force it into memory in every step.
     #[inline(always)]
+    #[tactic(auto, using(crate::proofs::Losses::failed_by, crate::proofs::Losses::failed_room))]
     pub fn step(&mut self, inst: &Inst<'_>) -> Billing
         requires running { self.old.ended ≡ false }
         ensures billed { IfBilled result (billed (instruction_of inst.now) self.old
             ≡ Ok self.new) }
         ensures quiet { result ≡ Billing.Plain → IsQuiet self.old self.new }
+        ensures failed { result ≡ Billing.Failed → CantBeKept (instruction_of inst.now) self.old }
     {
         match action_of(inst.op()) {
             Action::Makes(more) => {
@@ -234,7 +239,12 @@ impl Machine {
             Action::SetsSlice => Billing::of(self.set_slice()),
             Action::Operates => Billing::of(self.operate(inst.op())),
             Action::Reads => Billing::of(self.read(inst.op(), argument_bytes(inst))),
-            Action::Moves => Billing::of(self.go_rarely(inst.op())),
+            Action::Builds => Billing::of(self.build()),
+            Action::Pops => Billing::of(self.go_rarely(Move::Pops)),
+            Action::PopsMark => Billing::of(self.go_rarely(Move::PopsMark)),
+            Action::Duplicates => Billing::of(self.go_rarely(Move::Duplicates)),
+            Action::Passes => Billing::of(self.go_rarely(Move::NoOp)),
+            Action::Extends => Billing::Failed,
             Action::Stops => Billing::of(self.finish()),
         }
     }

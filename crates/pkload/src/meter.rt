@@ -108,6 +108,7 @@ impl Meter {
     }
 
     /// Tells of an instruction where the meter pauses.
+    #[tactic(auto, using(crate::proofs::Metered::one_metered))]
     fn tell_at_pause(&mut self, at: u64, inst: &Inst<'_>) -> Result<(), Excess>
         ensures ok { (marks : ℕ) → OnOk result (Meters self.old self.new
             (report at (Whole (instruction_of inst.now)) marks ∷ [])) }
@@ -123,6 +124,7 @@ impl Meter {
     }
 
     /// Tells of an instruction whose payload is skipped, where the meter pauses.
+    #[tactic(auto, using(crate::proofs::Metered::one_metered))]
     fn tell_skipped_at_pause(&mut self, at: u64, op: Op, length: u64) -> Result<(), Excess>
         ensures ok { (marks : ℕ) → OnOk result (Meters self.old self.new
             (report at (Skipped op length) marks ∷ [])) }

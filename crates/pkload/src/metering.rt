@@ -7,7 +7,7 @@ ghost use Rattle.pkload.specs.Bill.{no_bill};
 ghost use Rattle.pkmachine.specs.declared.memo.Memo.{Memo as Between};
 ghost use Rattle.pkload.specs.Private.Billing.{IfBilled, IsQuiet};
 ghost use Rattle.pkload.specs.Private.Lost.{IsTooGreat};
-ghost use Rattle.pkload.specs.Private.Told.{metered_told, next_if, ready};
+ghost use Rattle.pkload.specs.Private.Told.{CantBeMetered, metered_told, next_if, ready};
 
 use crate::halt::{Billing, Halt, plus};
 use crate::machine::Machine;
@@ -78,6 +78,8 @@ impl Metering {
     pub fn bill(&mut self, memo: Memo, inst: &Inst<'_>) -> Billing
         ensures billed { IfBilled result (metered_told memo (Whole (instruction_of inst.now))
             self.old ≡ Ok self.new) }
+        ensures failed { result ≡ Billing.Failed
+            → CantBeMetered (ready memo self.old) (Whole (instruction_of inst.now)) }
     {
         let Ok(()) = self.begin(memo) else {
             return Billing::Failed;
@@ -92,6 +94,8 @@ impl Metering {
         ensures billed { (memo : Between) → IfBilled result
             (metered_told memo (Whole (instruction_of inst.now)) self.old ≡ Ok self.new) }
         ensures quiet { result ≡ Billing.Plain → IsQuiet self.old.bill self.new.bill }
+        ensures failed { result ≡ Billing.Failed → (memo : Between)
+            → CantBeMetered (ready memo self.old) (Whole (instruction_of inst.now)) }
     {
         self.machine.step(inst)
     }

@@ -1,7 +1,8 @@
 //! Actions that look at no object.
 
-ghost use Rattle.std.specs.Prelude.{◌≡◌, OnOk, Ok};
-ghost use Rattle.pkstack.specs.Shape.{moved};
+ghost use Rattle.std.specs.Prelude.{◌≡◌, ◌⊎◌, Err, IsErr, OnErr, OnOk, Ok};
+ghost use Rattle.pkstack.specs.Faults.{MoveMayWantMemory};
+ghost use Rattle.pkstack.specs.Shape.{NoItem, NoMark, moved};
 
 use crate::halt::Halt;
 use crate::memo::{self, MemoTable};
@@ -10,18 +11,22 @@ use pkstack::Move;
 
 /// Removes the topmost entry.
 fn pop(stack: &mut Stack, memo: &MemoTable) -> Result<(), Halt>
-    ensures { OnOk result
+    ensures ok { OnOk result
         (moved Move.Pops 0 (record { entries = stack.old; memo = memo.now })
         ≡ Ok (record { entries = stack.new; memo = memo.now })) }
+    ensures err { OnErr result (moved Move.Pops 0 (record { entries = stack.old; memo = memo.now })
+        ≡ Err NoItem) }
 {
     stack.pop()
 }
 
 /// Removes the topmost mark and everything above it.
 fn pop_mark(stack: &mut Stack, memo: &MemoTable) -> Result<(), Halt>
-    ensures { OnOk result
+    ensures ok { OnOk result
         (moved Move.PopsMark 0 (record { entries = stack.old; memo = memo.now })
         ≡ Ok (record { entries = stack.new; memo = memo.now })) }
+    ensures err { OnErr result
+        (moved Move.PopsMark 0 (record { entries = stack.old; memo = memo.now }) ≡ Err NoMark) }
 {
     let _count = stack.drop_slice()?;
     Ok(())
@@ -84,9 +89,11 @@ fn fetch(stack: &mut Stack, memo: &MemoTable, number: u32) -> Result<(), Halt>
 /// Applies a move.
 #[inline(always)]
 pub fn apply(stack: &mut Stack, memo: &mut MemoTable, what: Move, number: u32) -> Result<(), Halt>
-    ensures { OnOk result
+    ensures ok { OnOk result
         (moved what number (record { entries = stack.old; memo = memo.old })
         ≡ Ok (record { entries = stack.new; memo = memo.new })) }
+    ensures err { OnErr result (MoveMayWantMemory what
+        ⊎ IsErr (moved what number (record { entries = stack.old; memo = memo.old }))) }
 {
     match what {
         Move::PushesMark => stack.push_mark(),

@@ -1,7 +1,8 @@
 //! The stack: marks, and what objects cost.
 
-ghost use Rattle.std.specs.Prelude.{◌≡◌, [], ◌∷◌, List, IfOk, IfSome, OnOk, false, true};
-ghost use Rattle.pkstack.specs.Shape.{Entry, Item, Mark, items};
+ghost use Rattle.std.specs.Prelude.{◌≡◌, [], ◌∷◌, List, Err, IfNone, IfOk, IfSome, OnErr, OnOk};
+ghost use Rattle.std.specs.Prelude.{false, true};
+ghost use Rattle.pkstack.specs.Shape.{Entry, Item, Mark, NoItem, NoMark, items, slice, top};
 ghost use Rattle.pkload.specs.Heft.{Heft};
 ghost use Rattle.pkload.specs.Private.Billing.{HasItems, HasReplaced, HasSlice};
 ghost use Rattle.pkload.specs.Private.Shown.{HasObjects};
@@ -98,9 +99,11 @@ impl Stack {
 
     /// The topmost entry, which must be an object.
     #[inline(always)]
+    #[tactic(auto, using(crate::proofs::Slots::no_object))]
     pub fn top(&self) -> Option<PackedHeft>
-        ensures { IfSome result (λ heft. (below : List (Entry Heft))
+        ensures some { IfSome result (λ heft. (below : List (Entry Heft))
             × (self.now ≡ Item heft ∷ below)) }
+        ensures none { IfNone result (top self.now ≡ Err NoItem) }
     {
         let count = self.codes.len();
         if count <= self.fence as usize {
@@ -124,8 +127,10 @@ impl Stack {
     }
 
     /// Removes the topmost entry, which must be an object.
+    #[tactic(auto, using(crate::proofs::Slots::no_object))]
     pub fn pop_object(&mut self) -> Option<PackedHeft>
-        ensures { IfSome result (λ heft. self.old ≡ Item heft ∷ self.new) }
+        ensures some { IfSome result (λ heft. self.old ≡ Item heft ∷ self.new) }
+        ensures none { IfNone result (top self.old ≡ Err NoItem) }
     {
         let count = self.codes.len();
         if count <= self.fence as usize {
@@ -137,16 +142,22 @@ impl Stack {
     }
 
     /// Removes the topmost entry.
-    #[tactic(auto, using(crate::proofs::Slots::mark_on_top))]
+    #[tactic(auto, using(crate::proofs::Slots::mark_popped, crate::proofs::Slots::nothing_left))]
     pub fn pop(&mut self) -> Result<(), Halt>
-        ensures { OnOk result ((entry : Entry Heft) × (self.old ≡ entry ∷ self.new)) }
+        ensures ok { OnOk result ((entry : Entry Heft) × (self.old ≡ entry ∷ self.new)) }
+        ensures err { OnErr result (self.old ≡ []) }
     {
-        if self.codes.len() > self.fence as usize {
-            return self.drop_objects(1);
+        let before = self.codes.len();
+        if before > self.fence as usize {
+            self.codes.truncate(before - 1);
+            return Ok(());
         }
-        if self.drop_slice()? > 0 {
+        if before == 0 {
             return Err(Halt::Lost);
         }
+        let outer = self.codes.entries()[before - 1];
+        self.codes.truncate(before - 1);
+        self.fence = outer.min(self.fence - 1);
         Ok(())
     }
 
@@ -172,21 +183,19 @@ impl Stack {
     }
 
     /// Removes the objects above the topmost mark, and the mark. Returns the number of the objects.
-    #[tactic(auto, using(crate::proofs::Slots::slice_shown))]
+    #[tactic(auto, using(crate::proofs::Slots::slice_shown, crate::proofs::Slots::no_slice))]
     pub fn drop_slice(&mut self) -> Result<u64, Halt>
-        ensures { IfOk result (HasSlice self.old self.new) }
+        ensures ok { IfOk result (HasSlice self.old self.new) }
+        ensures err { OnErr result (slice self.old [] ≡ Err NoMark) }
     {
         let fence = self.fence as usize;
         if fence == 0 {
             return Err(Halt::Lost);
         }
         let outer = self.codes.entries()[fence - 1];
-        if outer as usize >= fence {
-            return Err(Halt::Lost);
-        }
         let count = self.codes.len() - fence;
         self.codes.truncate(fence - 1);
-        self.fence = outer;
+        self.fence = outer.min(self.fence - 1);
         Ok(count as u64)
     }
 
@@ -201,12 +210,9 @@ impl Stack {
             return Err(Halt::Lost);
         }
         let outer = self.codes.entries()[fence - 1];
-        if outer as usize >= fence {
-            return Err(Halt::Lost);
-        }
         let count = self.codes.len() - fence;
         self.codes.replace(fence - 1, heft.code());
-        self.fence = outer;
+        self.fence = outer.min(self.fence - 1);
         Ok(count as u64)
     }
 }

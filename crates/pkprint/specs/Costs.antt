@@ -32,7 +32,7 @@ abbrev pub IsRightCosting : Loading → Policy → Bounds → Tolls → (old new
     → Type 0
 IsRightCosting loading policy limits tolls old new extent answer =
     MatchResult answer (IsRightLoading loading policy limits tolls old new extent)
-    (λ costly. StopsAt loading policy limits tolls old new extent costly.at
+    (λ costly. StopsAt loading policy limits tolls old new extent costly.at costly.excess
     × (costly.excess ≢ OutOfMemory → CostsTooMuch loading policy limits tolls old extent
     costly.pickle costly.at costly.excess))
 

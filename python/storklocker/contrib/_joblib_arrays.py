@@ -115,7 +115,7 @@ class _Array:
         if self.has_objects != lent.gap.is_pickle or self.type.hasobject != self.has_objects:
             raise Misused("the type of an array hides objects over raw bytes")
         if lent.gap.is_pickle:
-            array = guard._loaded(lent.pickled, *guard._decoding(None, None), None)
+            array = guard._loaded(lent.pickled, guard._decoding(None, None))
             if not isinstance(array, numpy.ndarray):
                 raise Misused("the pickle of an array of objects is no array")
         elif lent.gap.size != self.count * self.type.itemsize:

@@ -21,6 +21,7 @@ from multiprocessing import connection, managers
 from typing import Any
 
 from .. import Guard
+from .._answers import told
 
 
 class Listener(connection.Listener):
@@ -100,5 +101,5 @@ def _identifiers(methods: Any) -> Any:
     names = tuple(methods)
     for name in names:
         if type(name) is not str or not name.isidentifier() or keyword.iskeyword(name):
-            raise Guard.UnpicklingError(f"the manager names a method {name!r:.80}")
+            raise Guard.UnpicklingError(f"the manager names a method {told(name)}")
     return names

@@ -114,6 +114,8 @@ class _Storages:
         """Whether the file has as many bytes as the storage asks for."""
         import torch
 
+        if type(key) not in (str, int) or type(location) not in (str, bytes):
+            return False  # (others would be shown)
         kind = getattr(storage, "dtype", None)
         if not isinstance(kind, torch.dtype):
             kind = torch.uint8

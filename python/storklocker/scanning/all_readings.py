@@ -7,6 +7,7 @@ from typing import Callable, Dict, Sequence, Tuple
 from .berkeley import berkeley_reading
 from .caches import cachelib_reading
 from .checkpoints import records_reading
+from .hdf5_chunks import hdf5_reading
 from .kinds import stored_reading
 from .marks import HOLDING, READERS, beginning, is_named, is_unmarked, mark_of
 from .npys import npy_reading
@@ -39,6 +40,7 @@ READINGS: Dict[str, Reading] = {
     "SQLite": sqlite_reading,
     "Berkeley DB": berkeley_reading,
     **STORES,
+    "HDF5": hdf5_reading,
     "other stores": stored_reading,
     "zip": zip_reading,
 }

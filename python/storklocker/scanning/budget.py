@@ -64,6 +64,8 @@ class Budget:
         """The directories of the zip files that were read: the file, the place, and the place from
         which they count.
         """
+        self.calls = STEPS // 20
+        """The steps that are left for what pickles call, which is told as far as they go."""
         self.shelves: Set[Tuple[int, int]] = set()
         """The places of shelves, each of whose values is read."""
 

@@ -4,29 +4,30 @@ from __future__ import annotations
 
 import argparse
 import contextlib
+import functools
 import io
 import os
-import shlex
 import sys
 from collections import Counter
 from typing import Callable, Dict, Iterator, Optional, Sequence
 
 from .. import __version__
+from .._answers import printed
 from .._lists import has_substitutes
-from .._writing import quoted
-from . import formats
+from . import formats, program, showing
 from .choosing import Choice
-from .dangers import import_findings, list_findings
-from .files import Files, is_url
+from .dangers import import_findings, list_findings, table_of
+from .files import Files, names_from
 from .judging import Question
 from .lists import add_commands, list_of, union_of
+from .options import GUARDED, LIST, LISTS, PATH, add_descending, add_options
 from .report import Finding, Report, shown
 from .scan import Means, scan
-from .severity import DANGER, NOTE, REFUSED, WARNING
-from .summary import FAIL_ON, Summary, counted
+from .severity import DANGER, REFUSED, UNKNOWN, UNRECOGNIZED, WARNING
+from .summary import Summary
 from .words import Word
 
-YES, NO, FAULT = 0, 1, 2
+YES, NO, FAULT, UNJUDGED = 0, 1, 2, 3
 
 _STATUSES = """exit status:
   0    everything was read to its end, and nothing was found that counts
@@ -34,33 +35,34 @@ _STATUSES = """exit status:
        this --fail-on of `scan` on:
          refused  a guard with the list refuses it, or only a load shows whether it does, unless
                   --guarded: the default with --allow, and what `check` goes by
-         danger   it imports a name that runs code or writes files: the default without --allow
+         danger   it imports a name that runs code or writes files
          warning  it imports a name that reads files, reaches the network or changes the process;
                   or a guard refuses it by default, because of what loading it costs or changes
-         note     it imports a name that nobody has judged
+         unknown  it imports a name that nobody has judged: the default without --allow
+         note     it is code that isn't read here, or a link that leads to nothing
          never    nothing counts
+       Of `imports`, `dis`, `json` and `optimize`: a pickle is refused.
   2    something couldn't be read to its end, is packed in an unknown way, or readers differ about
        it; a folder was left unread; or the command line, the list or the output is wrong
+  3    of `lint`: no name in the list is known to be dangerous, and nobody has judged some
   130  interrupted
 """
-
-
-_PATH = "a file, a folder, or - for standard input"
-_URL = f"{_PATH}; or a URL of either that fsspec opens"
-_LIST = "the list file of permitted names"
-_LISTS = f"{_LIST}, or @NAME,@NAME for shipped lists; of several the union counts"
-_GUARDED = "what is undecided doesn't count: a guard with this list loads the files"
 
 
 def main(words: Optional[Sequence[str]] = None) -> int:
     """Runs the command with these arguments, and returns its status."""
     words = sys.argv[1:] if words is None else words
-    asked = command_parser(words[0] if words else "").parse_args(words)
+    if words and words[0] in program.COMMANDS:
+        return program.become_program(words)
+    parser = command_parser(words[0] if words else "")
+    asked = parser.parse_args(words)
     if isinstance(sys.stdout, io.TextIOWrapper):
         # files and pipes get UTF-8; a terminal keeps its encoding
         encoding = None if sys.stdout.isatty() else "utf-8"
         sys.stdout.reconfigure(encoding=encoding, errors="backslashreplace")
     try:
+        if not getattr(asked, "no_config", True):
+            asked = _configured(parser, asked, words)
         status: int = asked.run(asked)
         sys.stdout.flush()
         return status
@@ -71,6 +73,21 @@ def main(words: Optional[Sequence[str]] = None) -> int:
             print(f"storklocker: {shown(str(error))}", file=sys.stderr)
         _end_output()
         return FAULT
+
+
+def _configured(
+    parser: argparse.ArgumentParser, asked: argparse.Namespace, words: Sequence[str]
+) -> argparse.Namespace:
+    """The arguments, with the project's defaults for those that aren't there."""
+    from .configuring import configure  # few projects have any
+
+    taken = configure(asked.configured)
+    if not taken:
+        return asked
+    asked = parser.parse_args(words)
+    if not asked.quiet:
+        print(f"storklocker: options of {shown(taken, 1000)}", file=sys.stderr)
+    return asked
 
 
 def _end_output() -> None:
@@ -108,43 +125,8 @@ def _add_scan(commands: "argparse._SubParsersAction[argparse.ArgumentParser]") -
         epilog=_STATUSES,
         formatter_class=argparse.RawDescriptionHelpFormatter,
     )
-    it.add_argument("paths", nargs="+", metavar="PATH", help=_URL)
-    it.add_argument("--allow", action="append", metavar="LIST", help=_LISTS)
-    _add_descending(it)
-    for option, what in (("--include", "scan only"), ("--exclude", "leave out")):
-        it.add_argument(
-            option,
-            action="append",
-            default=[],
-            metavar="PATTERN",
-            help=f"{what} files of a folder with such a name, or such a path if it has a slash",
-        )
-    it.add_argument(
-        "--jobs", type=_jobs, default=1, metavar="N", help="number of processes; 1 by default"
-    )
-    it.add_argument(
-        "--cluster",
-        metavar="ADDRESS",
-        help="scan on the workers of a dask.distributed cluster, by the address of its scheduler",
-    )
-    it.add_argument(
-        "--resume",
-        metavar="FILE",
-        help="keep the reports in this file, and don't scan again what it has from another run",
-    )
-    it.add_argument(
-        "--format",
-        choices=("table", "json", "sarif", "html", "junit"),
-        default="table",
-        help="how the reports are written; a table by default",
-    )
-    it.add_argument(
-        "--fail-on",
-        choices=FAIL_ON,
-        help="the least that causes status 1; refused by default with --allow, else danger",
-    )
-    it.add_argument("--guarded", action="store_true", help=_GUARDED)
-    it.set_defaults(run=_scan)
+    add_options(it)
+    it.set_defaults(run=_scan, configured=it)
 
 
 def _add_check(commands: "argparse._SubParsersAction[argparse.ArgumentParser]") -> None:
@@ -152,8 +134,8 @@ def _add_check(commands: "argparse._SubParsersAction[argparse.ArgumentParser]") 
         "check", help="says of files whether a guard with a list loads them"
     )
     it.add_argument("paths", nargs="+", metavar="FILE", help="a file, or - for standard input")
-    it.add_argument("--allow", action="append", metavar="LIST", required=True, help=_LISTS)
-    it.add_argument("--guarded", action="store_true", help=_GUARDED)
+    it.add_argument("--allow", action="append", metavar="LIST", required=True, help=LISTS)
+    it.add_argument("--guarded", action="store_true", help=GUARDED)
     it.set_defaults(run=_check)
 
 
@@ -165,7 +147,7 @@ def _add_imports(commands: "argparse._SubParsersAction[argparse.ArgumentParser]"
 
 def _add_learn(commands: "argparse._SubParsersAction[argparse.ArgumentParser]") -> None:
     it = commands.add_parser("learn", help="writes a list file from trusted files or from logs")
-    it.add_argument("paths", nargs="*", metavar="PATH", help=_PATH)
+    it.add_argument("paths", nargs="*", metavar="PATH", help=PATH)
     it.add_argument(
         "--from-log",
         action="append",
@@ -173,23 +155,19 @@ def _add_learn(commands: "argparse._SubParsersAction[argparse.ArgumentParser]") 
         metavar="FILE",
         help="also take the names that the guard's `learning` has written",
     )
-    _add_descending(it)
+    add_descending(it)
     it.set_defaults(run=_learn)
 
 
-def _add_descending(it: argparse.ArgumentParser) -> None:
-    it.add_argument(
-        "--no-recursive",
-        action="store_false",
-        dest="recursive",
-        help="leave out subfolders, which causes status 2 if there are any",
-    )
-    it.add_argument("--recursive", action="store_true", default=True, help=argparse.SUPPRESS)
-
-
 def _add_lint(commands: "argparse._SubParsersAction[argparse.ArgumentParser]") -> None:
-    it = commands.add_parser("lint", help="lists the dangerous names in a list")
-    it.add_argument("list", metavar="LIST", help=_LIST)
+    it = commands.add_parser("lint", help="lists the dangerous and the unjudged names in a list")
+    it.add_argument("list", metavar="LIST", help=LIST)
+    it.add_argument(
+        "--fail-on",
+        choices=(DANGER, UNKNOWN),
+        default=UNKNOWN,
+        help="the least for which the status isn't 0; unknown by default",
+    )
     it.set_defaults(run=_lint)
 
 
@@ -200,14 +178,9 @@ _ADDING: Dict[str, Callable[["argparse._SubParsersAction[argparse.ArgumentParser
     "learn": _add_learn,
     "lint": _add_lint,
     "list": add_commands,
+    **{name: functools.partial(program.add_command, name) for name in program.COMMANDS},
 }
 """What adds each command to a parser."""
-
-
-def _jobs(word: str) -> int:
-    if not word.isdecimal() or not 1 <= int(word[:4]) <= 256:
-        raise argparse.ArgumentTypeError("expected a number from 1 to 256")
-    return int(word)
 
 
 @contextlib.contextmanager
@@ -216,8 +189,12 @@ def _files_of(asked: argparse.Namespace) -> Iterator[Files]:
     choice = Choice(getattr(asked, "include", ()), getattr(asked, "exclude", ()))
     is_measured = any(getattr(asked, it, None) for it in ("cluster", "resume"))
     is_measured |= getattr(asked, "jobs", 1) > 1
-    files = Files(asked.paths, getattr(asked, "recursive", True), choice, is_measured)
+    named = getattr(asked, "files_from", None)
+    paths = [*asked.paths, *(names_from(named, asked.null) if named else ())]
+    files = Files(paths, getattr(asked, "recursive", True), choice, is_measured)
     yield files
+    if getattr(asked, "quiet", False):
+        return
     if files.left_out:
         count = f"{files.left_out} folder{'s' * (files.left_out > 1)}"
         print(f"storklocker: {count} left unread by --no-recursive", file=sys.stderr)
@@ -229,49 +206,30 @@ def _files_of(asked: argparse.Namespace) -> Iterator[Files]:
 
 
 def _scan(asked: argparse.Namespace) -> int:
+    if not (asked.paths or asked.files_from):
+        asked.configured.error("scan takes paths, or --files-from with a file")
     allow = None if asked.allow is None else union_of(asked.allow)
-    asked.fail_on = asked.fail_on or (DANGER if allow is None else REFUSED)
+    asked.fail_on = asked.fail_on or (UNKNOWN if allow is None else REFUSED)
     told = Summary(asked.fail_on, asked.guarded)
-    question = Question(allow, with_sha256=asked.format == "json")
+    with_sha256 = asked.format in ("json", "ndjson") or bool(asked.baseline)
+    own = table_of(asked.danger) if asked.danger else ""
+    is_unrecognized = asked.fail_on == UNRECOGNIZED
+    question = Question(allow, with_sha256, dangers=own, with_unrecognized=is_unrecognized)
+    errors = None if asked.quiet else sys.stderr
     with _files_of(asked) as files:
         means = Means(asked.jobs, asked.cluster or "", asked.resume or "")
-        for line in _lines(asked, told.heard(scan(files, question, means, sys.stderr))):
-            print(line)
+        reports = scan(files, question, means, errors)
+        if asked.baseline:
+            from .baseline import Baseline  # few scans have one
+
+            reports = Baseline(asked.baseline).marked(reports)
+        for line in showing.lines(asked, told.heard(reports), told):
+            if not asked.quiet:
+                print(line, flush=asked.format == "ndjson")
     told.is_unread |= files.left_out > 0
-    if sys.stderr.isatty():
-        print(shown(told.line(_more(asked)), 2000), file=sys.stderr)
+    if errors is not None and errors.isatty() and not showing.is_on_terminal(asked):
+        print(shown(told.line(showing.more(asked)), 2000), file=errors)
     return _status(told)
-
-
-def _lines(asked: argparse.Namespace, reports: Iterator[Report]) -> Iterator[str]:
-    """The lines of the output."""
-    if asked.format == "table":
-        path = asked.paths[0]
-        is_lone = len(asked.paths) == 1 and not (is_url(path) or os.path.isdir(path))
-        return formats.table(reports, is_lone)
-    if asked.format == "json":
-        return formats.as_json(reports)
-    if asked.format == "sarif":
-        from . import sarif
-
-        return sarif.as_sarif(reports, __version__)
-    if asked.format == "junit":
-        from . import junit
-
-        return junit.as_junit(reports, counted(asked.fail_on, asked.guarded))
-    from . import html
-
-    return html.page(reports, __version__)
-
-
-def _more(asked: argparse.Namespace) -> str:
-    """The command that writes the page with everything that was found."""
-    words = ["storklocker", "scan", *asked.paths]
-    for option in ("allow", "include", "exclude"):
-        for value in getattr(asked, option) or ():
-            words += (f"--{option}", value)
-    words += [] if asked.recursive else ["--no-recursive"]
-    return " ".join(map(shlex.quote, [*words, "--format", "html"])) + " >report.html"
 
 
 def _status(told: Summary) -> int:
@@ -286,26 +244,33 @@ def _check(asked: argparse.Namespace) -> int:
     for path in asked.paths:
         is_pickle = False
         with _files_of(argparse.Namespace(paths=[path])) as files:
-            for report in told.heard(scan(files, Question(allow))):
-                is_named = len(asked.paths) > 1 or report.path not in (path, "standard input")
-                front = f"{shown(report.path)}: " if is_named else ""
-                print(front + (shown(report.why, 1000) or report.status))
+            for report in told.heard(scan(files, Question(allow, as_program=True))):
+                print(_answer(report, path, asked))
                 is_pickle |= report.status is not Word.NO_PICKLE
         status = status if is_pickle else NO
     return _status(told) or status
 
 
 def _imports(asked: argparse.Namespace) -> int:
-    told = Summary(REFUSED)
-    with _files_of(asked) as files:
-        for report in told.heard(scan(files, Question())):
-            for module, name in report.imports:
-                if module is None or name is None:
-                    print("unknown")
-                else:
-                    print(quoted(module), quoted(name))
-            print(f"{shown(report.path)}: {shown(report.why, 1000) or report.status}")
-    return _status(told)
+    told, is_broken = Summary(REFUSED), False
+    for path in asked.paths:
+        with _files_of(argparse.Namespace(paths=[path])) as files:
+            for report in told.heard(scan(files, Question(as_program=True))):
+                for module, name in report.imports:
+                    if module is None or name is None:
+                        print("unknown")
+                    else:
+                        print(printed(module), printed(name))
+                print(_answer(report, path, asked))
+                is_broken |= any(found.kind == "broken-pickle" for found in report.findings)
+    return NO if is_broken else _status(told)
+
+
+def _answer(report: Report, path: str, asked: argparse.Namespace) -> str:
+    """The program's line, behind the path unless that is the only one."""
+    is_named = len(asked.paths) > 1 or report.path not in (path, "standard input")
+    front = f"{shown(report.path)}: " if is_named else ""
+    return front + (shown(report.why, 1000) or report.status)
 
 
 def _learn(asked: argparse.Namespace) -> int:
@@ -324,7 +289,7 @@ def _learn(asked: argparse.Namespace) -> int:
     for report in learned.left_out:
         print(f"# left out: {shown(report.path)}: {shown(report.why)}")
     found = import_findings(learned.pairs)
-    for line in _lint_lines([finding for finding in found if finding.severity != NOTE]):
+    for line in _lint_lines([finding for finding in found if finding.severity != UNKNOWN]):
         print(f"# {line}")
     if GETATTR in learned.pairs:
         print(f"# {_GETATTR}")
@@ -352,7 +317,10 @@ def _lint(asked: argparse.Namespace) -> int:
         print(line)
     if GETATTR in allow and not (allow._meant and GETATTR in allow._meant.substitutes):
         print(_GETATTR)
-    return NO if any(finding.severity == DANGER for finding in found) else YES
+    severities = {finding.severity for finding in found}
+    if DANGER in severities:
+        return NO
+    return UNJUDGED if asked.fail_on == UNKNOWN and UNKNOWN in severities else YES
 
 
 def _lint_lines(found: Sequence[Finding]) -> Iterator[str]:
@@ -360,7 +328,7 @@ def _lint_lines(found: Sequence[Finding]) -> Iterator[str]:
     for finding in found:
         example = f" Example: {finding.example}" if finding.example else ""
         yield f"{formats.told(finding)}{example}"
-    yield f"{counts[DANGER]} dangerous, {counts[WARNING]} warnings, {counts[NOTE]} not judged"
+    yield f"{counts[DANGER]} dangerous, {counts[WARNING]} warnings, {counts[UNKNOWN]} not judged"
 
 
 if __name__ == "__main__":

@@ -104,6 +104,7 @@ def _weight(report: Report) -> int:
     texts = [report.path, report.path, report.file, report.kind, report.why, *names]
     for finding in report.findings:
         texts += (finding.name, finding.name, finding.why, finding.why, finding.example)
+        texts += finding.calls
     texts += (line.line for line in report.listing)
     text = "".join(texts)
     # a character takes up to 12 bytes in JSON, 6 in HTML

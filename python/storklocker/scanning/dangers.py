@@ -48,10 +48,41 @@ _INWARDS = frozenset(
 """Attributes through which a dotted name gets to everything."""
 
 
+_own = ""
+"""The table of a team, which comes before the one that is shipped."""
+_ROW = re.compile(r"#.*|\s.*|[\w.]+(\.\*)?(  .*)?|")
+_SECTION = re.compile(r"\[danger\] \S.*")
+
+
+def table_of(path: str) -> str:
+    """The table of a team's own dangers in a file. Raises OSError with the line of a fault."""
+    text, is_in_section = Path(path).read_text(encoding="utf-8", errors="replace"), False
+    for number, line in enumerate(text.splitlines(), 1):
+        is_section = _SECTION.fullmatch(line) is not None
+        is_in_section |= is_section
+        is_row = _ROW.fullmatch(line) is not None
+        if not (is_section or is_row and (is_in_section or line[:1] in ("", "#"))):
+            raise OSError(f"{path}:{number}: expected `[danger] A sentence.`, or below one a name")
+    return f"{text}\n"
+
+
+def judge_by(own: str) -> bool:
+    """Judges by this table too from now on. Returns whether that is new."""
+    global _own
+    if own == _own:
+        return False
+    _own = own
+    known.cache_clear()
+    is_suspect.cache_clear()
+    suspect_heads.cache_clear()
+    _judged_before.cache_clear()
+    return True
+
+
 @functools.lru_cache(maxsize=None)
 def known() -> Known:
     """The table of judged names."""
-    return Known(Path(__file__).with_name("known.txt").read_text(encoding="utf-8"))
+    return Known(_own + Path(__file__).with_name("known.txt").read_text(encoding="utf-8"))
 
 
 @functools.lru_cache(maxsize=None)
@@ -191,9 +222,11 @@ def _rows_inside(name: str) -> Iterator[Optional[Row]]:
         yield known().judged(".".join(words[at:]).lstrip("_"))
 
 
-def import_findings(pairs: Iterable[Pair], allow: Optional[AllowList] = None) -> List[Finding]:
+def import_findings(
+    pairs: Iterable[Pair], allow: Optional[AllowList] = None, is_text: bool = False
+) -> List[Finding]:
     """What is to be said of these imports, each of which is met once. Of a name on the list, only
-    that it is dangerous.
+    that it is dangerous. In a text, an unjudged module that isn't found here may just be a word.
     """
     found: Dict[str, List[Finding]] = {}
     counts: Dict[str, int] = {}
@@ -205,6 +238,8 @@ def import_findings(pairs: Iterable[Pair], allow: Optional[AllowList] = None) ->
             kind = _KINDS.get(row.severity, "unknown-import")
             if row.severity == HARMLESS:
                 continue
+            if is_text and not row.severity and not is_found_here(module):
+                kind = "text-import"
             if allow is not None and row.severity != DANGER and (module, name) in allow:
                 continue
         counts[kind] = counts.get(kind, 0) + 1

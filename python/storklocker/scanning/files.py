@@ -5,6 +5,7 @@ from __future__ import annotations
 import itertools
 import operator
 import os
+import sys
 from typing import Callable, Iterable, Iterator, List, NamedTuple, Optional, Tuple
 
 from .choosing import Choice
@@ -135,6 +136,18 @@ def _parents(path: str) -> Iterator[str]:
     while os.path.dirname(path) != path:
         path = os.path.dirname(path)
         yield path
+
+
+def names_from(path: str, is_null: bool) -> List[str]:
+    """The paths that a file names, `-` is standard input: a line each, or each up to a NUL."""
+    if path == "-":
+        data = sys.stdin.buffer.read()
+    else:
+        with open(path, "rb") as opened:
+            data = opened.read()
+    found = [os.fsdecode(it) for it in data.split(b"\0" if is_null else b"\n") if it]
+    # (a file of this name is meant, and not standard input)
+    return [os.path.join(".", it) if it == "-" else it for it in found]
 
 
 def is_url(path: str) -> bool:

@@ -1,50 +1,70 @@
-"""Reports as a table and as JSON."""
+"""Reports as a table, and as JSON."""
 
 from __future__ import annotations
 
 import functools
-from typing import Dict, Iterable, Iterator, List
+from collections import Counter
+from typing import Iterable, Iterator, List
 
+from .colour import Paint, plain
 from .report import Finding, Pair, Report, dotted, shown
-from .severity import DANGER
+from .severity import DANGER, KINDS
 from .words import Word
 
 _INDENT = " " * 12
-_QUIET = 20
+QUIET = 20
 """The most members without a pickle that the table names, where it names them at all."""
 
 
-def table(reports: Iterable[Report], names_all: bool = False) -> Iterator[str]:
-    """Texts of lines for each file or member that is a pickle or a finding, then a line of totals.
-
-    names_all: also a line for what has no pickle, and what that is.
-    """
-    found: Dict[Word, int] = {}
-    for report in reports:
-        count = found[report.status] = found.get(report.status, 0) + 1
-        if report.status is not Word.NO_PICKLE or report.findings or names_all and count <= _QUIET:
-            yield "\n".join(_lines(report))
-    if names_all and found.get(Word.NO_PICKLE, 0) > _QUIET:
-        yield f"{_INDENT}{found[Word.NO_PICKLE] - _QUIET} more without a pickle"
+def table(reports: Iterable[Report], quiet: int = 0, paint: Paint = plain) -> Iterator[str]:
+    """The rows, then a line of totals."""
+    found: "Counter[Word]" = Counter()
+    yield from rows(_counted(reports, found), quiet, paint)
     yield ", ".join(f"{count} {status}" for status, count in sorted(found.items())) or "no files"
 
 
-def _lines(report: Report) -> List[str]:
-    line = f"{report.status:10}  {shown(report.path)}  {report.kind}  {shown(report.why)}"
-    lines, missing = [line.rstrip()], set(report.missing)
+def _counted(reports: Iterable[Report], found: "Counter[Word]") -> Iterator[Report]:
+    for report in reports:
+        found[report.status] += 1
+        yield report
+
+
+def rows(reports: Iterable[Report], quiet: int = 0, paint: Paint = plain) -> Iterator[str]:
+    """Texts of lines for each file or member that is a pickle or a finding.
+
+    quiet: how many without a pickle get a line too, which says what they are.
+    """
+    count, is_unknown = 0, False
+    for report in reports:
+        is_unknown |= report.status is Word.UNKNOWN
+        is_quiet = report.status is Word.NO_PICKLE and not report.findings
+        count += is_quiet
+        if not is_quiet or count <= quiet:
+            yield "\n".join(_lines(report, paint))
+    if 0 < quiet < count:
+        yield f"{_INDENT}{count - quiet} more without a pickle"
+    if is_unknown:
+        yield f"{_INDENT}what to do: {KINDS['unknown-import'].advice}"
+
+
+def _lines(report: Report, paint: Paint) -> List[str]:
+    word = paint(f"{report.status:10}", report.status.value)
+    lines = [f"{word}  {shown(report.path)}  {report.kind}  {shown(report.why)}".rstrip()]
+    missing = set(report.missing)
     for pair in report.imports:
         lines.append(f"{_INDENT}{'off the list' if pair in missing else 'imports'}: {_named(pair)}")
     for finding in report.findings:
         if finding.why != report.why:
-            lines.append(f"{_INDENT}{told(finding)}")
+            lines.append(f"{_INDENT}{told(finding, paint)}")
+            lines += (f"{_INDENT}called: {call}" for call in finding.calls)
     return lines
 
 
-def told(finding: Finding) -> str:
+def told(finding: Finding, paint: Paint = plain) -> str:
     """A finding in a line."""
-    word = Word.DANGEROUS if finding.severity == DANGER else finding.severity
+    word = Word.DANGEROUS.value if finding.severity == DANGER else finding.severity
     name = f"{shown(finding.name, 256)}: " if finding.name else ""
-    return f"{word}: {name}{shown(finding.why)}"
+    return f"{paint(word, finding.severity)}: {name}{shown(finding.why)}"
 
 
 # (the files of a scan mostly import the same names)
@@ -62,3 +82,11 @@ def as_json(reports: Iterable[Report]) -> Iterator[str]:
         yield front + json.dumps(report.as_dict())
         front = ","
     yield "[]" if front == "[" else "]"
+
+
+def as_ndjson(reports: Iterable[Report]) -> Iterator[str]:
+    """The objects of `as_json`, a line each."""
+    import json
+
+    for report in reports:
+        yield json.dumps(report.as_dict())

@@ -30,7 +30,7 @@ def page(reports: Iterable[Report], version: str) -> Iterator[str]:
     yield "<meta http-equiv=Content-Security-Policy"
     yield " content=\"default-src 'none'; style-src 'unsafe-inline'; script-src 'unsafe-inline'\">"
     yield f"<style>{STYLE}</style><main><header class='{headline}'>"
-    yield f"<h1>{HEADLINES[headline]}</h1>"
+    yield f"<h1>{_marked(HEADLINES[headline])}</h1>"
     yield f"<p>{found.line()} Storklocker {escape(version)}.</p></header>"
     yield from _advice(found.kinds)
     yield from _buttons(found)
@@ -125,7 +125,7 @@ def _what(report: Report) -> str:
     ]
     if names and report.status is not Word.NO_PICKLE:
         is_open = " open" if len(names) <= _SHOWN else ""
-        parts.append(f"<details{is_open}><summary>{_imports(len(names))}</summary>")
+        parts.append(f"<details{is_open}><summary>{_counted(len(names))}</summary>")
         parts.append(f"{', '.join(names)}</details>")
     if report.listing:
         lines = [
@@ -146,7 +146,8 @@ def _told(name: str, findings: List[Finding], why: str) -> str:
         code = f"<code>{_text(finding.name)}</code> " if finding.name else ""
         example = f" Example: <code>{_text(finding.example)}</code>" if finding.example else ""
         if code or said:
-            lines.append(f"<li>{code}{said}{example}")
+            calls = "".join(f"<br>Called: <code>{_text(it)}</code>" for it in finding.calls)
+            lines.append(f"<li>{code}{said}{example}{calls}")
     listed = f"<ul>{''.join(lines[:_SHOWN])}</ul>" if lines else ""
     if len(lines) > _SHOWN:
         listed += f"<details><summary>{len(lines) - _SHOWN} more lines</summary>"
@@ -155,8 +156,8 @@ def _told(name: str, findings: List[Finding], why: str) -> str:
     return f"<div class=finding>{title}{listed}<p class=do>{_marked(kind.advice)}</p></div>"
 
 
-def _imports(count: int) -> str:
-    return "1 import" if count == 1 else f"{count:,} imports"
+def _counted(count: int) -> str:
+    return "1 name" if count == 1 else f"{count:,} names"
 
 
 def _marked(text: str) -> str:

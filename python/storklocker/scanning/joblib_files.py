@@ -38,6 +38,7 @@ def without_arrays(
         nested = source.part(gap.start, gap.size)
         other = Row(piece._replace(source=nested), allow, budget)
         first.names.update(other.names)
+        first.imports += other.imports
         first.sources.append(nested)
         first.is_complete &= other.is_complete
         if first.refusal is None:  # (a refusal is false)

@@ -8,11 +8,13 @@ import itertools
 import re
 from typing import TYPE_CHECKING, BinaryIO, Dict, Iterator, List, NamedTuple, Optional, Tuple
 
+from .._answers import RowVerdict, Verdict
 from .._hints import hint_of
 from .._lists import AllowList, within
-from .budget import NAMES, STEP, UNPACKED, Budget, TooMuch
+from .budget import NAMES, STEP, Budget, TooMuch
 from .costs import COUNTED, bill_of, cost_finding
-from .dangers import import_findings
+from .dangers import import_findings, judge_by
+from .digests import sha256_of, with_sha256
 from .joblib_files import WRAPPER_NAMES, without_arrays
 from .listing import listing
 from .lone import Lone
@@ -22,7 +24,7 @@ from .readings import (
 )
 from .report import LONGEST, Finding, Pair, Report, judged, unreadable
 from .rows import Row, row_of
-from .severity import NOTE
+from .severity import DANGER, MILD, UNRECOGNIZED
 from .source import Source, in_memory, source_of
 from .words import Word
 
@@ -41,6 +43,14 @@ class Question(NamedTuple):
     """The list to judge by, if any."""
     with_sha256: bool = False
     """Whether the reports need the SHA-256, which takes half as long as a check."""
+    as_program: bool = False
+    """Whether the answers are those of the program: a file that isn't a container is judged as
+    pickles, also if no reader would get to one.
+    """
+    dangers: str = ""
+    """The table of a team's own dangers."""
+    with_unrecognized: bool = False
+    """Whether a file that no reading knows is a finding."""
 
 
 def prepare() -> None:
@@ -59,18 +69,41 @@ def reports_of(
     """The reports on a file: one for each piece that is a pickle, and one for each finding. It may
     not be lone if `lone_report` has been asked.
     """
+    _judge_by(question.dangers)
     try:
         source = source_of(file)
+    except TooMuch as error:
+        yield _too_much(error, path)
+        return
+    place = Place(path, source, Budget(source.size), beside=beside)
+    found = _reports_on(place, question, may_be_lone)
+    yield from with_sha256(found, source) if question.with_sha256 else found
+
+
+def _reports_on(place: Place, question: Question, may_be_lone: bool) -> Iterator[Report]:
+    path, source = place.path, place.source
+    try:
         may_be_lone &= len(source.front()) == source.size
         lone = lone_report(path, source.front(), question) if may_be_lone else None
         if lone is not None:
             yield lone
             return
-        budget = Budget(source.size)
-        budget.lone = _lone_under(question.allow)
-        yield from _reports_at(Place(path, source, budget, beside=beside), question)
+        place.budget.lone = _lone_under(question.allow)
+        yield from _reports_at(place, question)
     except TooMuch as error:
-        yield unreadable(path, "file", Finding("too-much", str(error)), path)
+        yield _too_much(error, path)
+
+
+def _too_much(error: TooMuch, path: str) -> Report:
+    return unreadable(path, "file", Finding("too-much", str(error)), path)
+
+
+def _judge_by(dangers: str) -> None:
+    """Forgets what was judged by another table of dangers."""
+    global _lone
+    if judge_by(dangers):
+        _texts_of.cache_clear()
+        _lone = Lone(_lone.allow)
 
 
 _lone = Lone(None)
@@ -81,18 +114,31 @@ def lone_report(path: str, data: bytes, question: Question) -> Optional[Report]:
     """The report on a file that is these bytes, one small pickle, as most are; None if it isn't
     known to be.
     """
+    _judge_by(question.dangers)
     told = _lone_under(question.allow).told(path, data)
     if told is None:
         return None
     size, imports = len(data), told.imports
-    status, why = _accepted(size, len(imports), question.allow)
+    status, why = _accepted(Verdict(True, size, told.made), question)
     source = in_memory(io.BytesIO(data))
-    sha256 = _sha256(source) if question.with_sha256 else ""
+    sha256 = sha256_of(source) if question.with_sha256 else ""
     report = Report(path, "pickle", status, why, size, sha256, 1, imports, file=path)
     findings = list(told.findings)
     if imports and question.allow is not None:
         report = _foreseen(report, [(source, 1)], question.allow, findings)
+    findings = _with_calls(findings, source, size, Budget(size))
     return judged(report, findings) if findings else report
+
+
+def _with_calls(
+    findings: List[Finding], source: Source, end: int, budget: Budget
+) -> List[Finding]:
+    """The findings on pickles up to a place, with the calls of dangerous names."""
+    if all(it.severity != DANGER for it in findings):
+        return findings
+    from .calls import with_calls  # most scans have no need of it
+
+    return with_calls(findings, source, end, budget)
 
 
 def _lone_under(allow: Optional[AllowList]) -> Lone:
@@ -102,11 +148,11 @@ def _lone_under(allow: Optional[AllowList]) -> Lone:
     return _lone
 
 
-def _accepted(taken: int, count: int, allow: Optional[AllowList]) -> Tuple[Word, str]:
-    """The word and the line of an accepted pickle with so many bytes and names."""
-    if allow is None:
-        return Word.UNJUDGED, f"{taken} bytes, {count} names"
-    return Word.ACCEPTED, f"yes: {taken} bytes, {count} names"
+def _accepted(yes: Verdict, question: Question) -> Tuple[Word, str]:
+    """The word and the line of accepted pickles."""
+    is_answer = question.as_program or question.allow is not None
+    line = yes.line() if is_answer else yes.line().replace("yes: ", "", 1)
+    return Word.UNJUDGED if question.allow is None else Word.ACCEPTED, line
 
 
 def _foreseen(
@@ -136,10 +182,12 @@ def _reports_at(place: Place, question: Question) -> Iterator[Report]:
             return
         answer = None
         budget.spend(4 * STEP)
+        if question.as_program and isinstance(it, Nothing) and _is_plain(it, place):
+            it = place.piece("pickle", is_claimed=True)
         if isinstance(it, Together):
-            yield _told_together(it, question.allow, place)
+            yield _told_together(it, question, place)
         elif isinstance(it, Nothing):
-            yield _nothing(it, place.path)
+            yield _nothing(it, place.path, question)
         elif isinstance(it, Unread):
             yield unreadable(it.path, it.kind, it.finding, place.path)
         else:
@@ -157,19 +205,27 @@ def _reports_at(place: Place, question: Question) -> Iterator[Report]:
         budget.reports += 1
 
 
-def _nothing(it: Nothing, file: str) -> Report:
+def _is_plain(it: Nothing, place: Place) -> bool:
+    """Whether this is a file that no reader takes, and the only thing that is told of it."""
+    is_taken = it.finding is not None or it.kind not in ("file", UNRECOGNIZED)
+    return it.path == place.path and not (is_taken or place.budget.reports)
+
+
+def _nothing(it: Nothing, file: str, question: Question) -> Report:
     """The report on bytes without a pickle, or with what isn't read here."""
     report = Report(it.path, it.kind, Word.NO_PICKLE, it.why, it.size, file=file)
+    if it.kind == UNRECOGNIZED and question.with_unrecognized:
+        return judged(report, [Finding("unrecognized", "no reading knows what it is")])
     if it.finding is None:
         return report
     return judged(report._replace(status=Word.CODE), [it.finding])
 
 
-def _told_together(it: Together, allow: Optional[AllowList], place: Place) -> Report:
+def _told_together(it: Together, question: Question, place: Place) -> Report:
     """The report on values of which only the imports are to be told."""
     pairs = dict.fromkeys(pair for told in it.told for pair in told.imports)
     findings = dict.fromkeys(found for told in it.told for found in told.findings)
-    status, why = _accepted(it.size, len(pairs), allow)
+    status, why = _accepted(Verdict(True, it.size, it.imports), question)
     report = Report(
         it.path,
         it.kind,
@@ -188,16 +244,19 @@ def _counts(row: Row, allow: Optional[AllowList]) -> bool:
     if allow is not None:
         return not (row.is_complete and all(map(allow._permits, row.names)))
     found = import_findings(map(pair_of, row.names))
-    return not row.is_complete or any(finding.severity != NOTE for finding in found)
+    return not row.is_complete or any(finding.severity not in MILD for finding in found)
 
 
 def _judged(piece: Piece, row: Row, question: Question, place: Place) -> Report:
-    imports, missing, findings = _told_names(row, question.allow, place.budget)
+    is_text = _has_text(piece, row)
+    imports, missing, findings = _told_names(row, question.allow, place.budget, is_text)
     allow, no = question.allow, row.guarded() if row.refusal is None else row.refusal
-    status, why = _accepted(row.taken, len(row.names), allow)
+    kind = RowVerdict if row.pickles > 1 else Verdict
+    yes = kind(True, row.taken, row.imports, pickles=row.pickles)
+    status, why = _accepted(yes, question)
     if row.refusal is not None:
         why = _refusal_line(piece, row, allow)
-        if allow is not None or not _is_text(piece, row):
+        if allow is not None or question.as_program or not is_text:
             is_refused = allow is not None and not (piece.is_cut and not missing)
             status = Word.REFUSED if is_refused else Word.UNREADABLE
             findings.append(Finding("refused" if is_refused else "broken-pickle", why))
@@ -215,7 +274,7 @@ def _judged(piece: Piece, row: Row, question: Question, place: Place) -> Report:
         status,
         why,
         piece.source.size,
-        _sha256(piece.source) if question.with_sha256 else "",
+        sha256_of(piece.source) if question.with_sha256 else "",
         row.pickles,
         imports,
         missing,
@@ -227,6 +286,7 @@ def _judged(piece: Piece, row: Row, question: Question, place: Place) -> Report:
     if status is Word.ACCEPTED and row.names and allow is not None:
         held = [(source, max(row.pickles, 1)) for source in row.sources]
         report = _foreseen(report, held, allow, findings)
+    findings = _with_calls(findings, piece.source, row.taken, place.budget)
     return judged(_raw(report, row.raw, findings) if row.raw else report, findings)
 
 
@@ -252,7 +312,7 @@ def _raw(report: Report, why: str, findings: List[Finding]) -> Report:
 
 
 def _kind_of(piece: Piece, row: Row) -> str:
-    if _is_text(piece, row):
+    if _has_text(piece, row):
         return "text"
     if row.pickles < 2 or piece.most:
         return piece.kind
@@ -262,15 +322,15 @@ def _kind_of(piece: Piece, row: Row) -> str:
 _Told = Tuple[Tuple[Pair, ...], Tuple[Pair, ...], List[Finding]]
 
 
-def _told_names(row: Row, allow: Optional[AllowList], budget: Budget) -> _Told:
+def _told_names(row: Row, allow: Optional[AllowList], budget: Budget, is_text: bool) -> _Told:
     """The imports of a report, those off the list, and what is to be said of them."""
     length = sum(len(module or b"") + len(name or b"") for module, name in row.names)
     if row.refusal is None and length <= _SHORT:
         pairs, is_harmless = _texts_of(tuple(row.names))
         if all(map(budget.spend_name, pairs)):
-            return pairs, (), [] if is_harmless else import_findings(pairs, allow)
+            return pairs, (), [] if is_harmless else import_findings(pairs, allow, is_text)
     imports, missing = _shown_names(row, allow, budget)
-    return imports, missing, import_findings(map(pair_of, row.names), allow)
+    return imports, missing, import_findings(map(pair_of, row.names), allow, is_text)
 
 
 # (the files of a scan mostly import the same names)
@@ -317,7 +377,7 @@ def _cut_findings(row: Row) -> List[Finding]:
     return []
 
 
-def _is_text(piece: Piece, row: Row) -> bool:
+def _has_text(piece: Piece, row: Row) -> bool:
     """Whether it is a text whose first characters look like instructions, and all readers stop in
     it. If its end stops them, these are imports alone.
     """
@@ -327,19 +387,3 @@ def _is_text(piece: Piece, row: Row) -> bool:
     if row.is_cut and _IMPORTS.fullmatch(front[: row.stop]) is None:
         return False
     return is_text(front)
-
-
-def _sha256(source: Source) -> str:
-    """The digest of all bytes, unless there are very many."""
-    import hashlib
-
-    if source.size > UNPACKED:
-        return ""
-    made, at = hashlib.sha256(), 0
-    while at < source.size:
-        data = source.read(at, 1 << 20)
-        if not data:
-            break
-        made.update(data)
-        at += len(data)
-    return made.hexdigest()

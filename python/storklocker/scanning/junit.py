@@ -57,14 +57,13 @@ def _write(
 
 
 def _outcome(report: Report, counted: Container[str]) -> Optional[str]:
-    severities = {report.status, *(finding.severity for finding in report.findings)}
-    if any(severity in counted for severity in severities):
+    if any(severity in counted for severity in report.severities):
         return "failure"
-    return "error" if UNREADABLE in severities else None
+    return "error" if UNREADABLE in report.severities else None
 
 
 def _line(finding: Finding) -> str:
-    return shown(f"{finding.name}: {finding.why}" if finding.name else finding.why, _TEXT)
+    return shown(finding.line, _TEXT)
 
 
 def _safe(text: str) -> str:

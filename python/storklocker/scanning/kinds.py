@@ -8,10 +8,12 @@ import json
 import re
 from typing import Any, Dict, List, Optional, Tuple
 
+from .marks import RECORDS
 from .readings import Found, Piece, Place, is_text
 from .severity import UNRECOGNIZED
-from .source import Source
-from .stores import searched
+from .source import BLOCK, Source
+from .stores import imports_at, is_value, searched
+from .values import Values
 
 _HEADER = 100_000_000
 
@@ -35,7 +37,7 @@ STORES: Tuple[Tuple[bytes, str], ...] = (
 """How files begin that are looked through for pickles."""
 
 
-_RECORDS = re.compile(rb"\0.{3}\x80[\2-\5]", re.DOTALL)
+_RECORDS = re.compile(RECORDS, re.DOTALL)
 _FRONTS = tuple((re.compile(begun, re.DOTALL), name) for begun, name in RECOGNIZED)
 _STORED = tuple((re.compile(begun, re.DOTALL), name) for begun, name in STORES)
 
@@ -49,8 +51,8 @@ _WIDTHS: Dict[str, int] = {
 def stored_reading(place: Place) -> Found:
     """The pickles in stores that no reading of their own has."""
     front = place.source.front()
-    if _RECORDS.match(front):
-        return (yield from _records(place))
+    if _RECORDS.match(front) and (yield from _records(place)):
+        return True
     for begun, name in _STORED:
         if begun.match(front):
             yield from searched(place, name)
@@ -59,17 +61,24 @@ def stored_reading(place: Place) -> Found:
 
 
 def _records(place: Place) -> Found:
-    """Pickles behind their lengths, as `SocketHandler` of `logging` sends them."""
-    source, at, is_any = place.source, 0, False
-    while source.read(at + 4, 1) == b"\x80":
-        size = int.from_bytes(source.read(at, 4), "big")
-        if not 0 < size <= source.size - at - 4:
+    """Pickles behind their lengths, as `SocketHandler` of `logging` sends them. A reader that loads
+    one gets to the next, whatever that begins with, and loads what is there of the last.
+    """
+    source, at, is_any = place.source, 4, False
+    values = Values(place, "record")
+    while at < source.size:
+        size = min(int.from_bytes(source.read(at - 4, 4), "big"), source.size - at)
+        record = source.part(at, size)
+        if 0 < size <= BLOCK and values.taken(source.read(at, size)) == size:
+            is_any = True
+        elif size and is_value(record, place.budget):
+            is_any = True
+            place.budget.spend_member()
+            yield Piece(f"{place.path}!at {at}", "record", record, True, 1)
+        elif not size or not imports_at(record, 0, place.budget).end:
             break
-        place.budget.spend_member()
-        is_any = True
-        record = source.part(at + 4, size)
-        yield Piece(f"{place.path}!at {at + 4}", "record", record, True, 1)
-        at += 4 + size
+        at += size + 4
+    yield from values.told()
     return is_any
 
 

@@ -17,6 +17,7 @@ class Row(NamedTuple):
     severity: str
     """`danger`, `warning` or `harmless`."""
     why: str = ""
+    """Why it does harm; of a harmless name, how that was judged: `read`, `run` or `derived`."""
     example: str = ""
     """An expression that does harm through a dangerous name."""
 
@@ -33,35 +34,47 @@ class Known:
         self._led_to: List[str] = []
         self._under: Dict[str, Row] = {}
         self._begun: List[Tuple[str, Row]] = []
-        for header, lines in _sections(text):
-            self._add(header, lines)
+        for header, body in _sections(text):
+            self._add(header, body)
 
-    def _add(self, header: str, lines: List[str]) -> None:
-        kind, _, why = header[1:].partition("] ")
+    def _add(self, header: str, body: str) -> None:
+        kind, _, why = header.partition("] ")
         kind = kind.rstrip("]")
         if kind in (_SAME, _ALIAS):
-            for line in lines:
+            for line in body.splitlines():
                 name, same = line.split()[:2]
                 self._same[name] = same
                 self._led_to.append(name)
         elif kind == "danger":
-            for name, example in _examples(lines):
+            for name, example in _examples(body.splitlines()):
                 self._put(name, Row(kind, why, example))
         else:
             severity = kind
             if kind == _LEADS:
                 sink = self.judged(why)
                 severity, why = "warning", f"It leads to {why}. {sink.why if sink else ''}".rstrip()
-            row = Row(severity, why)
-            for name in " ".join(lines).split():
-                self._put(name, row)
+            self._put_all(body, Row(severity, why))
+
+    def _put_all(self, body: str, row: Row) -> None:
+        """Puts many names, as most of the table is, in less time than one by one."""
+        names = body.split()
+        added = dict.fromkeys(names, row)
+        for name in added.keys() & self.rows.keys():
+            del added[name]
+        self.rows.update(added)
+        if row.severity != HARMLESS:
+            self._led_to += names
+        for name in names if "*" in body else ():
+            if name[-1] == "*":
+                self._put_pattern(name, row)
 
     def _put(self, name: str, row: Row) -> None:
         self.rows.setdefault(name, row)
-        if row.severity != HARMLESS:
-            self._led_to.append(name)
-        if not name.endswith("*"):
-            return
+        self._led_to.append(name)
+        if name[-1] == "*":
+            self._put_pattern(name, row)
+
+    def _put_pattern(self, name: str, row: Row) -> None:
         if name.endswith(".*"):
             self._under.setdefault(name[:-2], row)
         else:
@@ -114,19 +127,11 @@ def _fronts_of(name: str, most: int = -1) -> Iterator[str]:
         yield name
 
 
-def _sections(text: str) -> Iterator[Tuple[str, List[str]]]:
-    """The headers of the table, each with the lines under it."""
-    header = ""
-    lines: List[str] = []
-    for line in text.splitlines():
-        if line.startswith("["):
-            if header:
-                yield header, lines
-            header, lines = line, []
-        elif line and not line.startswith("#"):
-            lines.append(line)
-    if header:
-        yield header, lines
+def _sections(text: str) -> Iterator[Tuple[str, str]]:
+    """The headers of the table, each without its first bracket, and what is under it."""
+    for section in f"\n{text}".split("\n[")[1:]:
+        header, _, body = section.partition("\n")
+        yield header, f"\n{body}".partition("\n#")[0].strip("\n")
 
 
 def _examples(lines: List[str]) -> Iterator[Tuple[str, str]]:

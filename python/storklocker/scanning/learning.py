@@ -8,11 +8,12 @@ from typing import Dict, Iterable, Iterator, List, Tuple
 from .._learning import LARGEST, Seen, read_log
 from .._names import today
 from .._writing import quoted
-from .dangers import danger_of
+from .dangers import danger_of, judged
 from .report import Report, shown
 from .words import Word
 
 _SHOWN = 5
+_UNJUDGED = "  # Nobody has judged what a pickle can do with these: read each before you permit it."
 Pair = Tuple[str, str]
 
 
@@ -59,13 +60,17 @@ class Learned:
             modules.setdefault(module, []).append(name)
         for module, names in modules.items():
             yield f"{quoted(module)} = ["
-            for name in names:
-                why = danger_of((module, name))
-                if why:
-                    yield f"  # {quoted(name)},  # {self._needed_by((module, name))}. {why}"
-                else:
-                    yield f"  {quoted(name)},  # {self._needed_by((module, name))}"
+            unknown = [name for name in names if judged(module, name) is None]
+            yield from (self._line(module, name) for name in names if name not in unknown)
+            if unknown:
+                yield _UNJUDGED
+                yield from (self._line(module, name) for name in unknown)
             yield "]"
+
+    def _line(self, module: str, name: str) -> str:
+        why, needed = danger_of((module, name)), self._needed_by((module, name))
+        line = f"{quoted(name)},  # {needed}"
+        return f"  # {line}. {why}" if why else f"  {line}"
 
     def _needed_by(self, pair: Pair) -> str:
         files, seen = self.pairs[pair], self.seen.get(pair)

@@ -28,7 +28,7 @@ Names = Tuple[Optional[bytes], Optional[bytes]]
 UNKNOWN: Names = (None, None)
 """A name that isn't shown."""
 
-_ANY, _OTHER = object(), object()
+ANY, OTHER = object(), object()
 """A value that may be a text, and one that is none."""
 
 
@@ -61,22 +61,22 @@ class Followed(NamedTuple):
 def followed_from(source: Source, at: int, is_open: bool = False) -> Followed:
     """Follows the pickle that begins at a place; or, if it is open, one that began in front of it.
     """
-    walk = _Walk(source, at, is_open)
-    is_ended = is_complete = True
-    try:
-        walk.run()
-    except Lost:
-        is_ended = is_complete = False
-    except (Stop, IndexError):
-        is_ended = False
+    walk = Walk(source, at, is_open)
+    is_ended, is_complete = walk.through()
     is_complete &= not walk.is_misread
     return Followed(
         walk.names, is_ended, walk.at, is_complete, walk.steps, walk.has_numbered, walk.is_misread
     )
 
 
-class _Walk(Spelled):
-    def __init__(self, source: Source, at: int, is_open: bool) -> None:
+class Walk(Spelled):
+    """Follows a pickle. Who looks for more in it derives a class, with other `acts`."""
+
+    acts: Dict[int, Callable[[Any], object]]
+    """What each instruction does, by its code."""
+    most = STEPS
+
+    def __init__(self, source: Source, at: int, is_open: bool = False) -> None:
         super().__init__(source, at)
         self._is_open = is_open
         self._stack: List[Any] = []
@@ -88,18 +88,29 @@ class _Walk(Spelled):
         self.steps = 0
         self.has_numbered = self.is_misread = False
 
-    def run(self) -> None:
+    def through(self) -> Tuple[bool, bool]:
+        """Follows it. Returns whether it gets to STOP, and whether no reader goes on."""
+        try:
+            self._run()
+        except Lost:
+            return False, False
+        except (Stop, IndexError):
+            return False, True
+        return True, True
+
+    def _run(self) -> None:
         """Follows it up to STOP."""
+        acts, most = self.acts, self.most
         while True:
             start, code = self.at, self.take(1)
             if not code or code[0] not in LENGTHS:
                 raise Stop
             self.steps += 1
-            if self.steps > STEPS:
+            if self.steps > most:
                 raise Lost
             frame = self._frame
             try:
-                _ACTS[code[0]](self)
+                acts[code[0]](self)
             finally:  # (the reader in C drops the front of what crosses a frame's end)
                 self.is_misread |= start < frame < self.at
             if code == b".":
@@ -110,13 +121,13 @@ class _Walk(Spelled):
     def _pop(self) -> Any:
         if self._stack or not self._is_open or self._below:
             return self._stack.pop()
-        return _ANY
+        return ANY
 
     def top(self) -> Any:
         if self._stack or not self._is_open or self._below:
             return self._stack[-1]
-        self._stack.append(_ANY)
-        return _ANY
+        self._stack.append(ANY)
+        return ANY
 
     def to_mark(self) -> None:
         """Drops what is above the last mark."""
@@ -127,7 +138,7 @@ class _Walk(Spelled):
         else:
             raise Stop
 
-    def push(self, value: Any = _OTHER) -> None:
+    def push(self, value: Any = OTHER) -> None:
         self._stack.append(value)
 
     # ---- imports
@@ -145,32 +156,32 @@ class _Walk(Spelled):
         for text in (module, name):
             decoded(text, coding)
         self._import(module, name)
-        self.push(_ANY)
+        self.push(ANY)
 
     def instance(self) -> None:
         """INST, for which the reader in Python imports first."""
         self.by_lines("ascii")
         self.to_mark()
-        self.push(_ANY)
+        self.push(ANY)
 
     def from_stack(self) -> None:
         """STACK_GLOBAL."""
         name, module = self._pop(), self._pop()
-        if name is _OTHER or module is _OTHER:
+        if name is OTHER or module is OTHER:
             raise Stop
-        if name is _ANY or module is _ANY:
+        if name is ANY or module is ANY:
             if not self.has_numbered:
                 self.names[UNKNOWN] = None
         else:
             self._import(encoded(module), encoded(name))
-        self.push(_ANY)
+        self.push(ANY)
 
     def registered(self, width: int) -> None:
         """EXT1, EXT2 and EXT4, which import what is registered under a number."""
         if int.from_bytes(self.exactly(width), "little", signed=width == 4) <= 0:
             raise Stop
         self.has_numbered = True
-        self.push(_ANY)
+        self.push(ANY)
 
     # ---- instructions with an argument
 
@@ -178,7 +189,7 @@ class _Walk(Spelled):
         count = self.counted(width)
         if count > _LONGEST:
             self.skip(count)
-            self.push(_ANY)
+            self.push(ANY)
         else:
             self.push(decoded(self.take(count), "utf-8", "surrogatepass"))
 
@@ -186,7 +197,7 @@ class _Walk(Spelled):
         count = self.counted(width, width == 4)
         if count > _LONGEST:
             self.skip(count)
-            self.push(_ANY)
+            self.push(ANY)
         else:
             self.push(self.take(count).decode("latin-1"))
 
@@ -196,12 +207,12 @@ class _Walk(Spelled):
         if len(line) < 2 or line[0] != line[-1] or line[:1] not in b"'\"":
             raise Stop
         is_long = len(line) > 4 * _LONGEST
-        self.push(_ANY if is_long else unescaped(line[1:-1]).decode("latin-1"))
+        self.push(ANY if is_long else unescaped(line[1:-1]).decode("latin-1"))
 
     def unicode(self) -> None:
         line = self.line()
         is_long = len(line) > 4 * _LONGEST
-        self.push(_ANY if is_long else decoded(line, "raw-unicode-escape"))
+        self.push(ANY if is_long else decoded(line, "raw-unicode-escape"))
 
     def payload(self, width: int, is_signed: bool = False) -> None:
         self.skip(self.counted(width, is_signed))
@@ -226,7 +237,7 @@ class _Walk(Spelled):
     def persistent(self) -> None:
         if self.line().translate(None, _ASCII):
             raise Stop
-        self.push(_ANY)
+        self.push(ANY)
 
     def protocol(self) -> None:
         if self.exactly(1) > b"\5":
@@ -249,7 +260,7 @@ class _Walk(Spelled):
     def get(self, width: int) -> None:
         number = self._memo_number(width)
         if self._is_open:
-            self.push(_ANY)
+            self.push(ANY)
         elif number in self._memo:
             self.push(self._memo[number])
         else:
@@ -273,7 +284,7 @@ class _Walk(Spelled):
         self._below.append(self._stack)
         self._stack = []
 
-    def collect(self, is_in_front: bool, value: Any = _OTHER) -> None:
+    def collect(self, is_in_front: bool, value: Any = OTHER) -> None:
         """Takes what is above the mark, and puts it into what is in front of it, or makes a value.
         """
         self.to_mark()
@@ -286,9 +297,9 @@ class _Walk(Spelled):
         """OBJ."""
         if not self._stack and not (self._is_open and not self._below):
             raise Stop
-        self.collect(False, _ANY)
+        self.collect(False, ANY)
 
-    def replace(self, count: int, value: Any = _ANY) -> None:
+    def replace(self, count: int, value: Any = ANY) -> None:
         """Takes so many values, and pushes one."""
         for _ in range(count):
             self._pop()
@@ -301,47 +312,44 @@ class _Walk(Spelled):
         self.top()
 
 
-_Act = Callable[[_Walk], object]
-
-
-def _acts() -> Dict[int, _Act]:
+def _acts() -> Dict[int, Callable[[Walk], object]]:
     """What each instruction does, by its code."""
-    found: Dict[str, _Act] = {
-        "MARK": _Walk.mark, "POP": _Walk.pop, "POP_MARK": _Walk.to_mark, "STOP": _Walk.take_top,
-        "GLOBAL": _Walk.by_lines, "INST": _Walk.instance, "STACK_GLOBAL": _Walk.from_stack,
-        "OBJ": _Walk.instance_of, "STRING": _Walk.quoted, "UNICODE": _Walk.unicode,
-        "PERSID": _Walk.persistent, "FRAME": _Walk.frame, "PROTO": _Walk.protocol,
-        "MEMOIZE": _Walk.memoize, "DUP": _Walk.duplicate, "READONLY_BUFFER": _Walk.top,
-        "NEXT_BUFFER": lambda it: it.push(_ANY), "BINPERSID": lambda it: it.replace(1),
+    found: Dict[str, Callable[[Walk], object]] = {
+        "MARK": Walk.mark, "POP": Walk.pop, "POP_MARK": Walk.to_mark, "STOP": Walk.take_top,
+        "GLOBAL": Walk.by_lines, "INST": Walk.instance, "STACK_GLOBAL": Walk.from_stack,
+        "OBJ": Walk.instance_of, "STRING": Walk.quoted, "UNICODE": Walk.unicode,
+        "PERSID": Walk.persistent, "FRAME": Walk.frame, "PROTO": Walk.protocol,
+        "MEMOIZE": Walk.memoize, "DUP": Walk.duplicate, "READONLY_BUFFER": Walk.top,
+        "NEXT_BUFFER": lambda it: it.push(ANY), "BINPERSID": lambda it: it.replace(1),
     }
     for names, act, numbers in _WITH_NUMBERS:
         for name, words in zip(names.split(), numbers):
             found[name] = functools.partial(_called, act, words)
-    found.update(dict.fromkeys("INT LONG FLOAT".split(), _Walk.number))
+    found.update(dict.fromkeys("INT LONG FLOAT".split(), Walk.number))
     return {ord(it.code): found[it.name] for it in pickletools.opcodes}
 
 
-def _called(act: Callable[..., object], words: Tuple[Any, ...], walk: _Walk) -> None:
+def _called(act: Callable[..., object], words: Tuple[Any, ...], walk: Walk) -> None:
     act(walk, *words)
 
 
 _NONE, _ONE, _TWO, _THREE, _FOUR, _EIGHT = ((it,) for it in (0, 1, 2, 3, 4, 8))
 _WITH_NUMBERS: Tuple[Tuple[str, Callable[..., object], Tuple[Tuple[Any, ...], ...]], ...] = (
-    ("EXT1 EXT2 EXT4", _Walk.registered, (_ONE, _TWO, _FOUR)),
-    ("PUT BINPUT LONG_BINPUT", _Walk.put, (_NONE, _ONE, _FOUR)),
-    ("GET BINGET LONG_BINGET", _Walk.get, (_NONE, _ONE, _FOUR)),
-    ("SHORT_BINUNICODE BINUNICODE BINUNICODE8", _Walk.text, (_ONE, _FOUR, _EIGHT)),
-    ("SHORT_BINSTRING BINSTRING", _Walk.old_text, (_ONE, _FOUR)),
-    ("SHORT_BINBYTES BINBYTES BINBYTES8 BYTEARRAY8", _Walk.payload, (_ONE, _FOUR, _EIGHT, _EIGHT)),
-    ("LONG1 LONG4", _Walk.payload, (_ONE, (4, True))),
-    ("BININT BININT1 BININT2 BINFLOAT", _Walk.fixed, (_FOUR, _ONE, _TWO, _EIGHT)),
-    ("NONE NEWTRUE NEWFALSE EMPTY_LIST EMPTY_DICT EMPTY_SET EMPTY_TUPLE", _Walk.push, ((),) * 7),
-    ("TUPLE1 TUPLE2 TUPLE3", _Walk.replace, ((1, _OTHER), (2, _OTHER), (3, _OTHER))),
-    ("REDUCE NEWOBJ NEWOBJ_EX", _Walk.replace, (_TWO, _TWO, _THREE)),
-    ("APPEND BUILD SETITEM", _Walk.put_in, (_ONE, _ONE, _TWO)),
-    ("APPENDS SETITEMS ADDITEMS", _Walk.collect, ((True,),) * 3),
-    ("LIST DICT TUPLE FROZENSET", _Walk.collect, ((False,),) * 4),
+    ("EXT1 EXT2 EXT4", Walk.registered, (_ONE, _TWO, _FOUR)),
+    ("PUT BINPUT LONG_BINPUT", Walk.put, (_NONE, _ONE, _FOUR)),
+    ("GET BINGET LONG_BINGET", Walk.get, (_NONE, _ONE, _FOUR)),
+    ("SHORT_BINUNICODE BINUNICODE BINUNICODE8", Walk.text, (_ONE, _FOUR, _EIGHT)),
+    ("SHORT_BINSTRING BINSTRING", Walk.old_text, (_ONE, _FOUR)),
+    ("SHORT_BINBYTES BINBYTES BINBYTES8 BYTEARRAY8", Walk.payload, (_ONE, _FOUR, _EIGHT, _EIGHT)),
+    ("LONG1 LONG4", Walk.payload, (_ONE, (4, True))),
+    ("BININT BININT1 BININT2 BINFLOAT", Walk.fixed, (_FOUR, _ONE, _TWO, _EIGHT)),
+    ("NONE NEWTRUE NEWFALSE EMPTY_LIST EMPTY_DICT EMPTY_SET EMPTY_TUPLE", Walk.push, ((),) * 7),
+    ("TUPLE1 TUPLE2 TUPLE3", Walk.replace, ((1, OTHER), (2, OTHER), (3, OTHER))),
+    ("REDUCE NEWOBJ NEWOBJ_EX", Walk.replace, (_TWO, _TWO, _THREE)),
+    ("APPEND BUILD SETITEM", Walk.put_in, (_ONE, _ONE, _TWO)),
+    ("APPENDS SETITEMS ADDITEMS", Walk.collect, ((True,),) * 3),
+    ("LIST DICT TUPLE FROZENSET", Walk.collect, ((False,),) * 4),
 )
 """Instructions that differ by the numbers that their acts take."""
 
-_ACTS = _acts()
+Walk.acts = _acts()

@@ -4,11 +4,12 @@ from __future__ import annotations
 
 import functools
 import io
-from typing import TYPE_CHECKING, NamedTuple, Optional, Tuple
+from typing import TYPE_CHECKING, List, NamedTuple, Optional, Tuple
 
+from .._checking import check_row
 from .._lists import AllowList, settings_of, within
 from .._pairs import records
-from .._storklocker import imports
+from .._storklocker import imports, walked
 from .costs import with_costs
 from .dangers import import_findings
 from .joblib_files import WRAPPER_NAMES
@@ -17,7 +18,7 @@ from .names import NOTHING, limits_under, named_today, pair_of
 from .readings import all_asked
 from .report import LONGEST, Finding, Pair, sorted_findings
 from .rows import CLAIM, limits_costs, may_be_listed
-from .severity import NOTE
+from .severity import MILD
 from .source import BLOCK, in_memory
 
 if TYPE_CHECKING:
@@ -31,7 +32,10 @@ class Told(NamedTuple):
     """What a report tells of such a file."""
 
     imports: Tuple[Pair, ...]
+    """Each once."""
     findings: Tuple[Finding, ...]
+    made: int
+    """How many imports it makes."""
 
 
 class Lone:
@@ -46,7 +50,8 @@ class Lone:
         limits = within(limits_under(allow, BLOCK), listed.limits)
         assert limits is not None
         # (whatever the list says of BUILD, what an import answers is not to be changed)
-        self._settings = settings_of(NOTHING, with_costs(limits), "unknown")
+        self._limits = with_costs(limits)
+        self._settings = settings_of(NOTHING, self._limits, "unknown")
         # (the files of a scan mostly import the same names)
         self._known = functools.lru_cache(maxsize=256)(self._judged)
 
@@ -75,27 +80,50 @@ class Lone:
             return 0, None
         return verdict.taken, told
 
+    def imports_of_quiet(self, values: List[bytes], listed: AllowList) -> int:
+        """The number of imports of these values, if each is a pickle and nothing else, of which no
+        more is to be told than that it imports what is listed, as `told_of_value` finds it, by one
+        call; or -1.
+        """
+        data, at = b"".join(values), 0
+        for value in values:
+            end, is_whole = walked(data, at)
+            at += len(value)
+            if end != at or not is_whole:
+                return -1
+        found = None if self._is_limited else check_row(data, listed, limits=self._limits)
+        if not found or len(listed) and self.allow is not None and any(
+            map(self._looked().finds, values)
+        ):
+            return -1
+        return found.imports
+
     def is_quiet(self, told: Told, data: bytes) -> bool:
         """Whether nothing in a pickle of which this is told is known to do harm, or is judged while
         a guard with the list loads it.
         """
-        if any(it.severity != NOTE for it in told.findings):
+        if any(it.severity not in MILD for it in told.findings):
             return False
         if self.allow is None or not told.imports:
             return True
+        return not self._looked().finds(data)
+
+    def _looked(self) -> Look:
         if self._look is None:
             from .foreseeing import Look  # most scans have no need of it
 
+            assert self.allow is not None
             self._look = Look(self.allow)
-        return not self._look.finds(data)
+        return self._look
 
     def _judged(self, room: bytes, front: bytes) -> Optional[Told]:
         """What is to be told of these encoded imports of a pickle that begins so; None if one isn't
         permitted, or is an array of joblib's.
         """
-        names = tuple(dict.fromkeys(named_today(records(room), front)))
+        made = tuple(named_today(records(room), front))
+        names = tuple(dict.fromkeys(made))
         is_permitted = may_be_listed if self.allow is None else self.allow._permits
         if not all(map(is_permitted, names)) or WRAPPER_NAMES.intersection(names):
             return None
         pairs = tuple(map(pair_of, names))
-        return Told(pairs, sorted_findings(import_findings(pairs, self.allow)))
+        return Told(pairs, sorted_findings(import_findings(pairs, self.allow)), len(made))

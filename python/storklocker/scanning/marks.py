@@ -24,13 +24,15 @@ BERKELEY_ORDERS = {
 }
 """The order of bytes in numbers, by those behind the first twelve of a file of Berkeley DB."""
 NPY, HDF5, LMDB = b"\x93NUMPY", b"\x89HDF\r\n\x1a\n", b"\xde\xc0\xef\xbe"
+RECORDS = b"\0.{3}[%b]" % re.escape(bytes(LENGTHS))
+"""A length of `SocketHandler`, and the instruction that a pickle begins with."""
 _ZIP = b"PK"  # (as local headers and end records begin)
 
 READERS = (
     "dbm.dumb",  # the first, because it says where the pickles are
     *("pickle", "cachelib", "distcp", "npy", "tar", "gzip", "bzip2", "xz", "lzma", "zlib", "ZF"),
     *("packed file", "SQLite", "Berkeley DB", "HDF5", "GDBM", "LMDB", "Arrow", "Parquet"),
-    "other stores",  # of ZODB, Hadoop and msgpack-numpy
+    "other stores",  # of ZODB, Hadoop, logging and msgpack-numpy
     "zip",  # the last, because it leaves out what a member holds
 )
 """What all readers read, in the order in which they are asked."""
@@ -41,7 +43,7 @@ FIRST: Dict[str, bytes] = {
     "xz": b"\xfd",
     "zlib": b"\x08\x18\x28\x38\x48\x58\x68\x78",
     "ZF": b"Z",
-    "packed file": b"7RL\x02\x04\x1e" + bytes(range(0x22, 0x29)) + bytes(range(0x50, 0x60)),
+    "packed file": b"7RL\1\2\3\4\5\x1e" + bytes(range(0x22, 0x29)) + bytes(range(0x50, 0x60)),
     "SQLite": b"S7\xd9",
     "GDBM": b"\x13\xcd\xce\xcf\xd0\xd1",
     "Arrow": b"AF",
@@ -61,7 +63,7 @@ MARKED: Dict[str, bytes] = {
     "lzma": rb"[\0-\xe0](?:.{4}\xff{8}.|.{11}\0.|.{12}\0)",  # that of LZMA alone
     "Berkeley DB": b".{12}(?:%b)" % b"|".join(map(re.escape, BERKELEY_ORDERS)),
     "LMDB": b".{16}" + LMDB,
-    "other stores": rb"FS(?:21|20|30)|SEQ[\4-\6]|\0.{3}\x80[\2-\5]"
+    "other stores": RECORDS + rb"|FS(?:21|20|30)|SEQ[\4-\6]"
     rb"|[\x81-\x8f\xde].{0,9}(?:\xa2|\xc4\x02)nd\xc3",
 }
 """A pattern of the first bytes of all files that a reader takes."""

@@ -8,6 +8,7 @@ from __future__ import annotations
 
 import io
 import re
+import struct
 import sys
 import zlib
 from typing import Any, Callable, NamedTuple, Optional, Tuple, Type
@@ -312,15 +313,31 @@ _UNKNOWN = tuple(
         ("lzip", rb"LZIP\x01"),
     )
 )
+_BLOSC = struct.Struct("<BBHLLL")
+"""Its version, that of what packs, flags, and the sizes: unpacked, of a block, and packed."""
+_NOT_HERE = "it is packed in a way that is not unpacked here"
 _ANY_UNKNOWN = re.compile(b"|".join(magic.pattern for _, magic in _UNKNOWN), re.DOTALL)
+
+
+def is_blosc(source: Source) -> bool:
+    """Whether it may be packed by Blosc, as chunks of zarr are: by the sizes that it announces."""
+    front = source.read(0, _BLOSC.size)
+    if len(front) < _BLOSC.size:
+        return False
+    numbers: Tuple[int, ...] = _BLOSC.unpack(front)
+    version, form, _, unpacked, block, packed = numbers
+    is_size = _BLOSC.size <= packed <= min(source.size, unpacked + 2 * _BLOSC.size)
+    return 1 <= version <= 5 and form == 1 and is_size and 0 < block <= unpacked
 
 
 def unknown_reading(place: Place) -> Found:
     """What is packed in a way that the standard library doesn't unpack."""
     front = place.source.front()
+    if is_blosc(place.source):
+        yield place.unread("Blosc", "unknown-container", _NOT_HERE)
+        return True
     for name, magic in _UNKNOWN if _ANY_UNKNOWN.match(front) else ():
         if magic.match(front):
-            why = "it is packed in a way that is not unpacked here"
-            yield place.unread(name, "unknown-container", why)
+            yield place.unread(name, "unknown-container", _NOT_HERE)
             return True
     return False

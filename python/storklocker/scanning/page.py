@@ -13,10 +13,10 @@ h1{font-size:1.4rem;line-height:1.3;margin:0}h2{font-size:1.05rem;margin:1.2rem 
 header{border-left:.4rem solid var(--line);background:var(--panel);padding:.8rem 1rem}
 header.refused,header.danger{border-color:var(--red)}header.accepted{border-color:var(--green)}
 header.unreadable,header.undecided,header.warning{border-color:var(--amber)}
-header.note{border-color:var(--blue)}
+header.unknown,header.note{border-color:var(--blue)}
 header p{margin:.2rem 0 0;color:var(--soft)}
 .refused,.danger{color:var(--red)}.unreadable,.undecided,.warning{color:var(--amber)}
-.note{color:var(--blue)}.accepted{color:var(--green)}
+.unknown,.note{color:var(--blue)}.accepted{color:var(--green)}
 header[class]{color:inherit}
 .advice{margin:0;padding-left:1.2rem}
 .filter{display:flex;flex-wrap:wrap;gap:.4rem;align-items:center;margin:1.2rem 0 .8rem}

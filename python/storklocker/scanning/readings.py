@@ -72,6 +72,8 @@ class Together(NamedTuple):
     number: int
     size: int
     """The bytes of all."""
+    imports: int
+    """How many all make."""
     told: Tuple["Told", ...]
     """What is to be told of them, each once."""
 

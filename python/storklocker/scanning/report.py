@@ -2,7 +2,7 @@
 
 from __future__ import annotations
 
-from typing import Any, Dict, Iterable, NamedTuple, Optional, Tuple
+from typing import Any, Dict, Iterable, NamedTuple, Optional, Set, Tuple
 
 from .severity import KINDS, SEVERITIES, UNREADABLE
 from .words import Word, word_of, worst_of
@@ -27,6 +27,10 @@ class Finding(NamedTuple):
     """The dotted name, of an import."""
     example: str = ""
     """How an attacker uses this name."""
+    calls: Tuple[str, ...] = ()
+    """How the pickle calls this name, with the arguments as far as they are plain."""
+    is_known: bool = False
+    """Whether an earlier scan has told of it, so that it doesn't count."""
 
     @property
     def severity(self) -> str:
@@ -38,9 +42,15 @@ class Finding(NamedTuple):
         """What to do about it."""
         return KINDS[self.kind].advice
 
-    def as_dict(self) -> Dict[str, str]:
+    @property
+    def line(self) -> str:
+        """What was found, with the name and how it is called."""
+        line = f"{self.name}: {self.why}" if self.name else self.why
+        return f"{line} It is called as {', '.join(self.calls)}." if self.calls else line
+
+    def as_dict(self) -> Dict[str, Any]:
         """The finding for JSON."""
-        return {"severity": self.severity, **self._asdict()}
+        return {"severity": self.severity, **self._asdict(), "calls": list(self.calls)}
 
 
 class Listed(NamedTuple):
@@ -86,6 +96,19 @@ class Report(NamedTuple):
         return self.status in (Word.REFUSED, Word.UNREADABLE) or bool(self.findings)
 
     @property
+    def fresh(self) -> Tuple[Finding, ...]:
+        """Its findings that an earlier scan hasn't told of."""
+        return tuple(it for it in self.findings if not it.is_known)
+
+    @property
+    def severities(self) -> Set[str]:
+        """What may count of it: the severities of findings that aren't known, and its word, which
+        may be due to those that are.
+        """
+        found = {finding.severity for finding in self.fresh}
+        return {self.status.value, *found} if len(self.fresh) == len(self.findings) else found
+
+    @property
     def worst(self) -> str:
         """The worst severity of its findings; empty if it has none."""
         return worst_of(finding.severity for finding in self.findings)
@@ -113,7 +136,8 @@ def report_of(made: Dict[str, Any]) -> Report:
     for name in ("imports", "missing"):
         fields[name] = tuple((pair[0], pair[1]) for pair in made[name])
     fields["findings"] = tuple(
-        Finding(it["kind"], it["why"], it["name"], it["example"]) for it in made["findings"]
+        Finding(*(it[name] for name in Finding._fields))._replace(calls=tuple(it["calls"]))
+        for it in made["findings"]
     )
     fields["listing"] = tuple(Listed(**it) for it in made["listing"])
     return Report(**fields)

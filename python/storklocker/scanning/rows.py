@@ -50,7 +50,8 @@ class Row:
     number: the index of that one, counted from 0.
     costly: why a guard refuses the first that it refuses whatever is listed.
     costly_at, costly_number: the offset of that one in the piece, and its index.
-    pickles, taken: the number of accepted pickles, and their length in bytes.
+    pickles, taken, imports: the number of accepted pickles, their length in bytes, and how many
+        imports they make.
     is_reached: whether a reader may get to an import or to STOP in the refused one.
     stop: the offset in the piece at which every reader stops in the refused one, perhaps behind the
         import that is there; -1 if one may go on.
@@ -67,7 +68,7 @@ class Row:
     refusal: Optional[Verdict] = None
     costly: Optional[Exceeded] = None
     costly_at = costly_number = 0
-    number = pickles = taken = stop = 0
+    number = pickles = taken = imports = stop = 0
     refused: Tuple[bytes, int] = (b"", 0)
     too_much: Optional[TooMuch] = None
     raw = ""
@@ -125,6 +126,7 @@ class Row:
             return False
         self.pickles += 1
         self.taken += verdict.taken
+        self.imports += verdict.imports
         return True
 
     def _is_lone(self, data: bytes, found: Imports) -> bool:
@@ -137,6 +139,7 @@ class Row:
         if not all(map(may_be_listed if self._allow is None else self._allow._permits, names)):
             return False
         self.names, self.pickles, self.taken = dict(names), 1, taken
+        self.imports = found.verdict.imports
         self._uncosted = (taken, 1)
         self._find_costly_in(data, names, 0, 0)
         return True
@@ -280,6 +283,7 @@ class Row:
             return False
         self.pickles += verdict.pickles
         self.taken += verdict.taken
+        self.imports += verdict.imports
         self._uncosted = (self.taken, self.pickles)
         return True
 

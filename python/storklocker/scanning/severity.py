@@ -14,14 +14,18 @@ UNDECIDED = "undecided"
 """The list permits its names, and leaves it to a load whether it uses them as picklers do."""
 WARNING = "warning"
 """It opens files, reaches the network, changes the process, or permits more than it says."""
+UNKNOWN = "unknown"
+"""It names what nobody has judged, which may do anything."""
 NOTE = "note"
-"""It may be harmless, but nobody has looked."""
+"""It is told, and no more."""
 
 UNRECOGNIZED = "unrecognized"
 """What a file is called that no reading knows, and which isn't known to be something else."""
 
-SEVERITIES = (REFUSED, DANGER, UNREADABLE, UNDECIDED, WARNING, NOTE)
+SEVERITIES = (REFUSED, DANGER, UNREADABLE, UNDECIDED, WARNING, UNKNOWN, NOTE)
 """From the worst to the least."""
+MILD = frozenset((UNKNOWN, NOTE))
+"""What isn't known to do harm."""
 
 
 class Kind(NamedTuple):
@@ -134,11 +138,21 @@ KINDS: Dict[str, Kind] = {
         "A link leads to nothing",
         "Scan again where the link leads to a file, or delete it.",
     ),
-    "unknown-import": Kind(
+    "unrecognized": Kind(
         NOTE,
+        "No reading knows what the file is",
+        "Find out which program reads it, and whether that runs what is in it.",
+    ),
+    "text-import": Kind(
+        NOTE,
+        "A text begins as the import of a name that nobody has judged does",
+        "Read it: if it is a text for people, nothing needs to be done.",
+    ),
+    "unknown-import": Kind(
+        UNKNOWN,
         "The pickle imports a name that nobody has judged",
-        "Find out what it does when a pickle calls it; then write it into a list, and scan with"
-        " --allow.",
+        "Don't load it before you know what this name does when a pickle calls it. If you trust"
+        " where it comes from, `storklocker learn` writes the list for --allow.",
     ),
 }
 """By the name that reports give it, which never changes."""

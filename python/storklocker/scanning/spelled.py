@@ -9,7 +9,7 @@ from typing import Dict, Optional
 from .source import BLOCK, Source
 
 _LINE = 1 << 25
-_MODULE = re.compile(r"[\w-]+(\.[\w-]+)*")
+_PART = re.compile(r"[\w-]+")
 _NUMERALS = b" \t\r\f\v0123456789abcdefoxlABCDEFOXL_.+-"
 _WORDS = frozenset((b"nan", b"inf", b"infinity"))
 _DIGITS = 4000
@@ -101,15 +101,17 @@ def is_module(name: Optional[str]) -> bool:
     """Whether a module may have this name, as a text's first line hardly ever can. Python 3.11 and
     later find modules such as `os` by what stands in front of a NUL.
     """
-    return name is None or _MODULE.fullmatch(name.partition("\0")[0]) is not None
+    parts = [] if name is None else name.partition("\0")[0].split(".")
+    return all(it.isidentifier() or _PART.fullmatch(it) for it in parts)
 
 
 def number_of(line: bytes) -> int:
     """A memo number of protocol 0."""
+    text = line.partition(b"\0")[0]
     try:
-        number = int(line.partition(b"\0")[0])
+        number = int(text)
     except ValueError:
-        if len(line) > _DIGITS:
+        if len(text) > _DIGITS and is_number(text):
             raise Lost from None
         raise Stop from None
     if number < 0:

@@ -6,26 +6,28 @@ from __future__ import annotations
 
 import io
 import re
-from typing import Generator, List, Set, Tuple, Union
+from typing import Generator, List, Optional, Set, Tuple, Union
 
-from .budget import Budget
+from .budget import STEP, Budget
 from .readings import Answer, Found, Nothing, Piece, Place, Together, Unread
 from .report import LONGEST
 from .source import Source, in_memory
 from .spelled import LENGTHS
-from .sqlite_pages import DATABASE, IMPORTING, JOURNAL, LOGS, Pages, Record, Value
+from .sqlite_cells import LEAST, PlainCells
+from .sqlite_pages import BASE64, DATABASE, IMPORTING, JOURNAL, LOGS, Pages, Record, Value
 from .sqlite_values import made_values
 from .stores import is_value, searched
 from .value_packing import unpacked
 from .values import Values
 
 KIND = "SQLite"
-_LEAST, _LONGEST = 4, 1 << 20
-"""No shorter value imports anything; of a longer text in UTF-16 no more characters are read."""
+_LONGEST = 1 << 20
+"""Of a longer text in UTF-16 no more characters are read."""
 
-_SMALL = 1 << 20
+_SMALL, _UNPACKING = 1 << 20, 6 * STEP
+"""A larger file has more steps; and those of a value that is unpacked by itself."""
 _STOP, _WORDS = ord("."), re.compile(rb"[\t-\r -~]*")
-_PACKED = re.compile(rb"\x1f\x8b\x08|[\x08-\x78][\x01\x5e\x9c\xda]|[A-Za-z0-9+/_-]{24}")
+_PACKED = re.compile(rb"\x1f\x8b\x08|[\x08-\x78][\x01\x5e\x9c\xda]|%b" % BASE64)
 
 _Parts = List[Tuple[int, int]]
 _Reads = Generator[Union[Piece, Unread, Nothing, Together], Answer, _Parts]
@@ -39,13 +41,15 @@ def sqlite_reading(place: Place) -> Found:
         return False
     place.budget.grow(max(0, place.source.size - _SMALL))  # each value is looked at twice
     pages, known = Pages(place.source, place.budget.spend), []  # type: Pages, _Parts
-    values, seen = Values(place, KIND), set()  # type: Values, Set[int]
+    values = Values(place, KIND)
+    cells = PlainCells(values, place.budget)
+    pages.left, seen = cells.left, cells.seen
     for record in pages.records():
         known += yield from _read(place, record, pages.encoding, values, seen)
     yield from values.told()
     if place.source.front().startswith(DATABASE):
         yield from _made(place, pages.schema, seen)
-    known.sort()
+    known = sorted(known + cells.known)
     yield from searched(place, KIND, known, {at for at, _ in known}, pages.end_of)
     return True
 
@@ -55,18 +59,26 @@ def _made(place: Place, schema: List[str], seen: Set[int]) -> Found:
     for number, made in enumerate(made_values(place.source, schema, place.budget)):
         if made.fault:
             yield place.unread(KIND, "differing-readings", made.fault)
-        elif len(made.data) >= _LEAST and hash(made.data) not in seen:
+        elif len(made.data) >= LEAST and hash(made.data) not in seen:
             path = f"{place.path}!{made.name[:LONGEST]} {number}"
-            yield from _loaded(path, in_memory(io.BytesIO(made.data)), place.budget)
+            yield from _loaded(path, in_memory(io.BytesIO(made.data)), place.budget, None)
     return True
 
 
-def _loaded(path: str, source: Source, budget: Budget) -> Generator[Piece, Answer, int]:
-    """The pickle that a value is, or which is packed in it. Returns its length, if it is one."""
+def _loaded(
+    path: str, source: Source, budget: Budget, values: Optional[Values]
+) -> Generator[Piece, Answer, int]:
+    """The pickle that a value is, or which is packed in it; a plain one that is packed may be told
+    later. Returns its length, if it is one.
+    """
     if is_value(source, budget):
         return (yield Piece(path, KIND, source, True, 1)) or 1
     for inner in unpacked(source, budget):
         if is_value(inner, budget):
+            budget.spend(_UNPACKING)
+            data = inner.front()
+            if values is not None and values.taken(data) == inner.size > 0:
+                return source.size
             yield Piece(path, f"{KIND}, packed", inner, True, 1)
             return source.size
     return 0
@@ -92,9 +104,9 @@ def _read(
             continue
         place.budget.spend()
         source = _content(record, value, wide)
-        if source.size >= _LEAST:
+        if source.size >= LEAST:
             path = f"{place.path}!at {start + value.at}"
-            taken = yield from _loaded(path, source, place.budget)
+            taken = yield from _loaded(path, source, place.budget, values)
             if taken:
                 found.append((value.at, value.at + taken))
                 seen.add(hash(data))
@@ -109,7 +121,7 @@ def _may_import(data: bytes, value: Value, wide: str) -> bool:
     end with STOP isn't, but for what is harmful, which is looked for anyway, if it isn't in UTF-16.
     """
     at, end = value.at, value.at + value.size
-    if value.size < _LEAST or not IMPORTING.search(data, at, end):
+    if value.size < LEAST or not IMPORTING.search(data, at, end):
         return False
     if wide or _PACKED.match(data, at, end):
         return True

@@ -39,8 +39,10 @@ _ROOT = 3
 """The column of the table of tables with the page at which a tree begins."""
 _SIZES = (0, 1, 2, 3, 4, 6, 8, 8, 0, 0, 0, 0)
 """The bytes of a number, by its type; texts and blobs have the types behind these."""
+BASE64 = rb"[A-Za-z0-9+/_-]{16}|[A-Za-z0-9+/_-]{10,15}="
+"""The letters of a pickle that imports something; a shorter one mostly has padding."""
 IMPORTING = re.compile(
-    rb"[\n\x80\x82-\x84\x93]|[A-Za-z0-9+/_-]{24}|\x1f\x8b\x08|[\x08-\x78][\x01\x5e\x9c\xda]"
+    rb"[\n\x80\x82-\x84\x93]|%b|\x1f\x8b\x08|[\x08-\x78][\x01\x5e\x9c\xda]" % BASE64
 )
 """A byte that each pickle has which imports something; or what each packed one has."""
 
@@ -56,6 +58,11 @@ class Value(NamedTuple):
     @property
     def is_text(self) -> bool:
         return self.kind % 2 == 1
+
+    @property
+    def is_long(self) -> bool:
+        """Whether it is a text or a blob."""
+        return self.kind >= len(_SIZES)
 
 
 class Record:
@@ -75,7 +82,7 @@ class Record:
 
     def values(self) -> List[Value]:
         """Its texts and blobs."""
-        return [value for value in self._values() if value.kind >= len(_SIZES)]
+        return [value for value in self._values() if value.is_long]
 
     def text(self, encoding: str) -> str:
         """Its texts, one behind another."""
@@ -92,20 +99,28 @@ class Record:
 
     def _values(self) -> List[Value]:
         data, size = self.front, sum(size for _, size in self.parts)
-        at, place = _number(data, 0)
+        at, _ = _number(data, 0)
         if at > len(data):
             data = self.source.read(0, at) if at <= _LONGEST else b""
-        found, length = [], min(at, len(data))
-        while place < length:
-            kind, place = data[place], place + 1
-            if kind > 127:
-                kind, place = _number(data, place - 1)
-            count = _SIZES[kind] if kind < len(_SIZES) else (kind - len(_SIZES)) // 2
-            if at + count > size:
+        found = []
+        for value in values_of(data[:at])[0]:
+            if value.at + value.size > size:
                 break
-            found.append(Value(kind, at, count))
-            at += count
+            found.append(value)
         return found
+
+
+def values_of(header: bytes) -> Tuple[List[Value], int]:
+    """The values of a record with this header, and the size of the record."""
+    (at, place), found = _number(header, 0), []
+    while place < len(header):
+        kind, place = header[place], place + 1
+        if kind > 127:
+            kind, place = _number(header, place - 1)
+        count = _SIZES[kind] if kind < len(_SIZES) else (kind - len(_SIZES)) // 2
+        found.append(Value(kind, at, count))
+        at += count
+    return found, at
 
 
 class Pages:
@@ -119,6 +134,8 @@ class Pages:
         self._size = self._kept = 0
         self._places: Optional[Dict[int, int]] = None
         self._starts: List[int] = []
+        self.left: Optional[Callable[[bytes, int, List[int], bool], List[int]]] = None
+        """Gives the cells of a page that are to be read one by one."""
         self.schema: List[str] = []
         """The rows of the table of tables that were read so far, as texts."""
         self.encoding, front = "", source.read(0, _BEGIN)
@@ -206,7 +223,10 @@ class Pages:
                 continue
             _, is_inner, has_records = _TREES[page[begin]]
             left += [_four(page, begin + 8)] * is_inner
-            for cell in self._cells(page, begin):
+            cells = self._cells(page, begin)
+            if self.left is not None and not (is_inner or is_whole or self.encoding):
+                cells = self.left(page, at, cells, page[begin] == _TABLE)
+            for cell in cells:
                 if is_inner:
                     left.append(_four(page, cell))
                 if has_records and (is_whole or _may_import(page, cell + 4 * is_inner)):

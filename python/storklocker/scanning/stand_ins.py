@@ -76,13 +76,13 @@ class Watched(Substitute):
         module, _, name = self.name.rpartition(".")
         return super().real() if module in sys.modules else self._reader.named((module, name))
 
-    def new(self, *given: Any) -> Any:
+    def new(self, reader: Any, *given: Any) -> Any:
         own: Any = self._call
         if not self._reader.knows(given):
             return self._put_off()
         if not isinstance(own, Class):
-            return own.new(*given)
-        own.judge_new(given)
+            return own.new(reader, *given)
+        own.judge_new(reader, given)
         module, _, name = self.name.rpartition(".")
         kind: Any = self._reader.named((module, name))
         return kind.__new__(kind)
@@ -132,7 +132,8 @@ class PutOff(Substitute):
     def __call__(self, *given: Any) -> Any:
         return self._reader.put_off(f"{self.name} judges what it is given when it is loaded")
 
-    new = __call__
+    def new(self, reader: Any, *given: Any) -> Any:
+        return self(*given)
 
 
 def _is_plain(given: Tuple[Any, ...]) -> bool:

@@ -82,5 +82,6 @@ def _digest(question: Question) -> str:
     if allow is not None:
         said = sorted(said_by(meant_in(allow)).items())
         listed = [list(allow), str(allow.limits), allow.build, said]
-    text = json.dumps([__version__, listed, question.with_sha256])
+    asked = [question.with_sha256, question.dangers, question.with_unrecognized]
+    text = json.dumps([__version__, listed, *asked])
     return hashlib.sha256(text.encode()).hexdigest()

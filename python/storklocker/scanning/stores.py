@@ -19,7 +19,7 @@ from typing import (
 from .._answers import Verdict
 from .._reasons import Reason
 from .budget import LOOKED_AT, STEP, Budget
-from .dangers import is_harmful, is_suspect, may_be_there, suspect_heads
+from .dangers import is_harmful, is_suspect, may_be_imported, may_be_there, suspect_heads
 from .marks import HDF5, LMDB
 from .names import NOTHING, imports_within
 from .reaching import ALL_STOP, reached
@@ -102,13 +102,15 @@ def searched(
     end_of: Optional[Callable[[int], int]] = None,
 ) -> Found:
     """The pickles that begin anywhere, but in parts that are known, each from an offset to another,
-    in their order; of these, what imports something harmful, but for pickles that were told.
+    in their order; of these, what imports something harmful, but for pickles that were told, into
+    which it isn't looked.
 
     end_of: where the page ends that has a place, if what follows a page is another matter.
     """
     source, end, left = place.source, 0, Deque(known)
     trails, values = Trails(source, place.budget), Values(place, kind)
-    for at, is_text in _beginnings(source, place.budget):
+    hidden = _joined([part for part in known if part[0] in told])
+    for at, is_text in _beginnings(source, place.budget, hidden):
         while left and left[0][0] <= at:
             end = max(end, left.popleft()[1])
         for trail in trails.followed(at):
@@ -166,12 +168,39 @@ def _schemas(source: Source) -> Iterator[Source]:
         yield in_memory(io.BytesIO(base64.b64decode(text[: len(text) // 4 * 4])))
 
 
-def _beginnings(source: Source, budget: Budget) -> Iterator[Tuple[int, bool]]:
+def _joined(parts: Sequence[Tuple[int, int]]) -> List[Tuple[int, int]]:
+    """These parts, which are in order, with those as one that touch."""
+    found: List[Tuple[int, int]] = []
+    for start, end in parts:
+        if found and start <= found[-1][1]:
+            found[-1] = (found[-1][0], max(end, found[-1][1]))
+        else:
+            found.append((start, end))
+    return found
+
+
+def _hidden(block: bytes, start: int, parts: Deque[Tuple[int, int]]) -> bytes:
+    """The block that begins at a place, with zeros for parts. Drops those in front of it."""
+    while parts and parts[0][1] <= start:
+        parts.popleft()
+    if not parts or parts[0][0] >= start + len(block):
+        return block
+    made = bytearray(block)
+    for begin, end in itertools.takewhile(lambda it: it[0] < start + len(block), parts):
+        begin, end = max(begin - start, 0), min(end - start, len(block))
+        made[begin:end] = bytes(end - begin)
+    return bytes(made)
+
+
+def _beginnings(
+    source: Source, budget: Budget, hidden: List[Tuple[int, int]]
+) -> Iterator[Tuple[int, bool]]:
     """The places that look like the beginning of a pickle, or like a text in one: whether it is a
-    text.
+    text; but for parts that are hidden.
     """
+    left = Deque(hidden)
     for start in range(0, source.size, _STEP):
-        block = source.read(start, _STEP + _LONGEST)
+        block = _hidden(source.read(start, _STEP + _LONGEST), start, left)
         budget.spend(len(block) // _SEARCHED_AT)
         places = [(it.start(), False) for begun in _BEGINNINGS for it in begun.finditer(block)]
         places += [(at, False) for at in _imports_with_nul(block)]
@@ -252,9 +281,10 @@ def is_value(source: Source, budget: Budget) -> bool:
     if front[0] not in LENGTHS:
         return False
     found = imports_at(source, 0, budget)
-    names = list(itertools.takewhile(_may_be, found.names))
     if found.end == source.size or not is_in_words(source):
-        return bool(names) or not found.is_complete
+        names = itertools.takewhile(_is_asked_by(may_be_imported), found.names)
+        return any(True for _ in names) or not found.is_complete
+    names = itertools.takewhile(_is_asked_by(may_be_there), found.names)
     return any(map(is_harmful_pair, names))
 
 
@@ -270,7 +300,7 @@ class _Imports(NamedTuple):
 
 
 def imports_at(source: Source, at: int, budget: Budget) -> _Imports:
-    """What a pickle there imports, or some of it."""
+    """What a pickle there imports; or some of it, if that has PROTO in front or does harm."""
     size = _FIRST
     while True:
         data = source.read(at, size)
@@ -278,7 +308,9 @@ def imports_at(source: Source, at: int, budget: Budget) -> _Imports:
         looked_at = max(found.verdict.taken, found.verdict.at)
         budget.spend(STEP + looked_at // LOOKED_AT)
         is_cut = found.verdict.reason is Reason.Truncated and len(data) == size < _MOST
-        if found.verdict or found.names and is_cut or not found.is_complete:
+        is_enough = bool(found.names) and data[:1] == b"\x80"
+        is_enough |= any(map(is_harmful_pair, found.names))
+        if found.verdict or is_enough and is_cut or not found.is_complete:
             return _Imports(*found, at + found.verdict.taken)
         if not is_cut:
             break
@@ -287,8 +319,8 @@ def imports_at(source: Source, at: int, budget: Budget) -> _Imports:
         return _Imports(*found, 0)
     beyond = reached(source, at, at + found.verdict.at, found.verdict.reason, budget)
     names = {**found.names, **beyond.names}
-    is_complete = beyond.is_complete or beyond.is_misread
-    return _Imports(found.verdict, names, is_complete, beyond.end if beyond.is_ended else 0)
+    end = beyond.end if beyond.is_ended else 0
+    return _Imports(found.verdict, names, beyond.is_complete, end)
 
 
 def is_in_words(source: Source) -> bool:
@@ -298,12 +330,16 @@ def is_in_words(source: Source) -> bool:
     return is_text(front) and len(front.decode("utf-8", "ignore").encode()) >= len(front) - cut
 
 
-def _may_be(names: "Names") -> bool:
-    """Whether a module may have such a name."""
-    module, name = names
-    if module is None or name is None:
-        return True
-    return may_be_there(module.decode("utf-8", "replace"), name.decode("utf-8", "replace"))
+def _is_asked_by(may_be: Callable[[str, str], bool]) -> Callable[["Names"], bool]:
+    """Whether a reader gets beyond a name: it is hidden, or this may be one."""
+
+    def is_asked(names: "Names") -> bool:
+        module, name = names
+        if module is None or name is None:
+            return True
+        return may_be(module.decode("utf-8", "replace"), name.decode("utf-8", "replace"))
+
+    return is_asked
 
 
 def is_harmful_pair(names: "Names") -> bool:

@@ -6,24 +6,24 @@ import os
 import sys
 import time
 from collections import Counter
-from typing import FrozenSet, Iterable, Iterator, List, Optional, TextIO
+from typing import FrozenSet, Iterable, Iterator, List, Optional, Set, TextIO, Tuple
 
 from .report import Report
 from .severity import (
-    DANGER, NOTE, REFUSED, SEVERITIES, UNDECIDED, UNREADABLE, UNRECOGNIZED, WARNING
+    DANGER, NOTE, REFUSED, SEVERITIES, UNDECIDED, UNKNOWN, UNREADABLE, UNRECOGNIZED, WARNING
 )
-from .words import Word
+from .words import HEADLINES, Word, headline_of
 
 NEVER = "never"
-FAIL_ON = (REFUSED, DANGER, WARNING, NOTE, UNRECOGNIZED, NEVER)
+FAIL_ON = (REFUSED, DANGER, WARNING, UNKNOWN, NOTE, UNRECOGNIZED, NEVER)
 """The choices of `--fail-on`."""
 _FOLDERS = 10_000
 """The most folders whose findings are counted."""
 _WORDS = {
     REFUSED: Word.REFUSED, DANGER: Word.DANGEROUS, UNREADABLE: Word.UNREADABLE,
-    UNDECIDED: Word.UNDECIDED, WARNING: "with warnings", NOTE: "with notes",
+    UNDECIDED: Word.UNDECIDED, WARNING: "with warnings",
+    UNKNOWN: "with names that nobody has judged", NOTE: "with notes",
 }
-_UNKNOWN = "with names that nobody has judged"
 
 
 def counted(fail_on: str, is_guarded: bool = False) -> FrozenSet[str]:
@@ -46,11 +46,12 @@ class Summary:
         self._counted = counted(fail_on, is_guarded)
         self.is_found = self.is_unread = False
         self._found: "Counter[str]" = Counter()
-        self._notes: "Counter[str]" = Counter()
         self._folders: "Counter[str]" = Counter()
+        self._severities: Set[str] = set()
+        self._words: Set[Word] = set()
         self._file = ""
         self._is_noted = False
-        self.files = 0
+        self.files = self.known = 0
 
     def heard(self, reports: Iterable[Report]) -> Iterator[Report]:
         """Passes on the reports, and notes what they say."""
@@ -62,32 +63,40 @@ class Summary:
         if report.file != self._file:
             self._file, self._is_noted = report.file, False
             self.files += 1
-        self.is_found |= report.kind == UNRECOGNIZED and UNRECOGNIZED in self._counted
         if not report.findings and report.status not in SEVERITIES:
+            self._words.add(report.status)
             return
-        severities = {report.status, *(it.severity for it in report.findings)}
+        severities = report.severities
+        self.known += len(report.findings) - len(report.fresh)
+        self._severities |= severities.intersection(SEVERITIES)
         self.is_unread |= UNREADABLE in severities
         self.is_found |= not self._counted.isdisjoint(severities)
         worst = next((it for it in SEVERITIES if it in severities), "")
         if not worst:
             return
         self._found[worst] += 1
-        if worst == NOTE:
-            self._notes.update({it.kind for it in report.findings})
         folder = os.path.dirname(report.file) or "."
         if not self._is_noted and (folder in self._folders or len(self._folders) < _FOLDERS):
             self._folders[folder] += 1
         self._is_noted = True
 
+    def headline(self) -> Tuple[str, str]:
+        """The verdict in a reader's words, and the severity or the word that it is about."""
+        if self.known and not self._severities:
+            return "Nothing was found but what is known", ""
+        headline = headline_of(self._severities, self._words)
+        return HEADLINES[headline], headline
+
     def line(self, command: str) -> str:
         """What was found, where most of it is, and the command that shows more."""
         if not self._found:
-            return f"nothing was found in {_files(self.files)}"
-        words = {**_WORDS, NOTE: _UNKNOWN} if set(self._notes) == {"unknown-import"} else _WORDS
-        kinds = [f"{self._found[it]:,} {words[it]}" for it in SEVERITIES if self._found[it]]
+            known = f", but {self.known:,} known findings" if self.known else ""
+            return f"nothing was found in {_files(self.files)}{known}"
+        kinds = [f"{self._found[it]:,} {_WORDS[it]}" for it in SEVERITIES if self._found[it]]
         folder, count = self._folders.most_common(1)[0]
         files = sum(self._folders.values())
         where = f"most in {folder} ({count:,})" if len(self._folders) > 1 else f"all in {folder}"
+        kinds += [f"{self.known:,} known"] if self.known else []
         return (
             f"{', '.join(kinds)}: in {files:,} of {_files(self.files)}, {where};"
             f" for what to do about each: {command}"
@@ -122,8 +131,10 @@ class Progress:
             self._write()
 
     def end(self) -> None:
-        """Ends the line."""
-        if self._out is not None:
+        """Ends the line, or clears it for what the same terminal shows."""
+        if self._is_shared:
+            self._clear()
+        elif self._out is not None:
             self._write()
             self._out.write("\n")
 

@@ -2,8 +2,10 @@
 
 from __future__ import annotations
 
-from typing import Dict, Iterator
+from typing import Dict, Iterator, List, Optional
 
+from .._lists import AllowList
+from .._pairs import bytes_of_pair
 from .budget import LOOKED_AT, STEP
 from .lone import Told
 from .readings import Found, Place, Together, examine
@@ -12,6 +14,8 @@ from .source import BLOCK
 
 _FEW = 64
 """So many are told one by one."""
+_MOST = 100
+"""Values that differ in imports more often than this are told one by one."""
 
 
 class Values:
@@ -23,8 +27,35 @@ class Values:
     def __init__(self, place: Place, kind: str) -> None:
         self._place, self._kind, self._budget = place, kind, place.budget
         self._lone = place.budget.lone
-        self._seen = self._count = self._size = self.last = 0
+        self._seen = self._count = self._size = self._imports = self.last = 0
         self._told: Dict[int, Told] = {}
+        self._listed: Optional[AllowList] = None
+
+    @property
+    def is_begun(self) -> bool:
+        """Whether some are told later, so that more may be by one call."""
+        return self._count > 0
+
+    def are_taken(self, values: List[bytes]) -> bool:
+        """Whether all of these are plain pickles with imports that others had, and nothing else.
+        They are told later.
+        """
+        if self._lone is None or not self._count or len(self._told) > _MOST:
+            return False
+        if self._listed is None:
+            pairs = {pair for told in self._told.values() for pair in told.imports}
+            names = [bytes_of_pair((module or "", name or "")) for module, name in pairs]
+            self._listed = AllowList._of(names, None, None)
+        size = sum(map(len, values))
+        self._budget.spend(len(values) + size // LOOKED_AT)
+        imports = self._lone.imports_of_quiet(values, self._listed)
+        if imports < 0:
+            return False
+        self._imports += imports
+        self._seen += len(values)
+        self._count += len(values)
+        self._size += size
+        return True
 
     def taken(self, data: bytes) -> int:
         """The length of the plain pickle at the front of the bytes, which is told later; 0 if there
@@ -55,9 +86,12 @@ class Values:
         return self._kept(source.size, told) > 0
 
     def _kept(self, size: int, told: Told) -> int:
-        self._told.setdefault(id(told), told)
+        if id(told) not in self._told:
+            self._told[id(told)] = told
+            self._listed = None
         self._count += 1
         self._size += size
+        self._imports += told.made
         self.last = size
         return size
 
@@ -72,4 +106,4 @@ class Values:
         if self._count:
             told = tuple(self._told.values())
             path = f"{self._place.path}!the rest"
-            yield Together(path, self._kind, self._count, self._size, told)
+            yield Together(path, self._kind, self._count, self._size, self._imports, told)

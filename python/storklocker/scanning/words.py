@@ -5,7 +5,9 @@ from __future__ import annotations
 import enum
 from typing import Dict, Iterable
 
-from .severity import DANGER, NOTE, REFUSED, SEVERITIES, UNDECIDED, UNREADABLE, WARNING
+from .severity import (
+    DANGER, NOTE, REFUSED, SEVERITIES, UNDECIDED, UNKNOWN, UNREADABLE, WARNING
+)
 
 
 class Word(str, enum.Enum):
@@ -21,6 +23,8 @@ class Word(str, enum.Enum):
     """The list permits its names, and only a guard that loads it judges what they are given."""
     WARNING = "warning"
     """The worst finding is a warning."""
+    UNKNOWN = "unknown"
+    """It imports a name that nobody has judged."""
     UNJUDGED = "unjudged"
     """There is no list, and nothing worse was found."""
     ACCEPTED = "accepted"
@@ -43,11 +47,13 @@ _MILD = (Word.UNJUDGED, Word.ACCEPTED, Word.UNDECIDED, Word.CODE)
 HEADLINES: Dict[str, str] = {
     REFUSED: "Don't load the refused files: the list doesn't permit what they do",
     DANGER: "Don't load the dangerous files: they run code",
-    UNREADABLE: "Don't load the unreadable files: what is in the rest of them isn't known",
+    UNREADABLE: "Don't load the unreadable files: they could not be read to their end",
     UNDECIDED: "Load the undecided files through a guard alone: the list leaves it to a load",
-    WARNING: "Nothing is known to run code, but some names do more than hold data",
-    NOTE: "Nothing is known to run code, but some names have not been judged",
-    Word.UNJUDGED: "No list has judged these files: load them only if you trust their source",
+    WARNING: "Nothing known that runs code, but some names do more than hold data",
+    UNKNOWN: "Don't load the unknown files yet: nobody has judged what their names do",
+    NOTE: "Nothing known that runs code in what was read",
+    Word.UNJUDGED: "Nothing known that runs code; no list has judged these files:"
+    " if you trust their source, `storklocker learn` writes one",
     Word.ACCEPTED: "A guard with this list loads these files",
     Word.NO_PICKLE: "No pickle was found",
 }
@@ -72,6 +78,6 @@ def word_of(status: Word, severities: Iterable[str]) -> Word:
         return Word.DANGEROUS
     if worst == UNREADABLE and status in _MILD:
         return Word.UNREADABLE
-    if worst == WARNING and status in (Word.UNJUDGED, Word.CODE):
-        return Word.WARNING
+    if worst in (WARNING, UNKNOWN) and status in (Word.UNJUDGED, Word.CODE):
+        return Word(worst)
     return status

@@ -23,10 +23,15 @@ END_SIZE = _END.size
 _TAIL = END_SIZE + (1 << 16)
 _ENDS = 8
 """The most end records that are looked at."""
-_COMMENT, _COMMIT = 40, re.compile(rb"[0-9a-f]{40}")
-"""The comment of `git archive`, which no reader takes for a record."""
+_COMMENT, _COMMIT = 64, re.compile(rb"(?:[0-9a-f]{40})?|[0-9a-f]{64}")
+"""The comment of `git archive`, by SHA-1 or SHA-256, which no reader takes for a record; or none.
+"""
 _PREFIX = 1 << 24
 """The longest program in front of a zip file that is looked through for headers."""
+_HEADER = re.compile(rb"PK(?:\x03\x04.{4}[\0-\x63]\0|\x05\x06\0{4})", re.DOTALL)
+"""A header of a member, by its way of packing, or an end record: one that unpacks itself has their
+first bytes among its instructions.
+"""
 _NONE16, _NONE32 = (1 << 16) - 1, (1 << 32) - 1
 _DESCRIBED = 8
 """The flag of a member whose sizes stand behind its data."""
@@ -82,7 +87,7 @@ def directories(source: Source) -> Iterator[Directory]:
 def _directories_at(source: Source, at: int) -> Iterator[Directory]:
     _, disk, first, here, count, size, start, comment = _END.unpack(source.read(at, _END.size))
     behind = source.read(at + _END.size, _COMMENT + 1)
-    is_right = not behind and not comment or comment == _COMMENT and _COMMIT.fullmatch(behind)
+    is_right = len(behind) == comment and _COMMIT.fullmatch(behind) is not None
     fault = "" if is_right else "bytes follow its end record"
     if disk or first or here != count:
         fault = "it is one of several disks"
@@ -203,7 +208,7 @@ def _is_program(source: Source, size: int, has_members: bool) -> bool:
     front = source.read(0, min(size, _PREFIX + 1))
     is_other = front[:2] in (b"#!", b"MZ", b"\x7fE", b"\xfe\xed", b"\xcf\xfa", b"\xca\xfe")
     is_whole = len(front) == size <= _PREFIX
-    return has_members and is_other and is_whole and LOCAL not in front and END not in front
+    return has_members and is_other and is_whole and _HEADER.search(front) is None
 
 
 def _member_fault(source: Source, entry: Entry, end: int) -> str:

@@ -1,242 +1,126 @@
 #!/usr/bin/env python3
-"""Calls every name of every ready-made list with whatever a pickle can make for an argument.
-Nothing runs, opens, imports, dies, changes what was there before, or takes much time or memory.
+"""Calls every name of every ready-made list with whatever a pickle can make for an argument, in
+every way, and puts the same at each place of an honest pickle that has the name. Nothing runs,
+opens, imports, dies, changes what was there before, or takes much time or memory.
 
     PYTHONPATH=python python3 python/tests/hostile/arguments.py [LIST ..] [--name MODULE.NAME]
-
-Each name has a child of its own, which is forked from one that has imported everything. What a
-child shows is tried again, alone, in three fresh ones, and counts only if each of them shows it.
 """
 
 import argparse
-import importlib
-import os
-import pickle
-import resource
-import signal
 import sys
-import types
-import warnings
 from pathlib import Path
 
-HERE = Path(__file__).resolve().parent
-sys.path[:0] = [str(HERE)]
+sys.path[:0] = [str(Path(__file__).resolve().parent)]
 
+import honest  # noqa: E402
 import shapes  # noqa: E402
-import storklocker  # noqa: E402
-from storklocker import AllowList, Guard, lists  # noqa: E402
+import trees  # noqa: E402
+from children import SECONDS, Children, begin, is_here  # noqa: E402
+from storklocker import Guard, lists  # noqa: E402
 
-SECONDS, MEMORY, AGAIN, MOST = 2, 1 << 30, 3, 4
-"""What a case may take, how often a finding is tried again, and how many of a name are told."""
-DANGERS = (
-    *("exec", "compile", "open", "import", "subprocess.", "socket.", "os.", "shutil.", "ctypes."),
-    *("marshal.", "pty.", "tempfile.", "code.__new__", "function.__new__", "builtins.breakpoint"),
-)
-OWN = "storklocker"
-"""The package whose modules are imported when they are needed, as are those of listed packages."""
+MOST, PLACES = 4, 10
+"""How many findings of a name are told, and how many places of an honest pickle are tried."""
+EVERY = 50
+"""After how many pickles what was there before is looked at."""
 
 
-class Watch:
-    """An audit hook that notes what is dangerous, while it is on."""
-
-    def __init__(self):
-        self.is_on, self.seen = False, []
-
-    def __call__(self, event, given):
-        if not self.is_on or not event.startswith(DANGERS):
-            return
-        if event == "import" and str(given[0]).partition(".")[0] in self.packages:
-            return
-        self.seen.append(f"{event} {given!r:.60}")
-
-    packages = frozenset()
-
-
-WATCH = Watch()
-
-
-def forms(called, given, is_built):
+def forms(called, given):
     """Pickles that hand an argument to a name in every way."""
-    for count in (1, 2, 3, 5, 17):
+    for count in (1, 2, 3, 5):
         yield f"called with {count}", called + b"(" + given * count + b"tR."
-    for k, other in enumerate((b"K\1", shapes.text("a"), b"]", b"}")):
+    for k, other in enumerate((b"K\1", shapes.text("a"), b"]")):
         yield f"called behind {k}", called + b"(" + other + given + b"tR."
-        yield f"called before {k}", called + b"(" + given + other + b"tR."
+    yield "called before a text", called + b"(" + given + shapes.text("a") + b"tR."
     yield "made", called + b"(" + given + b"t\x81."
+    yield "made with words", called + b"(" + given + b"t}\x92."
+    yield "made by OBJ", b"(" + called + given + b"o."
     yield "items put", called + b")R(" + given + b"e."
-    yield "pairs put", called + b")RK\0" + given + b"s."
-    if is_built:
-        yield "built", called + b")\x81" + given + b"b."
-        yield "built with a dict", called + b")\x81}" + shapes.text("state") + given + b"sb."
+    yield "members put", called + b")\x81(" + given + b"\x90."
+    yield "pairs put", called + b")R(" + given + b"K\0K\0" + given + b"u."
+    yield "built", called + b")\x81" + given + b"b."
+    yield "built after a call", called + b")R" + given + b"b."
+    yield "built with slots", called + b")\x81" + given + given + b"\x86b."
+    yield "built with a dict", called + b")\x81}" + shapes.text("state") + given + b"sb."
 
 
-def cases(pair, listed):
-    """The name of each case, and its pickle."""
+def cases(pair, held):
+    """The name of each case, and its pickle, given the trees of honest pickles."""
     called = shapes.name(*pair)
-    is_built = pair[0].partition(".")[0] in ("numpy", "pandas", "sklearn", "scipy")
-    kinds = [(word, [], data) for word, data in shapes.PLAIN.items()]
-    kinds += [(word, *row) for word, row in shapes.LISTED.items()]
-    if "numpy" in sys.modules:
-        kinds += [(word, *row) for word, row in shapes.ARRAYS.items()]
     yield "called with nothing", b"\x80\x04" + called + b")R."
     yield "made of nothing", b"\x80\x04" + called + b")\x81."
-    for word, _, data in kinds:
-        for form, body in forms(called, data, is_built):
+    for word, data in shapes.kinds().items():
+        for form, body in forms(called, data):
             yield f"{form}: {word}", b"\x80\x04" + body
+    found = min((it for it in map(lambda root: called_in(root, pair), held) if it is not None),
+                key=lambda it: it[2], default=None)
+    if found is None:
+        return
+    root, call, _ = found
+    shared = trees.shared(root)
+    for at, (node, _) in enumerate(trees.nodes(call)[1 : 1 + PLACES]):
+        for word, data in shapes.kinds().items():
+            instead = {id(node): trees.Node(trees.RAW, data)}
+            yield f"at place {at}: {word}", trees.Writer(shared, instead).written(root, 4)
 
 
-def listed_for(name):
-    """A ready-made list, and the names that the arguments take."""
-    more = [pair for row in (shapes.LISTED, shapes.ARRAYS) for pairs, _ in row.values()
-            for pair in pairs]
-    own = getattr(lists, name)
-    return own | AllowList([pair for pair in more if pair not in own])
+def called_in(root, pair):
+    """A tree, a node in it that calls a name, and the size of the tree; None without one."""
+    spelled = f"c{pair[0]}\n{pair[1]}\n".encode()
+    rows = trees.nodes(root)
+    for node, _ in rows:
+        if node.kind in trees.CALLS and any(part.data == spelled for part in node.parts):
+            return root, node, len(rows)
+    return None
 
 
-def state_of(pairs):
-    """What could be changed of the objects that are named, and of their members."""
-    found = {}
-    for module, word in pairs:
-        it = vars(sys.modules[module]).get(word) if module in sys.modules else None
-        own = getattr(it, "__dict__", None)
-        if own is not None and not isinstance(it, types.ModuleType):
-            found[module, word] = {key: id(own[key]) for key in list(own)
-                                   if key not in ("__abstractmethods__", "_abc_impl")}
+def run(name, tried, seconds, only):
+    """Tries the names of a list that weren't tried, and returns what was found."""
+    load = honest.loader(name, Guard(shapes.widened(getattr(lists, name))))
+    data = honest.pickles(name)
+    held = [root for root in map(trees.parsed_or_none, data) if root is not None]
+    pairs = [pair for pair in getattr(lists, name) if pair not in tried and is_here(pair)]
+    tried.update(pairs)
+    warm(load, [*data, *(case for pair in pairs for case in few_of(pair))])
+    found = []
+    for pair in pairs:
+        if only not in (None, ".".join(pair)):
+            continue
+        words, made = zip(*cases(pair, held))
+        children = Children(load, [pair], seconds, EVERY)
+        for many, (at, said) in enumerate(children.findings(made)):
+            found.append(f"{'.'.join(pair)} {words[at]}: {said} ({len(made[at]):,} bytes)")
+            print(found[-1], flush=True)
+            if many == MOST:
+                break
     return found
 
 
-class Child:
-    """A forked process that tries cases of a name from one number on, and tells of each."""
-
-    def __init__(self, guard, pair, todo, seconds):
-        self.guard, self.pair, self.todo, self.seconds = guard, pair, todo, seconds
-
-    def ran(self):
-        """The number of the last case that was begun, and what was found of it; None at the end."""
-        reading, writing = os.pipe()
-        child = os.fork()
-        if child == 0:
-            os.close(reading)
-            try:
-                self._try(writing)
-            finally:
-                os._exit(0)
-        os.close(writing)
-        with os.fdopen(reading, "r") as told:
-            lines = told.read().split("\n")[:-1]
-        _, status = os.waitpid(child, 0)
-        last = lines[-1] if lines else "0 begun"
-        at, _, said = last.partition(" ")
-        if said == "done":
-            return None
-        if said == "begun":
-            how = os.WTERMSIG(status) if os.WIFSIGNALED(status) else f"status {status}"
-            said = "it takes too long" if how == signal.SIGPROF else f"the process ended: {how}"
-        return int(at), said
-
-    def _try(self, writing):
-        resource.setrlimit(resource.RLIMIT_CORE, (0, 0))
-        quiet = os.open(os.devnull, os.O_WRONLY)
-        os.dup2(quiet, 1)
-        os.dup2(quiet, 2)
-        before = state_of([self.pair])
-        for at, data in self.todo:
-            os.write(writing, b"%d begun\n" % at)
-            found = self._found(data)
-            if found is None and state_of([self.pair]) != before:
-                found = "it changes what was there before"
-            if found is not None:
-                os.write(writing, f"{at} {found}\n".encode())
-                return
-        os.write(writing, b"0 done\n")
-
-    def _found(self, data):
-        """What is wrong with a case; None if nothing is."""
-        most = resource.getrusage(resource.RUSAGE_SELF).ru_maxrss
-        signal.setitimer(signal.ITIMER_PROF, self.seconds)
-        WATCH.is_on = True
-        try:
-            self.guard.loads(data)
-        except BaseException:  # (also what pickle itself raises)
-            pass
-        finally:
-            WATCH.is_on = False
-            signal.setitimer(signal.ITIMER_PROF, 0)
-        if WATCH.seen:
-            return f"dangerous: {WATCH.seen[0]}"
-        more = (resource.getrusage(resource.RUSAGE_SELF).ru_maxrss - most) << 10
-        return f"{more:,} bytes of memory" if more > MEMORY else None
+def few_of(pair):
+    return [b"\x80\x04" + shapes.name(*pair) + body
+            for body in (b")R.", b"K\1\x85R.", b")\x81}b.", b")RN)RN)Re.")]
 
 
-def findings(guard, pair, listed, seconds):
-    """What is found of a name: of each case only what three more processes show too."""
-    todo = [(at, data) for at, (_, data) in enumerate(cases(pair, listed))]
-    words = [word for word, _ in cases(pair, listed)]
-    many = 0
-    while todo and many < MOST:
-        found = Child(guard, pair, todo, seconds).ran()
-        if found is None:
-            return
-        at, said = found
-        one = [(at, dict(todo)[at])]
-        if all(Child(guard, pair, one, seconds).ran() is not None for _ in range(AGAIN)):
-            many += 1
-            yield words[at], len(one[0][1]), said
-        todo = [row for row in todo if row[0] > at]
-
-
-def run(named, seconds, only=None):
-    """Tries the names of these lists. Returns the number of names tried, and what was found."""
-    warnings.simplefilter("ignore")
-    sys.setrecursionlimit(1000)
-    tried, found = set(), []
-    Watch.packages = frozenset(
-        [OWN, "encodings", *(module.partition(".")[0] for it in lists.__all__
-                             for module, _ in getattr(lists, it))]
-    )
-    for name in named:
-        guard = Guard(listed_for(name))
-        pairs = [pair for pair in getattr(lists, name) if is_here(pair)]
-        warm(guard, [pair for pair in guard.allow if is_here(pair)])
-        for pair in pairs:
-            if pair in tried or only not in (None, ".".join(pair)):
-                continue
-            tried.add(pair)
-            for word, size, said in findings(guard, pair, listed_for(name), seconds):
-                found.append(f"{'.'.join(pair)} {word}: {said} ({size:,} bytes)")
-                print(found[-1], flush=True)
-    return len(tried), found
-
-
-def warm(guard, pairs):
+def warm(load, made):
     """Has everything imported that a load needs."""
-    for pair in pairs:
-        for body in (b")R.", b"K\1\x85R.", b")\x81}b.", b")RN)RN)Re."):
-            try:
-                guard.loads(b"\x80\x04" + shapes.name(*pair) + body)
-            except Exception:  # (most take other arguments)
-                continue
-
-
-def is_here(pair):
-    """Whether this Python has a name, which is then imported."""
-    try:
-        module = importlib.import_module(pair[0])
-    except Exception:  # (whatever a library raises that lacks another one)
-        return False
-    return hasattr(module, pair[1])
+    for data in made:
+        try:
+            load(data)
+        except Exception:  # (most take other arguments)
+            continue
 
 
 def main():
     parser = argparse.ArgumentParser(description=__doc__.partition("\n\n")[0])
-    parser.add_argument("lists", nargs="*", default=lists.__all__)
+    parser.add_argument("lists", nargs="*", metavar="LIST")
     parser.add_argument("--name", help="only this name")
     parser.add_argument("--seconds", type=float, default=SECONDS, help="for a case, at most")
     asked = parser.parse_args()
-    sys.addaudithook(WATCH)
-    count, found = run(asked.lists or lists.__all__, asked.seconds, asked.name)
-    print(f"{count} names of {storklocker.__name__}.lists, {len(found)} findings")
-    return 1 if found or not count else 0
+    begin()
+    tried, found = set(), []
+    for name in asked.lists or lists.__all__:
+        found += run(name, tried, asked.seconds, asked.name)
+    print(f"{len(tried)} names of storklocker.lists, {len(found)} findings")
+    return 1 if found or not tried else 0
 
 
 if __name__ == "__main__":

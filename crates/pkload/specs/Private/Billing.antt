@@ -6,6 +6,7 @@ use Rattle.pkops.specs.declared.Op.{Op}
 use Rattle.pkops.specs.declared.Op.TheVariants as op
 use Rattle.pkmachine.specs.declared.effect.Gives.TheVariants.{Leaves}
 use Rattle.pkstack.specs.declared.Move.TheVariants.{PushesMark, Stores, StoresNext, Fetches}
+use Rattle.pkstack.specs.declared.Move.TheVariants.{Pops, PopsMark, Duplicates, NoOp, Extends}
 use Rattle.pkstack.specs.declared.Takes.{Takes}
 use Rattle.pkstack.specs.declared.Takes.TheVariants.{Objects}
 use Rattle.pkmachine.specs.Effects.{Effect, Operates, Moves, Stops, Raises, effect_of}
@@ -34,7 +35,11 @@ action_in (Moves PushesMark) = action.Marks
 action_in (Moves Fetches) = action.Fetches
 action_in (Moves StoresNext) = action.StoresNext
 action_in (Moves Stores) = action.Stores
-action_in (Moves move) = action.Moves
+action_in (Moves Pops) = action.Pops
+action_in (Moves PopsMark) = action.PopsMark
+action_in (Moves Duplicates) = action.Duplicates
+action_in (Moves NoOp) = action.Passes
+action_in (Moves Extends) = action.Extends
 action_in Stops = action.Stops
 action_in Raises = action.Stops
 
@@ -64,6 +69,7 @@ action_of op.Appends = action.AppendsSlice
 action_of op.AddItems = action.AddsSlice
 action_of op.Tuple = action.TiesSlice
 action_of op.FrozenSet = action.FreezesSlice
+action_of op.Build = action.Builds
 action_of op.SetItem = action.Sets
 action_of op.SetItems = action.SetsSlice
 action_of o = action_in (effect_of o)

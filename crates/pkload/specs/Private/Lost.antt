@@ -1,6 +1,9 @@
 -- When the bill can't be kept, although nothing was allocated.
-use Rattle.std.specs.Prelude.{◌≡◌, ◌<◌, ◌≤◌, ◌^◌, ◌⊎◌, ℕ, List, length}
+use Rattle.std.specs.Prelude.{◌≡◌, ◌<◌, ◌≤◌, ◌^◌, ◌⊎◌, ℕ, List, [], IfOk, length, true}
+use Rattle.pkstack.specs.Shape.{Entry, is_even, slice}
 use Rattle.pkload.specs.Heft.{Heft}
+use Rattle.pkload.specs.Keys.{every_other}
+use Rattle.pkload.specs.Tally.{with_keys}
 use Rattle.pkload.specs.declared.halt.Halt.{Halt}
 use Rattle.pkload.specs.declared.halt.Halt.TheVariants.{Lost, OutOfMemory}
 use Rattle.pkload.specs.declared.tally.Tally.{Tally}
@@ -20,3 +23,18 @@ HasTooGreat tally halt = (halt ≡ Lost) × ((2 ^ 64 ≤ tally.work) ⊎ (2 ^ 64
 -- the next number of this memo doesn't fit 32 bits
 abbrev pub HasNoNumber : List (ℕ × Heft) → Halt → Type 0
 HasNoNumber memo halt = (halt ≡ OutOfMemory) × (2 ^ 32 ≤ length memo)
+
+-- a sum of this tally doesn't fit 64 bits
+abbrev pub IsTallyTooGreat : Tally → Type 0
+IsTallyTooGreat tally = (2 ^ 64 ≤ tally.work) ⊎ (2 ^ 64 ≤ tally.clash)
+
+-- if there is a slice, counting its objects as keys gives a sum that doesn't fit 64 bits
+abbrev pub LacksKeys : List (Entry Heft) → Tally → Type 0
+LacksKeys entries tally =
+    IfOk (slice entries []) (λ taken. IsTallyTooGreat (with_keys tally taken.operands))
+
+-- if there is a slice of an even number of objects, counting every other as a key does
+abbrev pub LacksPairs : List (Entry Heft) → Tally → Type 0
+LacksPairs entries tally =
+    IfOk (slice entries []) (λ taken. is_even taken.operands ≡ true
+    → IsTallyTooGreat (with_keys tally (every_other taken.operands)))

@@ -5,7 +5,7 @@ use Rattle.std.specs.Prelude.{⊤, ◌≢◌}
 use Rattle.pkcheck.specs.Reports.{Report}
 use Rattle.pkstack.specs.Shape.{Breach, and_then}
 use Rattle.pkmachine.specs.declared.memo.Memo.{Memo}
-use Rattle.pkload.specs.Private.Told.{Metering, all_metered, metered}
+use Rattle.pkload.specs.Private.Told.{CantBeMetered, Metering, all_metered, metered, ready}
 use Rattle.pkload.specs.Tolls.{Exceeds, KeepsWithin, unlimited}
 use Rattle.pkload.specs.declared.tolls.Excess.{Excess}
 use Rattle.pkload.specs.declared.tolls.Excess.TheVariants.{OutOfMemory}
@@ -35,11 +35,12 @@ AllFit memo tolls [] m = ⊤
 AllFit memo tolls (r ∷ rs) m =
     IfOk (metered memo r m) (λ n. Fits tolls n × AllFit memo tolls rs n)
 
--- why the report is one too many: a limit is exceeded, unless the bill can't be kept
-abbrev pub IsTooMuch : Excess → Memo → Tolls → Metering → Report → Metering → Type 0
-IsTooMuch excess memo tolls m r n =
-    excess ≢ OutOfMemory
-    → (metered memo r m ≡ Ok n) × Exceeds excess tolls n.bill.tally n.bill.memory
+-- why the report is one too many: a limit is exceeded, or the bill can't be kept
+pub record IsTooMuch (excess : Excess) (memo : Memo) (tolls : Tolls) (m : Metering) (r : Report)
+    (n : Metering) : Type 0 where
+  pub limit : excess ≢ OutOfMemory
+      → (metered memo r m ≡ Ok n) × Exceeds excess tolls n.bill.tally n.bill.memory
+  pub unkept : excess ≡ OutOfMemory → CantBeMetered (ready memo m) r.told
 
 module _ (memo : Memo) (tolls : Tolls) (excess : Excess) (at : ℕ) (n : Metering) where
   -- the last of the reports, at this offset, is the first that is too much

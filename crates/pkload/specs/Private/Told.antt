@@ -1,6 +1,6 @@
 -- The bill of what is told of an instruction, whole or skipped.
 use Rattle.std.specs.Prelude.{ℕ, suc, ◌+◌, ◌-◌, Bool, true, false, if◌then◌else◌, List, [], ◌∷◌}
-use Rattle.std.specs.Prelude.{Result, Ok, Err}
+use Rattle.std.specs.Prelude.{Result, Ok, Err, ⊤, ◌≤◌, ◌^◌, ◌⊎◌}
 use Rattle.pkops.specs.declared.Op.{Op}
 use Rattle.pkops.specs.declared.Op.TheVariants as op
 use Rattle.pkcheck.specs.Reports.{Report, Skipped, Told, Whole}
@@ -11,6 +11,7 @@ use Rattle.pkload.specs.Bill.{Bill, billed, next_bill, no_bill}
 use Rattle.pkload.specs.Heft.{heft_made}
 use Rattle.pkload.specs.Memory.{held_memory, plain_memory}
 use Rattle.pkload.specs.Private.Billing.{pushed}
+use Rattle.pkload.specs.Unkept.{CantBeKept}
 use Rattle.pkload.specs.Tally.{with_operation}
 
 -- the bytes of an instruction with a payload that may be skipped, before its payload
@@ -56,6 +57,15 @@ ready memo m = next_if m.bill.ended memo m
 -- the same pickle with another bill
 abbrev pub with_bill : Metering → Bill → Metering
 with_bill m bill = record m { bill = bill }
+
+-- why the bill can't be kept behind what was told. A payload that is skipped is that of an object
+abbrev pub CantBeTold : Told → Bill → Type 0
+CantBeTold (Whole i) bill = CantBeKept i bill
+CantBeTold (Skipped o count) bill = ⊤
+
+-- likewise, also because there are too many pickles
+abbrev pub CantBeMetered : Metering → Told → Type 0
+CantBeMetered m told = (2 ^ 64 ≤ m.pickle) ⊎ CantBeTold told m.bill
 
 -- after something is told
 abbrev pub metered_told : Memo → Told → Metering → Result Metering Breach

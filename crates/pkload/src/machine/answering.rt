@@ -1,8 +1,9 @@
 //! Operations whose answer costs the same, whatever they take.
 
-ghost use Rattle.std.specs.Prelude.{◌≡◌, [], IfOk, Ok, OnOk, false, true};
+ghost use Rattle.std.specs.Prelude.{◌≡◌, [], IfOk, Ok, OnErr, OnOk, false, true};
 ghost use Rattle.pkstack.specs.Shape.{items};
 ghost use Rattle.pkload.specs.Private.Billing.{IsAnswered, IsQuiet, op_billed};
+ghost use Rattle.pkload.specs.Unkept.{IsLost};
 
 use super::Machine;
 use crate::halt::{Halt, plus};
@@ -19,7 +20,6 @@ impl Machine {
         match op {
             Op::List => self.list_slice(),
             Op::Dict => self.dict_slice(),
-            Op::Build => self.build(),
             Op::StackGlobal => self.answer(2, PackedHeft::new(1, 0, true, true), 16),
             Op::Reduce | Op::NewObj => self.answer(2, PackedHeft::new(1, 0, true, false), 16),
             Op::NewObjEx => self.answer(3, PackedHeft::new(1, 0, true, false), 16),
@@ -56,10 +56,11 @@ impl Machine {
     }
 
     /// BUILD, which leaves the object. Returns true, since that may be imported.
-    #[inline(always)]
-    fn build(&mut self) -> Result<bool, Halt>
+    #[inline(never)]
+    pub(super) fn build(&mut self) -> Result<bool, Halt>
         ensures billed { OnOk result (op_billed Op.Build self.old ≡ Ok self.new) }
         ensures counted { IfOk result (λ counted. counted ≡ true) }
+        ensures lost { OnErr result (IsLost (op_billed Op.Build self.old) self.old) }
     {
         let Some(_state) = self.stack.pop_object() else {
             return Err(Halt::Lost);

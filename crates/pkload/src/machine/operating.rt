@@ -1,7 +1,8 @@
 //! Operations on so many of the topmost objects.
 
-ghost use Rattle.std.specs.Prelude.{◌≡◌, IfOk, Ok, OnOk, false, true};
+ghost use Rattle.std.specs.Prelude.{◌≡◌, IfOk, Ok, OnErr, OnOk, false, true};
 ghost use Rattle.pkload.specs.Private.Billing.{IsQuiet, op_billed};
+ghost use Rattle.pkload.specs.Unkept.{IsLost};
 
 use super::Machine;
 use crate::halt::Halt;
@@ -69,6 +70,7 @@ impl Machine {
     pub(super) fn append(&mut self) -> Result<bool, Halt>
         ensures billed { OnOk result (op_billed Op.Append self.old ≡ Ok self.new) }
         ensures quiet { OnOk result (IsQuiet self.old self.new) }
+        ensures lost { OnErr result (IsLost (op_billed Op.Append self.old) self.old) }
     {
         let Some(_item) = self.stack.pop_object() else {
             return Err(Halt::Lost);
@@ -85,6 +87,7 @@ impl Machine {
     pub(super) fn set(&mut self) -> Result<bool, Halt>
         ensures billed { OnOk result (op_billed Op.SetItem self.old ≡ Ok self.new) }
         ensures counted { IfOk result (λ counted. counted ≡ true) }
+        ensures lost { OnErr result (IsLost (op_billed Op.SetItem self.old) self.old) }
     {
         let Some(_value) = self.stack.pop_object() else {
             return Err(Halt::Lost);

@@ -1,7 +1,8 @@
 //! Operations on the objects above the topmost mark.
 
-ghost use Rattle.std.specs.Prelude.{◌≡◌, IfOk, Ok, OnOk, false, true};
+ghost use Rattle.std.specs.Prelude.{◌≡◌, IfOk, Ok, OnErr, OnOk, false, true};
 ghost use Rattle.pkload.specs.Private.Billing.{IsQuiet, op_billed};
+ghost use Rattle.pkload.specs.Unkept.{IsLost};
 
 use super::Machine;
 use crate::gathering::{take_items, take_pairs, tied_all, with_receiver};
@@ -17,6 +18,7 @@ impl Machine {
     pub(super) fn append_slice(&mut self) -> Result<bool, Halt>
         ensures billed { OnOk result (op_billed Op.Appends self.old ≡ Ok self.new) }
         ensures quiet { OnOk result (IsQuiet self.old self.new) }
+        ensures lost { OnErr result (IsLost (op_billed Op.Appends self.old) self.old) }
     {
         let count = self.stack.drop_slice()?;
         let Some(_list) = self.stack.top() else {
@@ -31,6 +33,7 @@ impl Machine {
     pub(super) fn set_slice(&mut self) -> Result<bool, Halt>
         ensures billed { OnOk result (op_billed Op.SetItems self.old ≡ Ok self.new) }
         ensures counted { IfOk result (λ counted. counted ≡ true) }
+        ensures lost { OnErr result (IsLost (op_billed Op.SetItems self.old) self.old) }
     {
         let count = take_pairs(&mut self.stack, &mut self.tally)?;
         let Some(_dict) = self.stack.top() else {
@@ -45,6 +48,7 @@ impl Machine {
     pub(super) fn add_slice(&mut self) -> Result<bool, Halt>
         ensures billed { OnOk result (op_billed Op.AddItems self.old ≡ Ok self.new) }
         ensures counted { IfOk result (λ counted. counted ≡ true) }
+        ensures lost { OnErr result (IsLost (op_billed Op.AddItems self.old) self.old) }
     {
         let count = take_items(&mut self.stack, &mut self.tally)?;
         let Some(_set) = self.stack.top() else {

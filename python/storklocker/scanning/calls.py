@@ -1,0 +1,314 @@
+"""The calls of dangerous names in a pickle, with their arguments, as far as these are plain.
+
+The pickle is followed as the most lenient reader follows it. What it pushes is kept as it would be
+written in Python, and a call is written where it is made: a list may be filled after a tuple has
+it. A call that is made of millions of values is cut like any other.
+"""
+
+from __future__ import annotations
+
+import functools
+import io
+import pickletools
+from typing import Any, Callable, Dict, Iterable, List, Sequence, Tuple
+
+from .._writing import quoted
+from .budget import LOOKED_AT, Budget
+from .lenient import ANY, OTHER, Names, Walk
+from .names import named_today, pair_of
+from .report import LONGEST, Finding, shown
+from .severity import DANGER
+from .source import Source
+
+LENGTH = 200
+"""The most characters of a call."""
+MOST = 4
+"""The most calls of a name that are told. A last line counts the others."""
+_GIVEN = 8
+"""The most arguments of a call that are looked at for names."""
+_ITEMS, _VISITS, _LITERAL = 67, 1000, 256
+_LITERALS = frozenset(
+    "int long int_or_bool bytes_or_str bytes bytearray str float".split()
+)
+"""The kinds of values, as `pickletools` calls them, that an instruction has as its argument."""
+
+
+_Act = Callable[[Any], object]
+
+
+class _Written(str):
+    """A piece of a call, as it is shown."""
+
+
+_UNKNOWN, _NOTHING, _COMMA, _COLON = map(_Written, ("...", "", ", ", ": "))
+_LIST, _TUPLE, _DICT, _SET = "[]", "(,)", "{:}", "{}"
+
+
+class _Value:
+    """A value: its front, and items between brackets. `name` is that of the import that it is, or
+    that has made it.
+    """
+
+    __slots__ = ("front", "brackets", "items", "may_be_text", "name")
+
+    def __init__(
+        self, front: Any, brackets: str = "", items: Sequence[Any] = (), may_be_text: bool = False
+    ) -> None:
+        self.front, self.brackets, self.may_be_text = front, brackets, may_be_text
+        self.items: List[Any] = []
+        self.name = ""
+        self.add(items)
+
+    def add(self, items: Sequence[Any]) -> None:
+        """Takes more items, of which only the first are seen."""
+        if len(self.items) <= _ITEMS:
+            if self.brackets == _DICT:
+                items = [_pair(*it) for it in zip(items[: 2 * _ITEMS : 2], items[1::2])]
+            self.items += items[: _ITEMS + 1]
+
+    def pieces(self) -> List[Any]:
+        """What it is written as."""
+        found = [self.front, _Written(self.brackets[:1])]
+        for item in self.items:
+            found += (item, _COMMA)
+        if self.items:
+            found.pop()
+        if self.brackets == _TUPLE and len(self.items) == 1:
+            found.append(_Written(","))
+        return [*found, _Written(self.brackets[-1:])]
+
+
+def _pair(key: Any, value: Any) -> _Value:
+    return _Value(_Value(key, "", [_COLON]), "", [value])
+
+
+def _known(value: Any) -> Any:
+    """A value as the walk knows it that only looks for imports."""
+    if type(value) is _Value:
+        return ANY if value.may_be_text else OTHER
+    return OTHER if type(value) is _Written else value
+
+
+def _text_of(value: Any) -> str:
+    if type(value) is str:
+        return quoted(value[: LENGTH + 1])
+    return value if type(value) is _Written else _UNKNOWN
+
+
+def written(value: Any) -> str:
+    """A value in a line of at most `LENGTH` characters, all of which can be printed."""
+    room, todo, found = LENGTH, [value], []
+    for _ in range(_VISITS):
+        if not todo or room < 0:
+            break
+        it = todo.pop()
+        if type(it) is _Value:
+            todo += reversed(it.pieces())
+        else:
+            found.append(_text_of(it))
+            room -= len(found[-1])
+    text = "".join(found)
+    return text if not todo and len(text) <= LENGTH else f"{text[: LENGTH - 3]}..."
+
+
+class Calls(Walk):
+    """Follows a pickle, and calls `tell` with each import that is called or given to a call, and
+    that call.
+    """
+
+    def __init__(
+        self, source: Source, at: int, most: int, tell: Callable[[str, _Value], object]
+    ) -> None:
+        super().__init__(source, at)
+        self.most, self._tell = most, tell
+        self._dropped: List[Any] = []
+        self._front = source.read(at, 2)
+        self._pair: Names = (None, None)
+
+    def to_mark(self) -> None:
+        self._dropped = self._stack
+        super().to_mark()
+
+    # ---- imports
+
+    def _import(self, module: bytes, name: bytes) -> None:
+        super()._import(module, name)
+        self._pair = (module, name)
+
+    def _imported(self) -> None:
+        """What is on top is what has just been imported."""
+        (today,) = named_today([self._pair], self._front)
+        made = self._stack[-1] = _Value(_name_of(today), may_be_text=True)
+        made.name = made.front
+
+    def by_lines(self, coding: str = "utf-8") -> None:
+        super().by_lines(coding)
+        self._imported()
+
+    def from_stack(self) -> None:
+        self._stack[-2:] = map(_known, self._stack[-2:])
+        self._pair = (None, None)
+        super().from_stack()
+        if self._pair != (None, None):
+            self._imported()
+
+    # ---- calls
+
+    def _called(self, function: Any, words: List[Any]) -> None:
+        """What is on top is what a function makes of these arguments."""
+        made = self._stack[-1] = _Value(function, "()", words, True)
+        if type(function) is _Value:
+            made.name = function.name
+        for it in (function, *words[:_GIVEN]):
+            if type(it) is _Value and it.name and (it is function or not it.brackets):
+                self._tell(it.name, made)
+
+    def instance(self) -> None:
+        super().instance()
+        *words, function = self._dropped
+        self._called(function, words)
+
+    def instance_of(self) -> None:
+        super().instance_of()
+        function, *words = self._dropped
+        self._called(function, words)
+
+    def reduced(self, act: _Act, count: int) -> None:
+        """An instruction that takes a function and its arguments, and perhaps named ones."""
+        function, *given = self._stack[len(self._stack) - count :]
+        act(self)
+        words: List[Any] = []
+        for star, it in zip(("*", "**"), given):
+            is_tuple = type(it) is _Value and it.brackets == _TUPLE and not words
+            words += it.items if is_tuple else [_Value(_Written(star), "", [it])]
+        self._called(function, words)
+
+    # ---- values
+
+    def literal(self, act: _Act, argument: Any) -> None:
+        """An instruction whose argument is the value."""
+        begin = self.at
+        act(self)
+        if type(self._stack[-1]) is not str:
+            raw = self.source.read(begin, min(self.at - begin, _LITERAL))
+            is_text = self._stack[-1] is ANY
+            self._stack[-1] = _Value(_Written(_literal(argument, raw)), may_be_text=is_text)
+
+    def constant(self, act: _Act, text: str) -> None:
+        act(self)
+        self._stack[-1] = _Value(_Written(text))
+
+    def tupled(self, act: _Act, count: int) -> None:
+        items = self._stack[len(self._stack) - count :]
+        act(self)
+        self._stack[-1] = _Value(_NOTHING, _TUPLE, items)
+
+    def gathered(self, act: _Act, brackets: str) -> None:
+        """An instruction that makes a value of what is above the mark, if it takes that."""
+        self._dropped = []
+        act(self)
+        self._stack[-1] = _Value(_NOTHING, brackets, self._dropped)
+
+    def filled(self, act: _Act, count: int) -> None:
+        """An instruction that puts so many values, or those above the mark, into another."""
+        items = self._stack[len(self._stack) - count :]
+        act(self)
+        it = self._stack[-1]
+        if type(it) is _Value and it.brackets in (_LIST, _DICT, _SET):
+            it.add(items if count else self._dropped)
+
+
+def _literal(argument: Any, raw: bytes) -> str:
+    """The value of an instruction's argument, of which these are the first bytes."""
+    try:
+        value = argument.reader(io.BytesIO(raw))
+    except Exception:  # whatever `pickletools` refuses, and what is cut
+        width = {-2: 1, -3: 4, -4: 4, -5: 8}.get(argument.n, 0)
+        value = raw[width:].decode("utf-8", "replace")
+    return quoted(value) if isinstance(value, str) else shown(repr(value), LENGTH)
+
+
+def _name_of(names: Names) -> _Written:
+    return _Written(shown(".".join(str(it) for it in pair_of(names)), LONGEST))
+
+
+def _acts() -> Dict[int, _Act]:
+    """What each instruction does, by its code."""
+    found = dict(Walk.acts)
+    plain: Dict[str, Any] = {
+        "GLOBAL": Calls.by_lines, "INST": Calls.instance, "STACK_GLOBAL": Calls.from_stack,
+        "OBJ": Calls.instance_of,
+    }
+    for it in pickletools.opcodes:
+        code, after = ord(it.code), [kind.name for kind in it.stack_after]
+        if it.name in plain:
+            found[code] = plain[it.name]
+        elif it.name in _WITH:
+            method, given = _WITH[it.name]
+            found[code] = functools.partial(_with, method, found[code], given)
+        elif it.arg is not None and not _LITERALS.isdisjoint(after):
+            found[code] = functools.partial(_with, Calls.literal, found[code], it.arg)
+    return found
+
+
+def _with(method: Callable[..., object], act: _Act, given: Any, walk: Calls) -> None:
+    method(walk, act, given)
+
+
+_WITH: Dict[str, Tuple[Callable[..., object], Any]] = {
+    "NONE": (Calls.constant, "None"), "NEWTRUE": (Calls.constant, "True"),
+    "NEWFALSE": (Calls.constant, "False"), "EMPTY_TUPLE": (Calls.gathered, _TUPLE),
+    "EMPTY_LIST": (Calls.gathered, _LIST), "EMPTY_DICT": (Calls.gathered, _DICT),
+    "EMPTY_SET": (Calls.gathered, _SET), "LIST": (Calls.gathered, _LIST),
+    "DICT": (Calls.gathered, _DICT), "FROZENSET": (Calls.gathered, _SET),
+    "TUPLE": (Calls.gathered, _TUPLE), "TUPLE1": (Calls.tupled, 1), "TUPLE2": (Calls.tupled, 2),
+    "TUPLE3": (Calls.tupled, 3), "APPEND": (Calls.filled, 1), "SETITEM": (Calls.filled, 2),
+    "APPENDS": (Calls.filled, 0), "SETITEMS": (Calls.filled, 0), "ADDITEMS": (Calls.filled, 0),
+    "REDUCE": (Calls.reduced, 2), "NEWOBJ": (Calls.reduced, 2), "NEWOBJ_EX": (Calls.reduced, 3),
+}
+"""Instructions by what they do besides what `Walk` does for them."""
+
+Calls.acts = _acts()
+
+
+def with_calls(
+    findings: Iterable[Finding], source: Source, end: int, budget: Budget
+) -> List[Finding]:
+    """The findings on the pickles in front of a place, and on one that begins there, those on
+    dangerous names with the calls that the pickles make of them.
+    """
+    found = list(findings)
+    calls = {it.name: _Told() for it in found if it.severity == DANGER and it.name}
+    at = 0
+
+    def tell(name: str, call: _Value) -> None:
+        if name in calls:
+            calls[name].add(call)
+
+    while calls and at <= end and budget.calls > 0:
+        walk = Calls(source, at, budget.calls, tell)
+        is_ended, _ = walk.through()
+        budget.calls -= walk.steps + (walk.at - at) // LOOKED_AT
+        at = walk.at
+        if not is_ended:
+            break
+    return [it._replace(calls=calls[it.name].lines()) if it.name in calls else it for it in found]
+
+
+class _Told:
+    """The calls of a name, each once."""
+
+    def __init__(self) -> None:
+        self._lines: Dict[str, None] = {}
+        self._more = 0
+
+    def add(self, call: _Value) -> None:
+        if len(self._lines) < MOST:
+            self._lines[written(call)] = None
+        else:
+            self._more += 1
+
+    def lines(self) -> Tuple[str, ...]:
+        """What is told of them."""
+        more = f"and {self._more:,} more calls" if self._more else ""
+        return (*self._lines, more) if more else tuple(self._lines)

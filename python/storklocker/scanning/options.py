@@ -1,0 +1,140 @@
+"""The options of `storklocker scan`, and those that it shares with other commands."""
+
+from __future__ import annotations
+
+import argparse
+from typing import Any, Optional, Sequence, Union
+
+from .showing import FORMATS, SHOW
+from .summary import FAIL_ON
+
+PATH = "a file, a folder, or - for standard input"
+_URL = f"{PATH}; or a URL of either that fsspec opens"
+LIST = "the list file of permitted names"
+LISTS = f"{LIST}, or @NAME,@NAME for shipped lists; of several the union counts"
+GUARDED = "what is undecided doesn't count: a guard with this list loads the files"
+
+
+class _Append(argparse.Action):
+    """Appends to what the command line has, and not to a default of pyproject.toml."""
+
+    def __call__(
+        self,
+        parser: argparse.ArgumentParser,
+        asked: argparse.Namespace,
+        values: Union[str, Sequence[Any], None],
+        option: Optional[str] = None,
+    ) -> None:
+        held = getattr(asked, self.dest)
+        setattr(asked, self.dest, [*([] if held is self.default else held), values])
+
+
+def add_descending(it: argparse.ArgumentParser) -> None:
+    """Adds what says whether subfolders are scanned."""
+    it.add_argument(
+        "--no-recursive",
+        action="store_false",
+        dest="recursive",
+        help="leave out subfolders, which causes status 2 if there are any",
+    )
+    it.add_argument("--recursive", action="store_true", default=True, help=argparse.SUPPRESS)
+
+
+def add_options(it: argparse.ArgumentParser) -> None:
+    """Adds the options of `scan`."""
+    _add_files(it)
+    _add_judgements(it)
+    _add_means(it)
+    _add_output(it)
+    it.add_argument(
+        "--no-config",
+        "--isolated",
+        action="store_true",
+        help="take no options from [tool.storklocker] of a pyproject.toml, which is looked for in"
+        " the current folder and those above it, never in a folder below that is scanned",
+    )
+
+
+def _add_files(it: argparse.ArgumentParser) -> None:
+    it.add_argument("paths", nargs="*", metavar="PATH", help=_URL)
+    it.add_argument(
+        "--files-from",
+        metavar="FILE",
+        help="also scan the files that this one names, a line each; - is standard input",
+    )
+    it.add_argument(
+        "-0", "--null", action="store_true", help="names of --files-from end with NUL, not lines"
+    )
+    add_descending(it)
+    for option, what in (("--include", "scan only"), ("--exclude", "leave out")):
+        it.add_argument(
+            option,
+            action=_Append,
+            default=[],
+            metavar="PATTERN",
+            help=f"{what} files of a folder with such a name, or such a path if it has a slash",
+        )
+
+
+def _add_judgements(it: argparse.ArgumentParser) -> None:
+    it.add_argument("--allow", action=_Append, metavar="LIST", help=LISTS)
+    it.add_argument(
+        "--danger",
+        metavar="FILE",
+        help="names that are dangers too: sections `[danger] A sentence.`, and a name a line",
+    )
+    it.add_argument(
+        "--baseline",
+        metavar="FILE",
+        help="findings of this report, of --format json, on the same bytes don't count",
+    )
+    it.add_argument(
+        "--fail-on",
+        choices=FAIL_ON,
+        help="the least that causes status 1; refused by default with --allow, else unknown",
+    )
+    it.add_argument("--guarded", action="store_true", help=GUARDED)
+
+
+def _add_means(it: argparse.ArgumentParser) -> None:
+    it.add_argument(
+        "--jobs", type=_jobs, default=1, metavar="N", help="number of processes; 1 by default"
+    )
+    it.add_argument(
+        "--cluster",
+        metavar="ADDRESS",
+        help="scan on the workers of a dask.distributed cluster, by the address of its scheduler",
+    )
+    it.add_argument(
+        "--resume",
+        metavar="FILE",
+        help="keep the reports in this file, and don't scan again what it has from another run",
+    )
+
+
+def _add_output(it: argparse.ArgumentParser) -> None:
+    it.add_argument(
+        "--format",
+        choices=FORMATS,
+        default="table",
+        help="how the reports are written; a table by default",
+    )
+    it.add_argument(
+        "--show",
+        choices=SHOW,
+        help="the least severity that is listed, or all files; by default a terminal shows the"
+        " findings, and a table elsewhere has all pickles too",
+    )
+    it.add_argument(
+        "--color",
+        choices=("auto", "always", "never"),
+        default="auto",
+        help="whether a table has colours: by default on a terminal, unless NO_COLOR is set",
+    )
+    it.add_argument("-q", "--quiet", action="store_true", help="write nothing but errors")
+
+
+def _jobs(word: str) -> int:
+    if not word.isdecimal() or not 1 <= int(word[:4]) <= 256:
+        raise argparse.ArgumentTypeError("expected a number from 1 to 256")
+    return int(word)

@@ -1,0 +1,51 @@
+"""The commands that the program `pktool` runs, which the released wheels contain."""
+
+from __future__ import annotations
+
+import argparse
+import os
+import signal
+import sys
+from pathlib import Path
+from typing import Sequence
+
+COMMANDS = {
+    "dis": "lists the instructions of a pickle",
+    "json": "writes a plain pickle as JSON",
+    "optimize": "writes a pickle anew in fewer bytes",
+}
+"""What each does. The program reads their arguments, and prints their help."""
+PROGRAM = Path(__file__).resolve().parent.parent / "pktool"
+_FAULT = 2
+
+
+def add_command(
+    name: str, commands: "argparse._SubParsersAction[argparse.ArgumentParser]"
+) -> None:
+    """Adds a command to those that the help, the manual page and completions show."""
+    it = commands.add_parser(name, help=COMMANDS[name])
+    it.add_argument("file", metavar="FILE", help="the pickle; /dev/stdin reads a pipe")
+    if name == "optimize":
+        it.add_argument("out", metavar="OUT", help="the file that becomes its optimized form")
+
+
+def become_program(words: Sequence[str]) -> int:
+    """Replaces this process by the program, with these arguments. If that fails, says why and
+    returns the status.
+    """
+    for it in (signal.SIGPIPE, signal.SIGXFSZ):
+        signal.signal(it, signal.SIG_DFL)  # Python ignores them
+    try:
+        os.execv(PROGRAM, ["storklocker", *words])
+    except OSError as error:
+        print(f"storklocker: cannot run {PROGRAM}: {_advice(error)}", file=sys.stderr)
+    return _FAULT
+
+
+def _advice(error: OSError) -> str:
+    """Why the program doesn't start, and what to do."""
+    if not PROGRAM.exists():
+        return "this package has none: install a released wheel, or run ./pktool of the repository"
+    if isinstance(error, PermissionError):
+        return "it isn't executable: have pip install the wheel, and where programs may run"
+    return error.strerror or str(error)

@@ -1,0 +1,82 @@
+/* What is told of a pickle, once its instructions were followed. */
+#include "uses.h"
+
+static void freed(PyObject *capsule) {
+    struct kept *kept = PyCapsule_GetPointer(capsule, NULL);
+    PyMem_Free(kept->memo);
+    PyMem_Free(kept->dicts);
+    PyMem_Free(kept);
+}
+
+PyObject *begin_uses(PyObject *Py_UNUSED(module), PyObject *Py_UNUSED(args)) {
+    struct kept *kept = PyMem_Calloc(1, sizeof *kept);
+    PyObject *made = kept != NULL ? PyCapsule_New(kept, NULL, freed) : PyErr_NoMemory();
+    if (made == NULL)
+        PyMem_Free(kept);
+    return made;
+}
+
+/* What a reader has to judge in the pickle. */
+static int judged_in(const struct uses *u, int is) {
+    return is != DONE || u->is_named ? NAMES : u->changes.is_more ? OBJECTS : NOTHING;
+}
+
+/* Follows a pickle, and returns what is told of it, as `told_of` does if names may be real. */
+static PyObject *told(struct uses *u, PyObject *data, size_t start, int *what) {
+    PyObject *pieces = NULL;
+    u->bytes = (const uint8_t *)PyBytes_AsString(data);
+    u->length = (size_t)PyBytes_Size(data);
+    u->start = start > u->length ? u->length : start;
+    u->next = u->changes.last = u->start;
+    int is = followed_all(u);
+    *what = judged_in(u, is);
+    if (is != FAILED && *what == NOTHING && u->are_real)
+        return Py_BuildValue("");
+    if (*what == OBJECTS && u->are_real) { /* the reader has the real objects */
+        Py_CLEAR(u->real);
+        for (size_t k = 0; k < u->changes.count; k++)
+            u->changes.calls[k] &= (uint8_t)~IS_NEW;
+    }
+    if (is != FAILED && (u->real == NULL || PyList_Sort(u->real) == 0))
+        pieces = u->fault == ABSENT ? respelled(data, u->start, u->next, &u->changes, u->real)
+                                    : PyList_New(0);
+    if (pieces == NULL || (*what == OBJECTS && u->are_real))
+        return pieces;
+    return Py_BuildValue(
+        "NOini", pieces, is == DONE ? Py_True : Py_False, (int)name_of(u->fault),
+        u->fault != ABSENT ? (Py_ssize_t)place_of(u->fault) : -1, *what);
+}
+
+static void free_uses(struct uses *u) {
+    PyMem_Free(u->stack);
+    PyMem_Free(u->changes.bytes);
+    PyMem_Free(u->changes.calls);
+    Py_XDECREF(u->real);
+}
+
+PyObject *uses(PyObject *Py_UNUSED(module), PyObject *args) {
+    PyObject *capsule, *data;
+    Py_ssize_t start;
+    int what;
+    struct uses u = {.fault = ABSENT};
+    if (!PyArg_ParseTuple(args, "OSnOp", &capsule, &data, &start, &u.number_of, &u.takes_any)
+        || (u.kept = PyCapsule_GetPointer(capsule, NULL)) == NULL)
+        return NULL;
+    PyObject *made = told(&u, data, start < 0 ? (size_t)PyBytes_Size(data) : (size_t)start, &what);
+    u.kept->calls += u.changes.count;
+    free_uses(&u);
+    return made;
+}
+
+PyObject *told_of(PyObject *data, PyObject *number_of, PyObject *numbers, int *what) {
+    struct kept kept; /* (roles are written before they are read) */
+    kept.memo = kept.dicts = NULL;
+    kept.numbers = kept.entries = kept.calls = kept.count = kept.room = 0;
+    struct uses u = {.kept = &kept, .fault = ABSENT, .number_of = number_of, .numbers = numbers,
+                     .are_real = 1};
+    PyObject *made = told(&u, data, 0, what);
+    free_uses(&u);
+    PyMem_Free(kept.memo);
+    PyMem_Free(kept.dicts);
+    return made;
+}

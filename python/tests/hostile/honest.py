@@ -1,0 +1,104 @@
+"""What honest programs pickle, by ready-made list, and what loads it."""
+
+import io
+import pickle
+import sys
+import zipfile
+from pathlib import Path
+
+PYTHON = Path(__file__).resolve().parents[2]
+sys.path[:0] = [str(PYTHON / "lists"), str(PYTHON / "service_tests")]
+
+import of_python  # noqa: E402
+import values  # noqa: E402
+
+_LARGEST = 20_000
+"""The most bytes of a pickle to begin with: a larger one has the same parts more often."""
+
+
+def _django():
+    import of_django
+
+    return of_django.objects()
+
+
+def _celery():
+    import of_celery
+
+    return of_celery.objects()
+
+
+def _states():
+    import torch
+
+    layers = [torch.nn.Linear(3, 2), torch.nn.BatchNorm1d(2), torch.nn.Embedding(4, 2)]
+    kinds = (torch.bfloat16, torch.bool, torch.int16, torch.complex64)
+    yield from (layer.state_dict() for layer in layers)
+    plain = torch.ones(3, 2)
+    yield {"plain": plain, "view": plain[1:], "fixed": torch.nn.Parameter(torch.ones(2))}
+    yield [torch.ones(2).to(kind) for kind in kinds]
+
+
+def _estimators():
+    """One of each kind of estimator, and what values have."""
+    import estimators
+    from sklearn.utils import all_estimators
+
+    for name, kind in all_estimators():
+        yield next(iter(estimators.fitted(name, kind)))
+
+
+_MORE = {"DJANGO": _django, "CELERY": _celery, "SCIKIT_LEARN": _estimators,
+         "TORCH_TENSORS": _states}
+
+
+def pickles(name, is_quick=True):
+    """Honest pickles under a list, each of them once; none without its library."""
+    found = {}
+    more = None if is_quick and name in values.LISTS else _MORE.get(name)
+    for make in (of_python.OBJECTS.get(name), values.LISTS.get(name), more):
+        try:
+            made = list(make()) if make is not None else []
+        except ImportError:
+            continue
+        for value in made:
+            for protocol in (2, 4):
+                data = _dumped(name, value, protocol)
+                if data is not None and len(data) < _LARGEST:
+                    found[data] = None
+    return list(found)
+
+
+def _dumped(name, value, protocol):
+    if name != "TORCH_TENSORS":
+        return pickle.dumps(value, protocol)
+    import torch
+
+    file = io.BytesIO()
+    torch.save(value, file, pickle_protocol=protocol)
+    with zipfile.ZipFile(file) as archive:
+        return archive.read(f"{archive.namelist()[0].partition('/')[0]}/data.pkl")
+
+
+BUFFERS = (bytearray(b"A" * 8), b"A" * 16, memoryview(bytearray(24)), bytearray(0))
+"""The buffers beside each pickle."""
+
+
+def loader(name, guard):
+    """What loads a pickle as those who use a list do."""
+    if name != "TORCH_TENSORS":
+        return lambda data: guard.loads(data, buffers=iter(BUFFERS * 8))
+    from storklocker.contrib.torch import load_torch
+
+    return lambda data: load_torch(_zipped(data), guard)
+
+
+def _zipped(data):
+    """A checkpoint with this pickle, and a few storages."""
+    file = io.BytesIO()
+    with zipfile.ZipFile(file, "w") as archive:
+        archive.writestr("archive/data.pkl", data)
+        archive.writestr("archive/version", b"3\n")
+        for key in range(8):
+            archive.writestr(f"archive/data/{key}", b"A" * 64)
+    return file.getvalue()
