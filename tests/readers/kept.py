@@ -76,13 +76,21 @@ def findings_of(folder, question):
 
 def is_counted(keeper, value, pair):
     """Whether a name counts under a list. One that nobody has judged isn't seen in what is looked
-    through, unless its pickle has PROTO in front; nor in a text.
+    through, unless its pickle has PROTO in front; nor in a text, of any alphabet.
     """
     if pair in DANGEROUS:
         return True
     if not may_run(*pair) or keeper.is_searched and value[:1] != b"\x80":
         return False
-    return not value.isascii()
+    return not is_words(value)
+
+
+def is_words(value):
+    """Whether a value is a printable text."""
+    try:
+        return all(it.isprintable() or it.isspace() for it in value.decode())
+    except UnicodeDecodeError:
+        return False
 
 
 def miss_of(keeper, folder, value, asked):
