@@ -192,7 +192,9 @@ def try_edit(edit: Edit, words: Sequence[str], crate: pathlib.Path) -> Tuple[boo
 
 
 def try_in_turn(edits: Sequence[Edit]) -> List[Tuple[bool, str]]:
-    """Tries the edits of a crate, each over what the checks of those before it proved."""
+    """Tries the edits of a crate, each over what the checks of those before it proved. Returns
+    whether each is refused, and its name with what the prover says of it.
+    """
     name = edits[0].crate
     words = words_of(name)
     with tempfile.TemporaryDirectory(prefix="edits-") as room:
@@ -203,8 +205,8 @@ def try_in_turn(edits: Sequence[Edit]) -> List[Tuple[bool, str]]:
         tried = []
         for edit in edits:
             refused, said = try_edit(edit, words, crate)
-            print(f"{edit.name()}: {said[:300]}", flush=True)
-            tried.append((refused, edit.name()))
+            tried.append((refused, f"{edit.name()}: {said[:300]}"))
+            print(tried[-1][1], flush=True)
         return tried
 
 
@@ -238,9 +240,9 @@ class Trials:
         self.open(lanes())
         tried = [it for lane in self.running for it in lane.result()]
         self.pool.shutdown()
-        faults = [name for refused, name in tried if not refused]
-        for name in faults:
-            print(f"failed: {name}")
+        faults = [said for refused, said in tried if not refused]
+        for said in faults:
+            print(f"failed: {said}")
         return len(faults)
 
 

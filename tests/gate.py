@@ -312,7 +312,7 @@ class Gate(Copies):
         )
         self.assertEqual((status, self.counts(lines)[1]), (1, 2))
         for edit in (first, second):
-            self.assertIn(f"failed: {edit.relative_to(self.copy)}", lines)
+            self.assertIn(f"failed: {edit.relative_to(self.copy)}: NOT REFUSED", lines)
 
     def test_an_edit_that_cannot_be_applied(self) -> None:
         edit = next(iter(sorted(self.copy.glob("crates/*/edits/*.edit"))))
