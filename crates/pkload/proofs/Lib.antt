@@ -34,6 +34,7 @@ pub mod Below
 pub mod Estimated
 pub mod Declined
 -- the machine
+pub mod Errs
 pub mod Slots
 pub mod Losses
 pub mod Metered

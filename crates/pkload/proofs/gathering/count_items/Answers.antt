@@ -1,7 +1,7 @@
 -- A key whose sum doesn't fit is one of those whose sum doesn't.
 use Rattle.std.proofs.Common.{◌-◌, arith, subst}
-use Rattle.pkimport.proofs.Errs.{on_err}
 use Rattle.pkload.proofs.Counted.{items_great}
+use Rattle.pkload.proofs.Errs.{on_err}
 use Rattle.pkload.specs.Private.Lost.{IsTallyTooGreat}
 use Rattle.pkload.specs.Tally.{with_key}
 use Rattle.pkload.proofs.gathering.count_items.Goals as goal

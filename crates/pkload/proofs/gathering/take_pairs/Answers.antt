@@ -1,6 +1,6 @@
 -- The objects that were counted are those of the slice.
-use Rattle.pkimport.proofs.Errs.{on_err}
 use Rattle.pkload.proofs.Counted.{great_pairs}
+use Rattle.pkload.proofs.Errs.{on_err}
 use Rattle.pkload.proofs.gathering.take_pairs.Goals as goal
 
 pub returns-in_err-count_pairs-clause-err : goal.returns-in_err-count_pairs-clause-err

@@ -1,7 +1,7 @@
 -- The memory of the objects of a slice doesn't fit.
 use Rattle.std.proofs.Common.{subst}
-use Rattle.pkimport.proofs.Errs.{on_err}
 use Rattle.pkops.specs.declared.Op.TheVariants as op
+use Rattle.pkload.proofs.Errs.{on_err}
 use Rattle.pkload.proofs.Losses.{adds_sum}
 use Rattle.pkload.specs.Private.Billing.{op_billed}
 use Rattle.pkload.specs.Unkept.{IsLost}
