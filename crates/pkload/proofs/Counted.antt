@@ -4,9 +4,9 @@ use Rattle.std.proofs.Common.{drop, take, get_or, true, false, cond, Bool, not, 
 use Rattle.std.proofs.Common.{◌∙◌, map, sym, subst, inl, inr, Result, Ok, Err, zero}
 use Rattle.std.proofs.Math.Seq.{drop-cons}
 use Rattle.std.proofs.lemmas.List.{map-append, take-append-drop}
-use Rattle.std.specs.Prelude.{◌⊎◌, IfOk}
+use Rattle.std.specs.Prelude.{IfOk}
 use Rattle.pkstack.specs.Shape.{Breach, Entry, NoMark, Taken, is_even, slice}
-use Rattle.pkload.specs.Heft.{Heft, weights_of}
+use Rattle.pkload.specs.Heft.{Heft}
 use Rattle.pkload.specs.Keys.{every_other}
 use Rattle.pkload.specs.Private.Gathered.{with_lights}
 use Rattle.pkload.specs.Private.Lost.{IsTallyTooGreat, LacksKeys, LacksPairs}

@@ -1,5 +1,5 @@
 -- Why the bill can't be kept behind an instruction whose step allocates nothing.
-use Rattle.std.proofs.Common.{◌≡◌, ◌+◌, ◌≤◌, ◌^◌, ℕ, suc, Bool, true, false, cond, List, [], ◌∷◌}
+use Rattle.std.proofs.Common.{◌≡◌, ◌+◌, ◌≤◌, ◌^◌, ℕ, suc, Bool, false, cond, List, [], ◌∷◌}
 use Rattle.std.proofs.Common.{length, Option, None, Some, Result, Ok, Err, sym, ap, subst, arith}
 use Rattle.std.proofs.Common.{inl, inr}
 use Rattle.std.specs.Prelude.{◌⊎◌, ⊤, IsErr, OnErr}

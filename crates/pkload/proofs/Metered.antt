@@ -1,11 +1,10 @@
 -- What the audience knows behind one more report.
-use Rattle.std.proofs.Common.{◌≡◌, ℕ, List, [], ◌∷◌, Option, None, Some, Ok, refl, sym, ap, subst}
-use Rattle.std.proofs.Common.{IfOk}
+use Rattle.std.proofs.Common.{◌≡◌, ℕ, [], ◌∷◌, Option, None, Some, Ok, refl, sym, subst, IfOk}
 use Rattle.std.specs.Prelude.{⊤}
 use Rattle.std.specs.Option.{MatchOption}
 use Rattle.pkcheck.specs.Reports.{Told, report}
 use Rattle.pkload.specs.Private.Billing.{IfBilled}
-use Rattle.pkload.specs.Private.Meter.{Fits, IsOver, IsTooMuch, Meter, Meters}
+use Rattle.pkload.specs.Private.Meter.{Fits, IsTooMuch, Meter, Meters}
 use Rattle.pkload.specs.Private.Told.{CantBeMetered, metered_told, ready}
 use Rattle.pkload.specs.Tolls.{Exceeds}
 use Rattle.pkload.specs.declared.halt.Billing.{Billing}

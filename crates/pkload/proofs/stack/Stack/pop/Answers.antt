@@ -1,5 +1,5 @@
 -- Above the topmost mark the last code is that of an object.
-use Rattle.std.proofs.Common.{◌≡◌, ◌∷◌, ◌-◌, ◌∙◌, ap, arith, sym, take}
+use Rattle.std.proofs.Common.{◌∷◌, ◌-◌, ◌∙◌, ap, arith, sym, take}
 use Rattle.pkload.proofs.Slots.{object_popped}
 use Rattle.pkload.specs.Private.Shown.{entries_of}
 use Rattle.pkload.proofs.stack.Stack.pop.Goals as goal
