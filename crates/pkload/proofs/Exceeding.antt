@@ -11,7 +11,7 @@ use Rattle.pkops.specs.declared.Op.{Op}
 use Rattle.pkops.specs.declared.Op.TheVariants as op
 use Rattle.pkread.specs.Sequence.{NoStop, spellings}
 use Rattle.pkcheck.specs.Reports.{AreReportsBehind, Report, Skipped, Whole, told_of}
-use Rattle.pkmachine.specs.Memory.{WantsNoMemory}
+use Rattle.pkmachine.specs.Effects.{effect_of}
 use Rattle.pkmachine.specs.RowRuns.{Beginning}
 use Rattle.pkstack.specs.Shape.{and_then}
 use Rattle.pkmachine.specs.declared.memo.Memo.{Memo}
@@ -22,7 +22,7 @@ use Rattle.pkload.specs.Bill.{Bill, all_billed, billed}
 use Rattle.pkload.specs.Private.Meter.{AllFit, Fits, IsOver}
 use Rattle.pkload.specs.Private.Told.{CantBeMetered, CantBeTold, Metering, all_metered, metered}
 use Rattle.pkload.specs.Private.Told.{next_if, ready}
-use Rattle.pkload.specs.Unkept.{CantBeKept}
+use Rattle.pkload.specs.Unkept.{CantBeKept, LeavesNoMore}
 use Rattle.pkload.specs.Tolls.{Exceeds, KeepsWithin}
 use Rattle.pkload.specs.declared.tolls.Excess.{Excess}
 use Rattle.pkload.specs.declared.tolls.Excess.TheVariants.{OutOfMemory}
@@ -113,7 +113,7 @@ module _ (memo : Memo) (tolls : Tolls) (excess : Excess) (at : ℕ) (n : Meterin
       pub unkept : excess ≡ OutOfMemory → (2 ^ 64 ≤ m.pickle) ⊎ CantBeKept last earlier
 
     -- a payload that is skipped is that of an object, which is pushed
-    passed_object : (o : Op) → IsTrue (is_passed o) → WantsNoMemory o → ⊥
+    passed_object : (o : Op) → IsTrue (is_passed o) → LeavesNoMore (effect_of o) → ⊥
     passed_object op.BinBytes h w = w
     passed_object op.ShortBinBytes h w = w
     passed_object op.BinBytes8 h w = w

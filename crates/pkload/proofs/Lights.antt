@@ -4,11 +4,12 @@ use Rattle.std.proofs.Common.{get_or, true, false, Bool, not, ap, arith, refl, s
 use Rattle.std.proofs.Math.Seq.{drop-cons}
 use Rattle.std.proofs.lemmas.Bool.Decides.{nat_tests}
 use Rattle.std.specs.List.{list_all}
-use Rattle.pkstack.specs.Shape.{Entry, is_even}
+use Rattle.pkstack.specs.Shape.{Entry, Item, is_even}
 use Rattle.pkload.specs.Heft.{Heft, deepest_of, weights_of}
 use Rattle.pkload.specs.Keys.{every_other}
 use Rattle.pkload.specs.Private.Gathered.{is_light}
-use Rattle.pkload.specs.Private.Billing.{HasKeys, HasPairs, HasSlice}
+use Rattle.pkload.specs.Private.Billing.{AreFrozen, ArePairsReplaced, HasKeys, HasPairs}
+use Rattle.pkload.specs.Private.Billing.{HasReplaced, HasSlice, frozen_heft}
 use Rattle.pkload.specs.Private.Packed.{unpacked}
 use Rattle.pkload.specs.Private.Shown.{HasObjects}
 use Rattle.pkload.specs.Tally.{with_key, with_keys}
@@ -44,6 +45,38 @@ module _ (entries below : List (Entry Heft)) (codes : List ℕ) (tally counted :
     even = ap is_even same_objects ∙ even;
     counted_is = is ∙ ap (λ l. with_keys tally (every_other l)) (sym same_objects);
   }
+
+-- their weights are added to the work
+pub keys_grow : (tally counted : Tally) (codes : List ℕ)
+    → counted ≡ with_keys tally (map unpacked codes) → tally.work ≤ counted.work
+keys_grow tally counted codes is =
+    omega (arith, ap (λ t. t.work) is, work_of tally (map unpacked codes))
+
+module _ (entries new : List (Entry Heft)) (codes : List ℕ) (tally counted : Tally) (heft : Heft)
+    (count : ℕ) (objects : HasObjects entries codes) (h : HasReplaced entries new heft count) where
+  -- likewise where an object is put in their place
+  pub pairs_replaced : is_even (map unpacked codes) ≡ true
+      → counted ≡ with_keys tally (every_other (map unpacked codes))
+      → ArePairsReplaced entries new tally counted heft count
+  pairs_replaced even is = record {
+    below = h.below;
+    pairs = pairs_counted entries h.below codes tally counted count objects h.found even is;
+    new_is = h.new_is;
+  }
+
+  pub keys_frozen : counted ≡ with_keys tally (map unpacked codes)
+      → heft ≡ frozen_heft (counted.work - tally.work)
+      → AreFrozen entries new tally counted count
+  keys_frozen is frozen =
+      let keys = keys_counted entries h.below codes tally counted count objects h.found is in
+      let held : counted.work - tally.work ≡ weights_of keys.found.hefts =
+      omega (arith, keys.work_is) in
+      record {
+        below = h.below;
+        keys = keys;
+        new_is = h.new_is
+            ∙ ap (λ heft. Item heft ∷ h.below) (frozen ∙ ap frozen_heft held);
+      }
 
 -- light objects weigh as many as they are, and none is deep
 pub light_weights : (codes : List ℕ) → list_all is_light codes ≡ true

@@ -1,13 +1,12 @@
--- Why the bill can't be kept behind an instruction whose step allocates nothing.
+-- Why the bill can't be kept behind an instruction that leaves no more entries.
 use Rattle.std.proofs.Common.{◌≡◌, ◌+◌, ◌≤◌, ◌^◌, ℕ, suc, Bool, false, cond, List, [], ◌∷◌}
-use Rattle.std.proofs.Common.{length, Option, None, Some, Result, Ok, Err, sym, ap, subst, arith}
-use Rattle.std.proofs.Common.{inl, inr}
+use Rattle.std.proofs.Common.{length, Option, None, Some, Result, Ok, Err, refl, sym, ap, arith}
+use Rattle.std.proofs.Common.{inl, inr, subst}
 use Rattle.std.specs.Prelude.{◌⊎◌, ⊤, IsErr, OnErr}
 use Rattle.pkops.specs.Spelling.{Argument, Instruction, Nothing, instruction}
 use Rattle.pkops.specs.declared.Op.{Op}
 use Rattle.pkops.specs.declared.Op.TheVariants as op
 use Rattle.pkmachine.specs.Effects.{AnySlice, Effect, EvenSlice, Operates, effect_of}
-use Rattle.pkmachine.specs.Memory.{WantsNoMemory}
 use Rattle.pkmachine.specs.declared.effect.Gives.{Gives}
 use Rattle.pkmachine.specs.declared.effect.Gives.TheVariants.{Answers}
 use Rattle.pkstack.specs.Faults.{MoveMayWantMemory}
@@ -19,8 +18,8 @@ use Rattle.pkload.specs.Bill.{Bill, billed_by, moved_by, operation_billed, stop_
 use Rattle.pkload.specs.Heft.{Heft}
 use Rattle.pkload.specs.Memory.{held_memory, operation_memory}
 use Rattle.pkload.specs.Private.Billing.{HasSlice, action_of, op_billed}
-use Rattle.pkload.specs.Private.Lost.{IsTooMuch}
-use Rattle.pkload.specs.Unkept.{CantBeKept, IsLost}
+use Rattle.pkload.specs.Private.Lost.{IsTooMuch, LacksSum}
+use Rattle.pkload.specs.Unkept.{CantBeKept, IsLost, LeavesNoMore}
 use Rattle.pkload.specs.declared.action.Action.{Action}
 use Rattle.pkload.specs.declared.action.Action.TheVariants as action
 use Rattle.pkload.specs.declared.halt.Halt.{Halt}
@@ -76,6 +75,25 @@ slice_sum rule gives o b below count h receiver rest is halt (e, inr great) =
         (λ n. 2 ^ 64 ≤ b.memory + operation_memory (instruction o Nothing) (suc n))
         (sym h.count_is) great))
 
+-- likewise of an operation on a slice alone
+sliced_sum : (rule : SliceRule) (gives : Gives) (o : Op) (b : Bill) (below : List (Entry Heft))
+    (count : ℕ) → HasSlice b.shape.entries below count → (halt : Halt)
+    → IsTooMuch count (b.memory + operation_memory (instruction o Nothing) count) halt
+    → LostAt gives o b (and_then (slice b.shape.entries []) (λ taken.
+    unless (breaks rule taken.operands) (Ok taken)))
+sliced_sum rule gives o b below count h halt (e, inl many) =
+    inl (omega (arith, many, slice_small b.shape.entries [] _ h.is, h.count_is))
+sliced_sum rule gives o b below count h halt (e, inr great) =
+    subst (λ x. LostAt gives o b (and_then x (λ taken.
+    unless (breaks rule taken.operands) (Ok taken)))) (sym h.is) (whole (breaks rule h.hefts))
+  where
+    whole : (fault : Option Breach) → LostAt gives o b
+        (unless fault (Ok (record { operands = h.hefts; below = below })))
+    whole (Some breach) = inr tt
+    whole None = inr (inl (subst
+        (λ n. 2 ^ 64 ≤ b.memory + operation_memory (instruction o Nothing) n)
+        (sym h.count_is) great))
+
 -- the memory of an operation without an argument
 sums : (m n : ℕ) → m + (16 + n) ≡ m + (16 + (0 + (n + 0)))
 sums m n = omega arith
@@ -104,31 +122,131 @@ module _ (b : Bill) (below : List (Entry Heft)) (count all : ℕ) (same : all �
   adds_sum k = slice_sum AnySlice (gives_of op.AddItems) op.AddItems b below count h receiver
       rest is halt (much_for op.AddItems k)
 
+module _ (b : Bill) (below : List (Entry Heft)) (count : ℕ)
+    (h : HasSlice b.shape.entries below count) (halt : Halt) where
+  abbrev pub IsMuchAlone : Op → Type 0
+  IsMuchAlone o = IsTooMuch count (b.memory + (16 + held_memory o count)) halt
+
+  much_alone : (o : Op) → IsMuchAlone o
+      → IsTooMuch count (b.memory + (16 + (0 + (held_memory o count + 0)))) halt
+  much_alone o k = subst (λ n. IsTooMuch count n halt) (sums b.memory (held_memory o count)) k
+
+  pub tuple_sum : IsMuchAlone op.Tuple → IsLost (op_billed op.Tuple b) b
+  tuple_sum k = sliced_sum AnySlice (gives_of op.Tuple) op.Tuple b below count h halt
+      (much_alone op.Tuple k)
+
+  pub frozenset_sum : IsMuchAlone op.FrozenSet → IsLost (op_billed op.FrozenSet b) b
+  frozenset_sum k = sliced_sum AnySlice (gives_of op.FrozenSet) op.FrozenSet b below count h halt
+      (much_alone op.FrozenSet k)
+
+  pub list_sum : IsMuchAlone op.List → IsLost (op_billed op.List b) b
+  list_sum k = sliced_sum AnySlice (gives_of op.List) op.List b below count h halt
+      (much_alone op.List k)
+
+  pub dict_sum : IsMuchAlone op.Dict → IsLost (op_billed op.Dict b) b
+  dict_sum k = sliced_sum EvenSlice (gives_of op.Dict) op.Dict b below count h halt
+      (much_alone op.Dict k)
+
+-- ---- so many objects
+
+pub nothing_found : (found : Result (Taken Heft) Breach) (sum : ℕ) → IsErr found
+    → LacksSum found sum
+nothing_found (Ok taken) sum h = cc h
+nothing_found (Err breach) sum h = tt
+
+-- the operation of this opcode answers so many objects, and its answer takes this much memory
+abbrev pub AnswersWith : Op → ℕ → ℕ → Type 0
+AnswersWith op.StackGlobal count more = (count ≡ 2) × (more ≡ 16)
+AnswersWith op.Reduce count more = (count ≡ 2) × (more ≡ 16)
+AnswersWith op.NewObj count more = (count ≡ 2) × (more ≡ 16)
+AnswersWith op.NewObjEx count more = (count ≡ 3) × (more ≡ 16)
+AnswersWith op.BinPersid count more = (count ≡ 1) × (more ≡ 16)
+AnswersWith op.ReadonlyBuffer count more = (count ≡ 1) × (more ≡ 496)
+AnswersWith _ count more = ⊥
+
+-- the memory of what was found doesn't fit
+found_sum : (gives : Gives) (o : Op) (b : Bill) (more : ℕ)
+    → ((count : ℕ) → operation_memory (instruction o Nothing) count ≡ more)
+    → (found : Result (Taken Heft) Breach) → LacksSum found (b.memory + more)
+    → LostAt gives o b found
+found_sum gives o b more is (Ok taken) h =
+    inr (inl (subst (λ n. 2 ^ 64 ≤ b.memory + n) (sym (is (length taken.operands))) h))
+found_sum gives o b more is (Err breach) h = inr tt
+
+answer_sum : (o : Op) (b : Bill) (count more : ℕ) → AnswersWith o count more
+    → LacksSum (items count b.shape.entries []) (b.memory + more) → IsLost (op_billed o b) b
+answer_sum o b count more with_these h = by_op o with_these
+  where
+    at : (n m : ℕ) → (count ≡ n) × (more ≡ m)
+        → LacksSum (items n b.shape.entries []) (b.memory + m)
+    at n m (c, k) = subst (λ j. LacksSum (items n b.shape.entries []) (b.memory + j)) k
+        (subst (λ j. LacksSum (items j b.shape.entries []) (b.memory + more)) c h)
+
+    by_op : (o : Op) → AnswersWith o count more → IsLost (op_billed o b) b
+    by_op op.StackGlobal w =
+        found_sum (gives_of op.StackGlobal) op.StackGlobal b 16 (λ n. refl) _ (at 2 16 w)
+    by_op op.Reduce w = found_sum (gives_of op.Reduce) op.Reduce b 16 (λ n. refl) _ (at 2 16 w)
+    by_op op.NewObj w = found_sum (gives_of op.NewObj) op.NewObj b 16 (λ n. refl) _ (at 2 16 w)
+    by_op op.NewObjEx w =
+        found_sum (gives_of op.NewObjEx) op.NewObjEx b 16 (λ n. refl) _ (at 3 16 w)
+    by_op op.BinPersid w =
+        found_sum (gives_of op.BinPersid) op.BinPersid b 16 (λ n. refl) _ (at 1 16 w)
+    by_op op.ReadonlyBuffer w =
+        found_sum (gives_of op.ReadonlyBuffer) op.ReadonlyBuffer b 496 (λ n. refl) _ (at 1 496 w)
+    by_op _ w = absurd w
+
+pub answer_lost : (o : Op) (b : Bill) (count more : ℕ) (x : Result Bool Halt)
+    → OnErr x (LacksSum (items count b.shape.entries []) (b.memory + more))
+    → AnswersWith o count more → OnErr x (IsLost (op_billed o b) b)
+answer_lost o b count more (Ok noted) h w = tt
+answer_lost o b count more (Err halt) h w = answer_sum o b count more w h
+
 -- ---- an instruction by its action
 
 -- what the machine knows if an action fails
-abbrev pub LostBy : Action → Bill → Type 0
-LostBy action.Appends b = IsLost (op_billed op.Append b) b
-LostBy action.AppendsSlice b = IsLost (op_billed op.Appends b) b
-LostBy action.AddsSlice b = IsLost (op_billed op.AddItems b) b
-LostBy action.Sets b = IsLost (op_billed op.SetItem b) b
-LostBy action.SetsSlice b = IsLost (op_billed op.SetItems b) b
-LostBy action.Builds b = IsLost (op_billed op.Build b) b
-LostBy action.Pops b = MoveMayWantMemory Pops ⊎ IsLost (moved_by Pops 0 b) b
-LostBy action.PopsMark b = MoveMayWantMemory PopsMark ⊎ IsLost (moved_by PopsMark 0 b) b
-LostBy action.Passes b = MoveMayWantMemory NoOp ⊎ IsLost (moved_by NoOp 0 b) b
-LostBy action.Stops b = IsLost (stop_billed b (top b.shape.entries)) b
-LostBy _ b = ⊤
+abbrev pub LostBy : Op → Action → Bill → Type 0
+LostBy o action.TiesOne b = IsLost (op_billed op.Tuple1 b) b
+LostBy o action.TiesTwo b = IsLost (op_billed op.Tuple2 b) b
+LostBy o action.TiesThree b = IsLost (op_billed op.Tuple3 b) b
+LostBy o action.TiesSlice b = IsLost (op_billed op.Tuple b) b
+LostBy o action.FreezesSlice b = IsLost (op_billed op.FrozenSet b) b
+LostBy o action.Operates b = IsLost (op_billed o b) b
+LostBy o action.Appends b = IsLost (op_billed op.Append b) b
+LostBy o action.AppendsSlice b = IsLost (op_billed op.Appends b) b
+LostBy o action.AddsSlice b = IsLost (op_billed op.AddItems b) b
+LostBy o action.Sets b = IsLost (op_billed op.SetItem b) b
+LostBy o action.SetsSlice b = IsLost (op_billed op.SetItems b) b
+LostBy o action.Builds b = IsLost (op_billed op.Build b) b
+LostBy o action.Pops b = MoveMayWantMemory Pops ⊎ IsLost (moved_by Pops 0 b) b
+LostBy o action.PopsMark b = MoveMayWantMemory PopsMark ⊎ IsLost (moved_by PopsMark 0 b) b
+LostBy o action.Passes b = MoveMayWantMemory NoOp ⊎ IsLost (moved_by NoOp 0 b) b
+LostBy o action.Stops b = IsLost (stop_billed b (top b.shape.entries)) b
+LostBy o _ b = ⊤
 
--- the bill behind an instruction of a pickle that goes on is lost, unless its step may allocate
+-- the bill behind an instruction of a pickle that goes on is lost, unless it leaves more entries
 abbrev LostFor : Op → Argument → Bill → Type 0
-LostFor o a b = WantsNoMemory o → IsLost (billed_by (effect_of o) (instruction o a) b) b
+LostFor o a b = LeavesNoMore (effect_of o) → IsLost (billed_by (effect_of o) (instruction o a) b) b
 
 moves_none : {A : Type 0} → ⊥ ⊎ A → A
 moves_none (inl h) = absurd h
 moves_none (inr h) = h
 
-lost_for : (o : Op) (a : Argument) (b : Bill) → LostBy (action_of o) b → LostFor o a b
+lost_for : (o : Op) (a : Argument) (b : Bill) → LostBy o (action_of o) b → LostFor o a b
+lost_for op.Tuple1 a b h w = h
+lost_for op.Tuple2 a b h w = h
+lost_for op.Tuple3 a b h w = h
+lost_for op.Tuple a b h w = h
+lost_for op.FrozenSet a b h w = h
+lost_for op.List a b h w = h
+lost_for op.Dict a b h w = h
+lost_for op.StackGlobal a b h w = h
+lost_for op.Reduce a b h w = h
+lost_for op.NewObj a b h w = h
+lost_for op.NewObjEx a b h w = h
+lost_for op.BinPersid a b h w = h
+lost_for op.ReadonlyBuffer a b h w = h
+lost_for op.Inst a b h w = h
+lost_for op.Obj a b h w = h
 lost_for op.Append a b h w = h
 lost_for op.Appends a b h w = h
 lost_for op.AddItems a b h w = h
@@ -140,6 +258,18 @@ lost_for op.PopMark a b h w = moves_none h
 lost_for op.Proto a b h w = moves_none h
 lost_for op.Frame a b h w = moves_none h
 lost_for op.Stop a b h w = h
+lost_for op.Ext1 a b h w = inr tt
+lost_for op.Ext2 a b h w = inr tt
+lost_for op.Ext4 a b h w = inr tt
+lost_for op.Dup a b h w = absurd (w tt)
+lost_for op.Mark a b h w = absurd (w tt)
+lost_for op.Get a b h w = absurd (w tt)
+lost_for op.BinGet a b h w = absurd (w tt)
+lost_for op.LongBinGet a b h w = absurd (w tt)
+lost_for op.Put a b h w = absurd (w tt)
+lost_for op.BinPut a b h w = absurd (w tt)
+lost_for op.LongBinPut a b h w = absurd (w tt)
+lost_for op.Memoize a b h w = absurd (w tt)
 lost_for _ a b h w = absurd w
 
 going : (i : Instruction) (b : Bill) → b.ended ≡ false → LostFor i.op i.arg b → CantBeKept i b
@@ -148,13 +278,13 @@ going i b e h w = subst (λ q. IsLost (cond q (Err NoItem) (billed_by (effect_of
 
 -- an action that fails
 pub failed_by : (i : Instruction) (b : Bill) (a : Action) (x : Result Bool Halt) → b.ended ≡ false
-    → action_of i.op ≡ a → OnErr x (LostBy a b) → IsErr x → CantBeKept i b
+    → action_of i.op ≡ a → OnErr x (LostBy i.op a b) → IsErr x → CantBeKept i b
 failed_by i b a (Err halt) e is h w = going i b e
-    (lost_for i.op i.arg b (subst (λ c. LostBy c b) (sym is) h))
+    (lost_for i.op i.arg b (subst (λ c. LostBy i.op c b) (sym is) h))
 failed_by i b a (Ok noted) e is h w = cc w
 
 -- an action whose step may allocate
 pub failed_room : (i : Instruction) (b : Bill) (a : Action) → b.ended ≡ false → action_of i.op ≡ a
-    → LostBy a b → CantBeKept i b
+    → LostBy i.op a b → CantBeKept i b
 failed_room i b a e is h =
-    going i b e (lost_for i.op i.arg b (subst (λ c. LostBy c b) (sym is) h))
+    going i b e (lost_for i.op i.arg b (subst (λ c. LostBy i.op c b) (sym is) h))

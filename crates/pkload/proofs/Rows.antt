@@ -5,7 +5,7 @@ use Rattle.pkops.specs.declared.Op.{Op}
 use Rattle.pkops.specs.declared.Op.TheVariants as op
 use Rattle.pkops.specs.Spelling.{Counted, Instruction, Line, Nothing, Number, Pair, instruction}
 use Rattle.pkmachine.specs.Runs.{Foreign, Go, Raise, Stopped, WentOn, Raised, Stuck, start}
-use Rattle.pkstack.specs.Shape.{Breach}
+use Rattle.pkstack.specs.Shape.{Breach, Mark}
 use Rattle.pkmachine.specs.WholeRuns.{Ended, EndedBy, Reached, run}
 use Rattle.pkload.specs.Bill.{Bill, all_billed, billed, no_bill}
 use Rattle.pkload.specs.declared.tally.Tally.{Tally}
@@ -274,7 +274,7 @@ an_import_of_an_earlier_object = refl
 
 -- the bill is kept behind a PROTO, unless its sums are great, and needs memory for a mark
 a_proto_is_kept : CantBeKept (bare op.Proto) no_bill → ⊥
-a_proto_is_kept h = none (h tt)
+a_proto_is_kept h = none (h (λ wants. wants))
   where
     none : IsLost (billed (bare op.Proto) no_bill) no_bill → ⊥
     none (inl many) = omega (arith, many)
@@ -287,4 +287,20 @@ a_great_sum_is_not :
 a_great_sum_is_not w = inr (inl (omega arith))
 
 a_mark_may_not_be : CantBeKept (bare op.Mark) no_bill
-a_mark_may_not_be w = absurd w
+a_mark_may_not_be w = absurd (w tt)
+
+-- the list of a LIST takes the place of its mark
+abbrev marked : Bill
+marked = record no_bill { shape = record { entries = Mark ∷ []; memo = [] } }
+
+a_list_is_kept : CantBeKept (bare op.List) marked → ⊥
+a_list_is_kept h = none (h tt)
+  where
+    none : IsLost (billed (bare op.List) marked) marked → ⊥
+    none (inl many) = omega (arith, many)
+    none (inr (inl great)) = omega (arith, great)
+    none (inr (inr (inl great))) = omega (arith, great)
+    none (inr (inr (inr great))) = omega (arith, great)
+
+an_empty_list_may_not_be : CantBeKept (bare op.EmptyList) no_bill
+an_empty_list_may_not_be w = absurd w

@@ -6,10 +6,11 @@ use Rattle.std.proofs.Math.Seq.{take-length, take-suc}
 use Rattle.std.proofs.lemmas.List.{get_or-set_same, length-drop, length-map, length-reverse}
 use Rattle.std.proofs.lemmas.List.{length-set, length-take-le, reverse-append, take-set, take-take}
 use Rattle.std.proofs.lemmas.List.{take-append-drop}
+use Rattle.std.specs.Prelude.{IsErr}
 use Rattle.pkstack.specs.Shape.{Breach, Entry, Item, Mark, NoItem, NoMark, Taken, items, slice}
 use Rattle.pkstack.specs.Shape.{top}
 use Rattle.pkload.specs.Heft.{Heft}
-use Rattle.pkload.specs.Private.Billing.{HasItems, HasReplaced, HasSlice}
+use Rattle.pkload.specs.Private.Billing.{AreReplaced, HasReplaced, HasSlice}
 use Rattle.pkload.specs.Private.Packed.{unpacked}
 use Rattle.pkload.specs.Private.Shown.{HasObjects, entries_of, shown}
 
@@ -128,12 +129,35 @@ items_above (suc count) fence codes above enough =
           ∙ ap (λ l. Ok (record { operands = rest.0; below = entries_of fence l })) less,
     )
 
-pub objects_dropped : (count fence : ℕ) (codes : List ℕ) → count + fence ≤ length codes
-    → HasItems count (entries_of fence codes)
-    (entries_of fence (take (length codes - count) codes))
-objects_dropped count fence codes enough =
+pub items_replaced : (count fence : ℕ) (codes : List ℕ) (code : ℕ) (heft : Heft)
+    → count + fence ≤ length codes → unpacked code ≡ heft
+    → AreReplaced count (entries_of fence codes)
+    (entries_of fence (take (length codes - count) codes ++ code ∷ [])) heft
+items_replaced count fence codes code heft enough shown_is =
     let found = items_above count fence codes [] enough in
-    record { hefts = found.0; is = found.1 }
+    let place = length codes - count in
+    record {
+      hefts = found.0;
+      below = entries_of fence (take place codes);
+      is = found.1;
+      new_is = pushed_object fence (take place codes) code
+          (omega (arith, enough, length-take-le place codes (omega arith)))
+          ∙ ap (λ h. Item h ∷ entries_of fence (take place codes)) shown_is;
+    }
+
+-- fewer objects lie above the topmost mark
+few_above : (count above : ℕ) (codes : List ℕ) (hefts : List Heft) → above < count
+    → IsErr (items count (shown above codes) hefts)
+few_above zero above codes hefts few = absurd (omega (arith, few))
+few_above (suc count) above [] hefts few = refl
+few_above (suc count) zero (code ∷ codes) hefts few = refl
+few_above (suc count) (suc above) (code ∷ codes) hefts few =
+    few_above count above codes (unpacked code ∷ hefts) (omega (arith, few))
+
+pub items_missing : (count fence : ℕ) (codes : List ℕ) → length codes - fence < count
+    → IsErr (items count (entries_of fence codes) [])
+items_missing count fence codes few =
+    few_above count (length codes - fence) (reverse codes) [] few
 
 -- ---- the slice
 

@@ -1,10 +1,26 @@
 -- When a bill can't be kept behind an instruction that the check accepts.
-use Rattle.std.specs.Prelude.{◌≤◌, ◌^◌, ◌⊎◌, IfOk, List, Result, length}
+use Rattle.std.specs.Prelude.{◌≤◌, ◌^◌, ◌⊎◌, ⊤, zero, IfOk, List, Result, length}
 use Rattle.pkops.specs.Spelling.{Instruction}
-use Rattle.pkmachine.specs.Memory.{WantsNoMemory}
+use Rattle.pkmachine.specs.Effects.{Effect, Operates, Moves, Stops, Raises, effect_of}
 use Rattle.pkmachine.specs.RowRuns.{Pickle}
+use Rattle.pkstack.specs.Faults.{MoveMayWantMemory}
 use Rattle.pkstack.specs.Shape.{Breach}
+use Rattle.pkstack.specs.declared.Takes.{Takes}
+use Rattle.pkstack.specs.declared.Takes.TheVariants.{Objects}
 use Rattle.pkload.specs.Bill.{Bill, billed}
+
+-- an operation that takes this takes an entry at least. It leaves one
+abbrev pub TakesSome : Takes → Type 0
+TakesSome (Objects zero) = ⊥
+TakesSome takes = ⊤
+
+-- with this effect there are no more entries behind an instruction than before it, on the stack and
+-- in the memo
+abbrev pub LeavesNoMore : Effect → Type 0
+LeavesNoMore (Operates takes names gives) = TakesSome takes
+LeavesNoMore (Moves move) = MoveMayWantMemory move → ⊥
+LeavesNoMore Stops = ⊤
+LeavesNoMore Raises = ⊤
 
 -- a sum of this bill doesn't fit 64 bits
 abbrev pub HasGreatSum : Bill → Type 0
@@ -15,10 +31,10 @@ HasGreatSum bill = (2 ^ 64 ≤ bill.memory)
 abbrev pub IsLost : Result Bill Breach → Bill → Type 0
 IsLost behind bill = (2 ^ 50 ≤ length bill.shape.entries) ⊎ IfOk behind HasGreatSum
 
--- the bill can't be kept behind this instruction: its step may allocate, or something is too great
+-- the bill can't be kept behind this instruction: it leaves more entries, or something is too great
 abbrev pub CantBeKept : Instruction → Bill → Type 0
 CantBeKept instruction bill =
-    WantsNoMemory instruction.op → IsLost (billed instruction bill) bill
+    LeavesNoMore (effect_of instruction.op) → IsLost (billed instruction bill) bill
 
 -- likewise behind these pickles, whose number must fit too
 abbrev pub IsUnkept : List Pickle → Instruction → Bill → Type 0

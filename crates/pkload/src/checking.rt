@@ -65,10 +65,10 @@ impl fmt::Display for Costly {
 /// objects gets past the instruction, and each run that gets there exceeds the limit, whatever is
 /// answered, if old strings are decoded to new objects.
 ///
-/// `OutOfMemory` says that the bill couldn't be kept behind the instruction: its step may allocate,
-/// or a sum of the bill doesn't fit 64 bits. As for a limit, the check accepts it, and all that
-/// precedes it keeps within the limits. For either, the bytes up to its end were taken, and at most
-/// the next instruction. A read can only fail there.
+/// `OutOfMemory` says that the bill couldn't be kept behind the instruction: it pushes an entry and
+/// takes none, it stores in the memo, or a sum of the bill doesn't fit 64 bits. As for a limit, the
+/// check accepts it, and all that precedes it keeps within the limits. For either, the bytes up to
+/// its end were taken, and at most the next instruction. A read can only fail there.
 pub fn check_loading<R: Source>(
     alloc: Global,
     source: &mut R,

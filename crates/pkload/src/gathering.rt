@@ -4,14 +4,14 @@ ghost use Rattle.std.specs.List.{list_all};
 ghost use Rattle.std.specs.Prelude.{◌≡◌, IfErr, IfOk, OnErr, OnOk, map, suc, true};
 ghost use Rattle.pkstack.specs.Shape.{is_even};
 ghost use Rattle.pkload.specs.Keys.{every_other};
-ghost use Rattle.pkload.specs.Private.Billing.{HasKeys, HasPairs};
+ghost use Rattle.pkload.specs.Private.Billing.{AreFrozen, ArePairsReplaced, HasKeys, HasPairs};
 ghost use Rattle.pkload.specs.Private.Gathered.{IsTied, is_light};
 ghost use Rattle.pkload.specs.Private.Lost.{IsTallyTooGreat, IsTooGreat, LacksKeys, LacksPairs};
 ghost use Rattle.pkload.specs.Private.Packed.{unpacked};
 ghost use Rattle.pkload.specs.Tally.{with_keys};
 
 use crate::halt::{Halt, plus};
-use crate::making::tied;
+use crate::making::{frozen, tied};
 use crate::packed::{LIGHT, LIGHT_SALTED, PackedHeft};
 use crate::stack::Stack;
 use crate::tally::Tally;
@@ -97,6 +97,30 @@ pub fn take_pairs(stack: &mut Stack, tally: &mut Tally) -> Result<u64, Halt>
     stack.drop_slice()
 }
 
+/// Counts the objects above the topmost mark as keys, and puts a frozenset in place of them and the
+/// mark. Returns their number. What the keys weigh more is what the frozenset holds.
+pub fn freeze_items(stack: &mut Stack, tally: &mut Tally) -> Result<u64, Halt>
+    ensures ok { IfOk result (AreFrozen stack.old stack.new tally.old tally.new) }
+    ensures err { OnErr result (LacksKeys stack.old tally.old) }
+{
+    let before = tally.work;
+    count_items(stack.objects(), tally)?;
+    let held = tally.work - before;
+    stack.replace_slice(frozen(held))
+}
+
+/// Counts the keys above the topmost mark, and puts an object in place of the keys, the values and
+/// the mark. Returns the number of keys and values.
+#[inline(always)]
+#[tactic(auto, using(crate::proofs::Lights::pairs_replaced))]
+pub fn replace_pairs(stack: &mut Stack, tally: &mut Tally, heft: PackedHeft) -> Result<u64, Halt>
+    ensures ok { IfOk result (ArePairsReplaced stack.old stack.new tally.old tally.new heft) }
+    ensures err { OnErr result (LacksPairs stack.old tally.old) }
+{
+    count_pairs(stack.objects(), tally)?;
+    stack.replace_slice(heft)
+}
+
 /// Whether each weighs one and isn't deep.
 fn are_light(codes: &[u32]) -> bool
     ensures { result ≡ list_all is_light codes.now }
@@ -108,35 +132,29 @@ fn are_light(codes: &[u32]) -> bool
 
 /// What a tuple of these objects costs. Most tuples are of small ints and short texts.
 #[tactic(auto, using(crate::proofs::Lights::light_weights, crate::proofs::Lights::light_depths))]
-pub fn tied_all(codes: &[u32]) -> Result<PackedHeft, Halt>
-    ensures { IfOk result (IsTied (map unpacked codes.now)) }
+pub fn tied_all(codes: &[u32]) -> PackedHeft
+    ensures { IsTied (map unpacked codes.now) result }
 {
     if are_light(codes) {
-        return Ok(tied(codes.len().min(1_048_575) as u32, 0));
+        return tied(codes.len().min(1_048_575) as u32, 0);
     }
     tied_slowly(codes)
 }
 
-/// So few objects that the sum of their weights fits 64 bits, and more than there is memory for.
-const MOST_ITEMS: u64 = 17_592_186_044_415;
-
 /// What a tuple of any objects costs.
-fn tied_slowly(codes: &[u32]) -> Result<PackedHeft, Halt>
-    ensures { IfOk result (IsTied (map unpacked codes.now)) }
+fn tied_slowly(codes: &[u32]) -> PackedHeft
+    ensures { IsTied (map unpacked codes.now) result }
 {
-    if codes.len() as u64 > MOST_ITEMS {
-        return Err(Halt::Lost);
-    }
-    let mut held: u64 = 0;
+    let mut held: u32 = 0;
     let mut deepest: u32 = 0;
     let mut place = codes.len();
     'items: while place > 0 {
         place -= 1;
         let heft = PackedHeft::from_code(codes[place]);
-        held += u64::from(heft.weight());
+        held = (held + heft.weight()).min(1_048_575);
         deepest = deepest.max(heft.depth());
     }
-    Ok(tied(held.min(1_048_575) as u32, deepest))
+    tied(held, deepest)
 }
 
 /// So many objects, and one more.

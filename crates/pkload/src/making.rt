@@ -1,7 +1,7 @@
 //! What new objects cost.
 
 ghost use Rattle.std.specs.Prelude.{◌≡◌, ◌+◌, ◌/◌, ◌≤◌, false, min};
-ghost use Rattle.pkload.specs.Private.Billing.{string_heft};
+ghost use Rattle.pkload.specs.Private.Billing.{frozen_heft, string_heft};
 
 use crate::packed::PackedHeft;
 
@@ -44,12 +44,7 @@ pub fn tied(held: u32, deepest: u32) -> PackedHeft
 
 /// What a frozenset costs whose items together weigh this much.
 pub fn frozen(held: u64) -> PackedHeft
-    ensures { result ≡ record {
-      weight = min 1_048_575 (1 + held);
-      depth = 0;
-      salted = false;
-      imported = false;
-    } }
+    ensures { result ≡ frozen_heft held }
 {
     let held = held.min(1_048_574) as u32;
     PackedHeft::new(1 + held, 0, false, false)

@@ -1,10 +1,10 @@
 //! The stack: marks, and what objects cost.
 
-ghost use Rattle.std.specs.Prelude.{◌≡◌, [], ◌∷◌, List, Err, IfNone, IfOk, IfSome, OnErr, OnOk};
-ghost use Rattle.std.specs.Prelude.{false, true};
+ghost use Rattle.std.specs.Prelude.{◌≡◌, ◌<◌, [], ◌∷◌, List, Err, IfNone, IfOk, IfSome, IsErr, OnErr};
+ghost use Rattle.std.specs.Prelude.{OnOk, false, true};
 ghost use Rattle.pkstack.specs.Shape.{Entry, Item, Mark, NoItem, NoMark, items, slice, top};
 ghost use Rattle.pkload.specs.Heft.{Heft};
-ghost use Rattle.pkload.specs.Private.Billing.{HasItems, HasReplaced, HasSlice};
+ghost use Rattle.pkload.specs.Private.Billing.{AreReplaced, HasReplaced, HasSlice};
 ghost use Rattle.pkload.specs.Private.Shown.{HasObjects};
 
 use crate::halt::Halt;
@@ -113,10 +113,11 @@ impl Stack {
     }
 
     /// Puts an object in place of the topmost entry, which must be an object.
-    #[tactic(auto, using(crate::proofs::Slots::replaced))]
+    #[tactic(auto, using(crate::proofs::Slots::replaced, crate::proofs::Slots::no_object))]
     pub fn replace(&mut self, heft: PackedHeft) -> Result<(), Halt>
-        ensures { OnOk result ((entry : Entry Heft) (below : List (Entry Heft))
+        ensures ok { OnOk result ((entry : Entry Heft) (below : List (Entry Heft))
             → self.old ≡ entry ∷ below → self.new ≡ Item heft ∷ below) }
+        ensures err { OnErr result (top self.old ≡ Err NoItem) }
     {
         let count = self.codes.len();
         if count <= self.fence as usize {
@@ -161,16 +162,19 @@ impl Stack {
         Ok(())
     }
 
-    /// Removes so many of the topmost entries, which must be objects.
-    #[tactic(auto, using(crate::proofs::Slots::objects_dropped))]
-    pub fn drop_objects(&mut self, count: usize) -> Result<(), Halt>
-        ensures { OnOk result (HasItems count self.old self.new) }
+    /// Puts an object in place of so many of the topmost entries, which must be objects. It wants no
+    /// memory.
+    #[tactic(auto, using(crate::proofs::Slots::items_replaced, crate::proofs::Slots::items_missing))]
+    pub fn replace_objects(&mut self, count: usize, heft: PackedHeft) -> Result<(), Halt>
+        requires { 0 < count }
+        ensures ok { OnOk result (AreReplaced count self.old self.new heft) }
+        ensures err { OnErr result (IsErr (items count self.old [])) }
     {
         let before = self.codes.len();
         if before - (self.fence as usize) < count {
             return Err(Halt::Lost);
         }
-        self.codes.truncate(before - count);
+        self.codes.replace(before - count, heft.code());
         Ok(())
     }
 
@@ -201,9 +205,10 @@ impl Stack {
 
     /// Puts an object in place of the objects above the topmost mark, and the mark. Returns their
     /// number.
-    #[tactic(auto, using(crate::proofs::Slots::slice_replaced))]
+    #[tactic(auto, using(crate::proofs::Slots::slice_replaced, crate::proofs::Slots::no_slice))]
     pub fn replace_slice(&mut self, heft: PackedHeft) -> Result<u64, Halt>
-        ensures { IfOk result (HasReplaced self.old self.new heft) }
+        ensures ok { IfOk result (HasReplaced self.old self.new heft) }
+        ensures err { OnErr result (slice self.old [] ≡ Err NoMark) }
     {
         let fence = self.fence as usize;
         if fence == 0 {

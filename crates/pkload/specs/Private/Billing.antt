@@ -114,10 +114,12 @@ IfBilled Plain p = p
 IfBilled Noted p = p
 IfBilled Failed p = ⊤
 
--- so many objects were found on top, with these entries below them
-pub record HasItems (count : ℕ) (entries below : List (Entry Heft)) : Type 0 where
+-- so many objects were found on top, and an object that costs this was put in their place
+pub record AreReplaced (count : ℕ) (entries new : List (Entry Heft)) (heft : Heft) : Type 0 where
   pub hefts : List Heft
+  pub below : List (Entry Heft)
   pub is : items count entries [] ≡ Ok (record { operands = hefts; below = below })
+  pub new_is : new ≡ Item heft ∷ below
 
 -- so many objects were found on top, and an object that costs this was put in their place
 pub record IsAnswered (found : Result (Taken Heft) Breach) (heft : Heft) (more : ℕ)
@@ -150,6 +152,13 @@ pub record HasPairs (entries below : List (Entry Heft)) (tally counted : Tally) 
   pub even : is_even found.hefts ≡ true
   pub counted_is : counted ≡ with_keys tally (every_other found.hefts)
 
+-- likewise, and an object that costs this was put in their place
+pub record ArePairsReplaced (entries new : List (Entry Heft)) (tally counted : Tally) (heft : Heft)
+    (count : ℕ) : Type 0 where
+  pub below : List (Entry Heft)
+  pub pairs : HasPairs entries below tally counted count
+  pub new_is : new ≡ Item heft ∷ below
+
 -- the slice was found, with these entries below it and so many objects in it, and all were counted
 -- as keys
 pub record HasKeys (entries below : List (Entry Heft)) (tally counted : Tally) (count : ℕ)
@@ -157,3 +166,20 @@ pub record HasKeys (entries below : List (Entry Heft)) (tally counted : Tally) (
   pub found : HasSlice entries below count
   pub counted_is : counted ≡ with_keys tally found.hefts
   pub work_is : counted.work ≡ tally.work + weights_of found.hefts
+
+-- a frozenset of items that together weigh this much
+abbrev pub frozen_heft : ℕ → Heft
+frozen_heft held = record {
+  weight = min most_weight (1 + held);
+  depth = 0;
+  salted = false;
+  imported = false;
+}
+
+-- the slice was found, with so many objects in it, all were counted as keys, and a frozenset of them
+-- was put in its place
+pub record AreFrozen (entries new : List (Entry Heft)) (tally counted : Tally) (count : ℕ) : Type 0
+  where
+    pub below : List (Entry Heft)
+    pub keys : HasKeys entries below tally counted count
+    pub new_is : new ≡ Item (frozen_heft (weights_of keys.found.hefts)) ∷ below

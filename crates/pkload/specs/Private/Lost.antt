@@ -1,6 +1,6 @@
 -- When the bill can't be kept, although nothing was allocated.
-use Rattle.std.specs.Prelude.{◌≡◌, ◌<◌, ◌≤◌, ◌^◌, ◌⊎◌, ℕ, List, [], IfOk, length, true}
-use Rattle.pkstack.specs.Shape.{Entry, is_even, slice}
+use Rattle.std.specs.Prelude.{◌≡◌, ◌<◌, ◌≤◌, ◌^◌, ◌⊎◌, ℕ, List, [], IfOk, Result, length, true}
+use Rattle.pkstack.specs.Shape.{Breach, Entry, Taken, is_even, slice}
 use Rattle.pkload.specs.Heft.{Heft}
 use Rattle.pkload.specs.Keys.{every_other}
 use Rattle.pkload.specs.Tally.{with_keys}
@@ -23,6 +23,10 @@ HasTooGreat tally halt = (halt ≡ Lost) × ((2 ^ 64 ≤ tally.work) ⊎ (2 ^ 64
 -- the next number of this memo doesn't fit 32 bits
 abbrev pub HasNoNumber : List (ℕ × Heft) → Halt → Type 0
 HasNoNumber memo halt = (halt ≡ OutOfMemory) × (2 ^ 32 ≤ length memo)
+
+-- if this was found, the sum doesn't fit 64 bits
+abbrev pub LacksSum : Result (Taken Heft) Breach → ℕ → Type 0
+LacksSum found sum = IfOk found (λ taken. 2 ^ 64 ≤ sum)
 
 -- a sum of this tally doesn't fit 64 bits
 abbrev pub IsTallyTooGreat : Tally → Type 0

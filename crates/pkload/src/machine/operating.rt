@@ -16,6 +16,7 @@ impl Machine {
     pub(super) fn tie_one(&mut self) -> Result<bool, Halt>
         ensures billed { OnOk result (op_billed Op.Tuple1 self.old ≡ Ok self.new) }
         ensures quiet { OnOk result (IsQuiet self.old self.new) }
+        ensures lost { OnErr result (IsLost (op_billed Op.Tuple1 self.old) self.old) }
     {
         let Some(item) = self.stack.top() else {
             return Err(Halt::Lost);
@@ -30,6 +31,7 @@ impl Machine {
     pub(super) fn tie_two(&mut self) -> Result<bool, Halt>
         ensures billed { OnOk result (op_billed Op.Tuple2 self.old ≡ Ok self.new) }
         ensures quiet { OnOk result (IsQuiet self.old self.new) }
+        ensures lost { OnErr result (IsLost (op_billed Op.Tuple2 self.old) self.old) }
     {
         let Some(second) = self.stack.pop_object() else {
             return Err(Halt::Lost);
@@ -49,6 +51,7 @@ impl Machine {
     pub(super) fn tie_three(&mut self) -> Result<bool, Halt>
         ensures billed { OnOk result (op_billed Op.Tuple3 self.old ≡ Ok self.new) }
         ensures quiet { OnOk result (IsQuiet self.old self.new) }
+        ensures lost { OnErr result (IsLost (op_billed Op.Tuple3 self.old) self.old) }
     {
         let Some(third) = self.stack.pop_object() else {
             return Err(Halt::Lost);

@@ -5,9 +5,10 @@ ghost use Rattle.pkload.specs.Private.Billing.{IsQuiet, op_billed};
 ghost use Rattle.pkload.specs.Unkept.{IsLost};
 
 use super::Machine;
-use crate::gathering::{take_items, take_pairs, tied_all, with_receiver};
+use crate::gathering::{
+    freeze_items, replace_pairs, take_items, take_pairs, tied_all, with_receiver,
+};
 use crate::halt::Halt;
-use crate::making::frozen;
 use crate::memory::after_operation;
 use crate::packed::PackedHeft;
 use pkops::Op;
@@ -58,16 +59,14 @@ impl Machine {
         Ok(true)
     }
 
-    /// FROZENSET. Returns true. All items are keys, so what the keys weigh more is their weight.
+    /// FROZENSET. Returns true.
     pub(super) fn freeze_slice(&mut self) -> Result<bool, Halt>
         ensures billed { OnOk result (op_billed Op.FrozenSet self.old ≡ Ok self.new) }
         ensures counted { IfOk result (λ counted. counted ≡ true) }
+        ensures lost { OnErr result (IsLost (op_billed Op.FrozenSet self.old) self.old) }
     {
-        let before = self.tally.work;
-        let count = take_items(&mut self.stack, &mut self.tally)?;
-        let held = self.tally.work - before;
+        let count = freeze_items(&mut self.stack, &mut self.tally)?;
         self.memory = after_operation(Op::FrozenSet, count, self.memory)?;
-        self.stack.push(frozen(held))?;
         Ok(true)
     }
 
@@ -76,10 +75,11 @@ impl Machine {
     pub(super) fn dict_slice(&mut self) -> Result<bool, Halt>
         ensures billed { OnOk result (op_billed Op.Dict self.old ≡ Ok self.new) }
         ensures counted { IfOk result (λ counted. counted ≡ true) }
+        ensures lost { OnErr result (IsLost (op_billed Op.Dict self.old) self.old) }
     {
-        let count = take_pairs(&mut self.stack, &mut self.tally)?;
+        let dict = PackedHeft::new(1, 0, false, false);
+        let count = replace_pairs(&mut self.stack, &mut self.tally, dict)?;
         self.memory = after_operation(Op::Dict, count, self.memory)?;
-        self.stack.push(PackedHeft::new(1, 0, false, false))?;
         Ok(true)
     }
 
@@ -88,10 +88,12 @@ impl Machine {
     pub(super) fn list_slice(&mut self) -> Result<bool, Halt>
         ensures billed { OnOk result (op_billed Op.List self.old ≡ Ok self.new) }
         ensures quiet { OnOk result (IsQuiet self.old self.new) }
+        ensures lost { OnErr result (IsLost (op_billed Op.List self.old) self.old) }
     {
-        let count = self.stack.drop_slice()?;
+        let count = self
+            .stack
+            .replace_slice(PackedHeft::new(1, 0, false, false))?;
         self.memory = after_operation(Op::List, count, self.memory)?;
-        self.stack.push(PackedHeft::new(1, 0, false, false))?;
         Ok(false)
     }
 
@@ -100,8 +102,9 @@ impl Machine {
     pub(super) fn tie_slice(&mut self) -> Result<bool, Halt>
         ensures billed { OnOk result (op_billed Op.Tuple self.old ≡ Ok self.new) }
         ensures quiet { OnOk result (IsQuiet self.old self.new) }
+        ensures lost { OnErr result (IsLost (op_billed Op.Tuple self.old) self.old) }
     {
-        let heft = tied_all(self.stack.objects())?;
+        let heft = tied_all(self.stack.objects());
         let count = self.stack.replace_slice(heft)?;
         self.memory = after_operation(Op::Tuple, count, self.memory)?;
         Ok(false)
