@@ -5,7 +5,7 @@
     marks.py        by what a file shows which of them have to be asked
     pickles.py, npys.py, tars.py, packed.py, zips.py, zip_layout.py, checkpoints.py, stores.py and
     shelves.py      the rule of each reader
-    sqlite_files.py, sqlite_pages.py, sqlite_values.py and value_packing.py
+    sqlite_files.py, sqlite_pages.py, sqlite_values.py, value_letters.py and value_packing.py
                     values of SQLite: as its pages have them, as SQL makes them, packed ones
     values.py       plain values of a store, which are told together
     kinds.py        what files are that hold no pickle, and code that isn't read

@@ -11,7 +11,7 @@ import re
 import struct
 import sys
 import zlib
-from typing import Any, Callable, NamedTuple, Optional, Tuple, Type
+from typing import Any, Callable, Iterator, NamedTuple, Optional, Tuple, Type
 
 from .budget import STEP
 from .readings import Answer, Found, Nothing, Place, Reading, examine
@@ -281,17 +281,26 @@ GZIP, ZLIB = 31, 15
 """What zlib calls its formats."""
 _ZF = re.compile(rb"ZF.{19} ?", re.DOTALL)
 
-gzip_reading = _reading(
-    _Format("gzip", lambda front: front[:3] == b"\x1f\x8b\x08", _zlib(GZIP))
-)
-bzip2_reading = _reading(
-    _Format("bzip2", lambda front: _BZIP2.match(front) is not None, lambda _: _Begun(bzip2))
-)
+_GZIP = _Format("gzip", lambda front: front[:3] == b"\x1f\x8b\x08", _zlib(GZIP))
+_BZIP = _Format("bzip2", lambda front: _BZIP2.match(front) is not None, lambda _: _Begun(bzip2))
+gzip_reading, bzip2_reading = _reading(_GZIP), _reading(_BZIP)
 _XZ = _Format("xz", _is_xz, _lzma, True, lambda front: _is_xz(front) or _is_lzma(front))
 xz_reading = _reading(_XZ)
-lzma_reading = _reading(_XZ._replace(name="lzma", is_at=_is_lzma, is_certain=False))
+_ALONE = _XZ._replace(name="lzma", is_at=_is_lzma, is_certain=False)
+lzma_reading = _reading(_ALONE)
 _ZLIB_FORMAT = _Format("zlib", _is_zlib, _zlib(ZLIB), False)
 zlib_reading = _reading(_ZLIB_FORMAT)
+_STREAMS = (_GZIP, _BZIP, _XZ, _ZLIB_FORMAT, _ALONE)
+
+
+def streams_at(front: bytes) -> Iterator[Tuple[str, Callable[[], Any], int]]:
+    """The formats of streams that begin with these bytes; for each what makes a decompressor, and
+    how many of the bytes that has taken.
+    """
+    for form in _STREAMS:
+        if form.is_at(front):
+            make, taken = form.begin(front)
+            yield form.name, make, taken
 
 
 def _behind_header(front: bytes) -> int:
@@ -316,7 +325,8 @@ _UNKNOWN = tuple(
 _BLOSC = struct.Struct("<BBHLLL")
 """Its version, that of what packs, flags, and the sizes: unpacked, of a block, and packed."""
 _NOT_HERE = "it is packed in a way that is not unpacked here"
-_ANY_UNKNOWN = re.compile(b"|".join(magic.pattern for _, magic in _UNKNOWN), re.DOTALL)
+UNREAD = re.compile(b"|".join(magic.pattern for _, magic in _UNKNOWN), re.DOTALL)
+"""How a file begins that is packed in such a way, but for Blosc's."""
 
 
 def is_blosc(source: Source) -> bool:
@@ -330,14 +340,19 @@ def is_blosc(source: Source) -> bool:
     return 1 <= version <= 5 and form == 1 and is_size and 0 < block <= unpacked
 
 
+def unread_packing(source: Source) -> str:
+    """What a file is packed by that the standard library doesn't unpack; an empty text if nothing.
+    """
+    front = source.front()
+    if is_blosc(source):
+        return "Blosc"
+    names = (name for name, magic in _UNKNOWN if magic.match(front))
+    return next(names, "") if UNREAD.match(front) else ""
+
+
 def unknown_reading(place: Place) -> Found:
     """What is packed in a way that the standard library doesn't unpack."""
-    front = place.source.front()
-    if is_blosc(place.source):
-        yield place.unread("Blosc", "unknown-container", _NOT_HERE)
-        return True
-    for name, magic in _UNKNOWN if _ANY_UNKNOWN.match(front) else ():
-        if magic.match(front):
-            yield place.unread(name, "unknown-container", _NOT_HERE)
-            return True
-    return False
+    name = unread_packing(place.source)
+    if name:
+        yield place.unread(name, "unknown-container", _NOT_HERE)
+    return bool(name)

@@ -9,8 +9,8 @@ from typing import Dict, List, NamedTuple, Optional, Set, Tuple
 
 from .budget import Budget
 from .rows import CLAIM
-from .sqlite_pages import IMPORTING, values_of
-from .value_packing import plainly_unpacked
+from .sqlite_pages import values_of
+from .value_packing import may_import, plainly_unpacked
 from .values import Values
 
 LEAST = 4
@@ -102,7 +102,7 @@ class PlainCells:
             begin, end = at + place, at + place + size
             if CLAIM.match(page, begin):
                 found.append((begin, end, page[begin:end]))
-            elif IMPORTING.search(page, begin, end):
+            elif may_import(page, begin, end):
                 value = plainly_unpacked(page[begin:end], self._budget)
                 if not CLAIM.match(value):
                     return None

@@ -6,18 +6,20 @@ from __future__ import annotations
 
 import io
 import re
-from typing import Generator, List, Optional, Set, Tuple, Union
+from typing import Generator, Iterator, List, NamedTuple, Optional, Set, Tuple, Union
 
 from .budget import STEP, Budget
+from .packed import unread_packing
 from .readings import Answer, Found, Nothing, Piece, Place, Together, Unread
 from .report import LONGEST
 from .source import Source, in_memory
 from .spelled import LENGTHS
 from .sqlite_cells import LEAST, PlainCells
-from .sqlite_pages import BASE64, DATABASE, IMPORTING, JOURNAL, LOGS, Pages, Record, Value
+from .sqlite_pages import DATABASE, JOURNAL, LOGS, Pages, Record, Value
 from .sqlite_values import made_values
 from .stores import is_value, searched
-from .value_packing import unpacked
+from .value_letters import may_hold
+from .value_packing import is_packed, may_import, unpacked
 from .values import Values
 
 KIND = "SQLite"
@@ -27,9 +29,20 @@ _LONGEST = 1 << 20
 _SMALL, _UNPACKING = 1 << 20, 6 * STEP
 """A larger file has more steps; and those of a value that is unpacked by itself."""
 _STOP, _WORDS = ord("."), re.compile(rb"[\t-\r -~]*")
-_PACKED = re.compile(rb"\x1f\x8b\x08|[\x08-\x78][\x01\x5e\x9c\xda]|%b" % BASE64)
 
 _Parts = List[Tuple[int, int]]
+
+
+class _Told(NamedTuple):
+    """What was told of the values so far."""
+
+    values: Values
+    seen: Set[int]
+    """The hashes of those that are pickles."""
+    unread: Set[str]
+    """By what others are packed that isn't read here."""
+
+
 _Reads = Generator[Union[Piece, Unread, Nothing, Together], Answer, _Parts]
 
 
@@ -43,12 +56,12 @@ def sqlite_reading(place: Place) -> Found:
     pages, known = Pages(place.source, place.budget.spend), []  # type: Pages, _Parts
     values = Values(place, KIND)
     cells = PlainCells(values, place.budget)
-    pages.left, seen = cells.left, cells.seen
+    pages.left, told = cells.left, _Told(values, cells.seen, set())
     for record in pages.records():
-        known += yield from _read(place, record, pages.encoding, values, seen)
+        known += yield from _read(place, record, pages.encoding, told)
     yield from values.told()
     if place.source.front().startswith(DATABASE):
-        yield from _made(place, pages.schema, seen)
+        yield from _made(place, pages.schema, told.seen)
     known = sorted(known + cells.known)
     yield from searched(place, KIND, known, {at for at, _ in known}, pages.end_of)
     return True
@@ -84,9 +97,7 @@ def _loaded(
     return 0
 
 
-def _read(
-    place: Place, record: Record, encoding: str, values: Values, seen: Set[int]
-) -> _Reads:
+def _read(place: Place, record: Record, encoding: str, told: _Told) -> _Reads:
     """The pickles in a record. Returns which parts of the file they have, from an offset to
     another.
     """
@@ -95,38 +106,48 @@ def _read(
     for value in record.values():
         wide = encoding if value.is_text else ""
         place.budget.spend(1)
-        if not (others or _may_import(record.front, value, wide)):
+        if not (wide or others or _may_import(record.front, value.at, value.at + value.size)):
             continue
-        data = record.front[value.at : value.at + value.size]
-        if not (wide or others) and values.taken(data) == value.size > 0:
+        source = _content(record, value, wide)
+        data = source.front()
+        if source.size < LEAST or wide and not _may_import(data, 0, len(data)):
+            continue
+        if not (wide or others) and told.values.taken(data) == value.size > 0:
             found.append((value.at, value.at + value.size))
-            seen.add(hash(data))
+            told.seen.add(hash(data))
             continue
         place.budget.spend()
-        source = _content(record, value, wide)
-        if source.size >= LEAST:
-            path = f"{place.path}!at {start + value.at}"
-            taken = yield from _loaded(path, source, place.budget, values)
-            if taken:
-                found.append((value.at, value.at + taken))
-                seen.add(hash(data))
+        yield from _unread(place, source, told.unread)
+        path = f"{place.path}!at {start + value.at}"
+        taken = yield from _loaded(path, source, place.budget, told.values)
+        if taken:
+            found.append((value.at, value.at + taken))
+            told.seen.add(hash(data))
     if others:
         yield from searched(place.inside(f"at {start}", record.source, KIND), KIND, found)
     parts = [(start + at, start + min(end, size)) for at, end in found if at < size]
     return parts + [(at, at + more) for at, more in others if found]
 
 
-def _may_import(data: bytes, value: Value, wide: str) -> bool:
+def _unread(place: Place, source: Source, told: Set[str]) -> Iterator[Unread]:
+    """What is to be said of a value that is packed in a way that isn't read here, once."""
+    name = unread_packing(source)
+    if name and name not in told:
+        told.add(name)
+        why = f"values may be packed by {name}, which isn't read here"
+        yield place.unread(KIND, "unread-pickles", why)
+
+
+def _may_import(data: bytes, at: int, end: int) -> bool:
     """Whether a value may be a pickle that imports something. One in printable ASCII that doesn't
     end with STOP isn't, but for what is harmful, which is looked for anyway, if it isn't in UTF-16.
     """
-    at, end = value.at, value.at + value.size
-    if value.size < LEAST or not IMPORTING.search(data, at, end):
+    if end - at < LEAST or not may_import(data, at, end):
         return False
-    if wide or _PACKED.match(data, at, end):
-        return True
     is_in_words = data[end - 1] != _STOP and _WORDS.fullmatch(data, at, end) is not None
-    return data[at] in LENGTHS and not is_in_words
+    if data[at] in LENGTHS and not is_in_words:
+        return True
+    return is_packed(data, at, end) or may_hold(data, at, end)
 
 
 def _content(record: Record, value: Value, wide: str) -> Source:

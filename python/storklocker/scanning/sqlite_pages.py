@@ -9,7 +9,6 @@ SQLite reads them anyway.
 from __future__ import annotations
 
 import bisect
-import re
 import struct
 from typing import Callable, Dict, Iterator, List, NamedTuple, Optional, Set, Tuple
 
@@ -39,12 +38,6 @@ _ROOT = 3
 """The column of the table of tables with the page at which a tree begins."""
 _SIZES = (0, 1, 2, 3, 4, 6, 8, 8, 0, 0, 0, 0)
 """The bytes of a number, by its type; texts and blobs have the types behind these."""
-BASE64 = rb"[A-Za-z0-9+/_-]{16}|[A-Za-z0-9+/_-]{10,15}="
-"""The letters of a pickle that imports something; a shorter one mostly has padding."""
-IMPORTING = re.compile(
-    rb"[\n\x80\x82-\x84\x93]|%b|\x1f\x8b\x08|[\x08-\x78][\x01\x5e\x9c\xda]" % BASE64
-)
-"""A byte that each pickle has which imports something; or what each packed one has."""
 
 
 class Value(NamedTuple):
@@ -195,7 +188,7 @@ class Pages:
         return self._starts[number] if number < len(self._starts) else self._source.size
 
     def records(self) -> Iterator[Record]:
-        """All records that SQLite can get to, but for short ones without an import."""
+        """All records that SQLite can get to."""
         if not self._size:
             return
         if self._places is not None:
@@ -229,7 +222,7 @@ class Pages:
             for cell in cells:
                 if is_inner:
                     left.append(_four(page, cell))
-                if has_records and (is_whole or _may_import(page, cell + 4 * is_inner)):
+                if has_records:
                     yield from self._record(page, at, cell + 4 * is_inner, page[begin] == _TABLE)
 
     def _cells(self, page: bytes, begin: int) -> List[int]:
@@ -277,12 +270,6 @@ class Pages:
             return self._places.get(number, -1)
         at = (number - 1) * self._size
         return at if at + self._size <= self._source.size else -1
-
-
-def _may_import(page: bytes, cell: int) -> bool:
-    """Whether the record of a cell may import something, or is a long one."""
-    size = page[cell] if cell < len(page) else 0
-    return size > 127 or IMPORTING.search(page, cell, cell + 10 + size) is not None
 
 
 def _four(data: bytes, at: int) -> int:

@@ -1,40 +1,78 @@
-"""Values that are packed in a store: Base64, as Django's database cache has them, Base16, zlib or
-gzip.
-"""
+"""Values that are packed in a store: in letters, or by gzip, bzip2, xz, LZMA or zlib."""
 
 from __future__ import annotations
 
-import base64
 import binascii
 import io
 import re
 import zlib
-from typing import Iterator, Optional
+from typing import Any, Callable, Iterator, Optional, Tuple
 
-from .budget import Budget
-from .packed import GZIP, ZLIB, unpack
+from .budget import LOOKED_AT, Budget
+from .names import NOTHING, imports_within
+from .packed import UNREAD, streams_at, unpack
+from .reaching import READERS_STOP
+from .readings import is_text
 from .source import Source, in_memory
 from .spelled import LENGTHS
+from .value_letters import ZLIB_FRONTS, is_whole, may_begin, may_hold, of_letters
 
-_BASE64 = re.compile(rb"[A-Za-z0-9+/_\r\n-]{8,}={0,2}\s*")
-"""Either alphabet; that for addresses has `-` and `_`."""
-_BASE16 = re.compile(rb"[0-9A-Fa-f]{8,}")
-_PACKED = re.compile(rb"\x1f\x8b\x08|[\x08\x18\x28\x38\x48\x58\x68\x78]")
+_STREAM = re.compile(
+    rb"\x1f\x8b\x08|BZh[1-9]|\xfd7zXZ\0|[\0-\xe0].{4}(?:\xff{8}|.{4}[\0-\x3f]\0{3})"
+    + rb"|[\x01-\x05]\x01.{14}|"
+    + b"|".join((UNREAD.pattern, *(re.escape(it) for it in ZLIB_FRONTS))),
+    re.DOTALL,
+)
+"""How a value begins that is packed: by gzip, bzip2, xz, LZMA as it is alone, Blosc, what isn't
+read here, or zlib.
+"""
+_IMPORTS = re.compile(rb"[\n\x80\x82-\x84\x93]")
+_IMPORTING = re.compile(_IMPORTS.pattern + rb"|[A-Za-z0-9+/_-]{16}")
+"""A byte that each pickle has which imports something, or letters that may spell it in a text."""
+_BY_LINES = (b"c", b"i", b"")
+"""Instructions of which readers take more than the checker."""
+_Stream = Tuple[str, Callable[[], Any], int]
 _PLAIN, _DEFLATED = b"gA", (b"\x78\x9c", b"\x78\x01", b"\x78\x5e", b"\x78\xda")
 """How a pickle begins in Base64, and what zlib packs."""
 _SHORT = 1 << 12
 """The most bytes of a short value."""
+_HEADER = 32
+"""More bytes than a stream has in front."""
 _LEAST, _DEPTH = 8, 3
 """The fewest bytes of a packed value that imports something, and how often one may be packed."""
+
+
+def may_import(data: bytes, at: int, end: int) -> bool:
+    """Whether a value may import something, as it stands or packed."""
+    return _IMPORTING.search(data, at, end) is not None or is_packed(data, at, end)
+
+
+def is_packed(data: bytes, at: int, end: int) -> bool:
+    """Whether a value may be packed as a whole."""
+    if _STREAM.match(data, at, end):
+        return True
+    return may_begin(data, at, end) and any(map(_may_go_on, of_letters(data[at:end], False)))
+
+
+def _may_go_on(data: bytes) -> bool:
+    """Whether what a value is decoded to may be packed again, or a reader gets to an import."""
+    if _STREAM.match(data) or is_whole(data):
+        return True
+    if not _IMPORTS.search(data):
+        return False
+    verdict, names, _ = imports_within(data, NOTHING)
+    is_end = verdict.reason in READERS_STOP and data[verdict.at : verdict.at + 1] not in _BY_LINES
+    return bool(names) or not is_end
 
 
 def unpacked(source: Source, budget: Budget, depth: int = _DEPTH) -> Iterator[Source]:
     """What a value may be unpacked to, also again."""
     if source.size < _LEAST or not depth:
         return
-    for made in (_inflated(source, budget), _decoded(source, budget), _of_digits(source, budget)):
-        if made is not None and made.size:
-            if made.read(0, 1)[0] in LENGTHS:
+    for made in _made(source, budget):
+        front = made.front()
+        if len(front) < made.size or may_import(front, 0, len(front)):
+            if front[0] in LENGTHS:
                 yield made
             yield from unpacked(made, budget, depth - 1)
 
@@ -57,39 +95,29 @@ def plainly_unpacked(data: bytes, budget: Budget) -> bytes:
     return found if made.eof and not made.unused_data else b""
 
 
-def _inflated(source: Source, budget: Budget) -> Optional[Source]:
-    front = source.read(0, 3)
-    if not _PACKED.match(front):
-        return None
-    is_gzip = front[0] == 0x1F
-    if not is_gzip and int.from_bytes(front[:2], "big") % 31:
-        return None
-    kind = GZIP if is_gzip else ZLIB
-    return in_memory(unpack(source, 0, lambda: zlib.decompressobj(kind), budget.spend_bytes).data)
+def _made(source: Source, budget: Budget) -> Iterator[Source]:
+    """What a value may be unpacked to once."""
+    front = source.front()
+    for first in streams_at(front[:_HEADER]) if _STREAM.match(front) else ():
+        yield _unpacked(source, first, budget)
+    is_spelled = is_text(front) or may_begin(front, 0, len(front))
+    if not is_spelled and not may_hold(front, 0, len(front)):
+        return
+    data = front if len(front) == source.size else source.read(0, source.size)
+    budget.spend(1 + len(data) // LOOKED_AT)
+    for made in of_letters(data, is_text(front)):
+        budget.spend_bytes(len(made))
+        yield in_memory(io.BytesIO(made))
 
 
-def _decoded(source: Source, budget: Budget) -> Optional[Source]:
-    if not _BASE64.fullmatch(source.read(0, 64)):
-        return None
-    data = source.read(0, source.size)
-    budget.spend_bytes(len(data))
-    if not _BASE64.fullmatch(data):
-        return None
-    letters = b"".join(data.split()).rstrip(b"=").translate(_STANDARD)
-    letters = letters[: len(letters) - (len(letters) % 4 == 1)]
-    return in_memory(io.BytesIO(base64.b64decode(letters + b"=" * (-len(letters) % 4))))
-
-
-def _of_digits(source: Source, budget: Budget) -> Optional[Source]:
-    """What Base16 has, in letters of either case."""
-    if not _BASE16.match(source.read(0, 64)):
-        return None
-    data = source.read(0, source.size)
-    budget.spend_bytes(len(data))
-    digits = b"".join(data.split())
-    if len(digits) % 2 or not _BASE16.fullmatch(digits):
-        return None
-    return in_memory(io.BytesIO(binascii.unhexlify(digits)))
-
-
-_STANDARD = bytes.maketrans(b"-_", b"+/")
+def _unpacked(source: Source, first: _Stream, budget: Budget) -> Source:
+    """What streams unpack to, one behind another but for zlib's."""
+    out, at, stream = io.BytesIO(), 0, first  # type: io.BytesIO, int, Optional[_Stream]
+    while stream is not None:
+        name, make, taken = stream
+        found = unpack(source, at + taken, make, budget.spend_bytes)
+        out.write(found.data.getbuffer())
+        at = found.end
+        is_last = bool(found.fault) or name == "zlib"
+        stream = None if is_last else next(streams_at(source.read(at, _HEADER)), None)
+    return in_memory(out)

@@ -1,0 +1,141 @@
+"""Values that are spelled in letters: by Base64, as Django's caches and sessions have them, by
+Base16, or with a character for each byte.
+"""
+
+from __future__ import annotations
+
+import binascii
+import pickletools
+import re
+from typing import Dict, Iterator, List
+
+_LETTERS = b"ABCDEFGHIJKLMNOPQRSTUVWXYZabcdefghijklmnopqrstuvwxyz0123456789+/"
+_ANY, _STRAY = rb"[A-Za-z0-9+/_-]", rb"[^A-Za-z0-9+/]*"
+_STANDARD = bytes.maketrans(b"-_", b"+/")
+"""The alphabet for addresses has `-` and `_`."""
+_BITS = 6
+"""Those of a letter."""
+_PROTO = 0x80
+_PROTOCOLS = tuple(bytes((_PROTO, number)) for number in range(6))
+_OPENING = {ord(it.code) for it in pickletools.opcodes if not it.stack_before} | {ord("i")}
+"""The instructions with which a pickle may begin."""
+ZLIB_FRONTS = tuple(
+    bytes((first, second))
+    for first in range(0x08, 0x80, 0x10)
+    for second in range(256)
+    if (first << 8 | second) % 31 == 0 and not second & 0x20
+)
+"""How what zlib packs may begin, with a window of any size."""
+_STREAMS = (*ZLIB_FRONTS, b"\x1f\x8b\x08", b"BZh", b"\xfd7zXZ", b"]\0\0")
+
+
+def _spelled(front: bytes, between: bytes) -> bytes:
+    """A pattern of the letters that spell these bytes and anything behind them."""
+    number, bits = int.from_bytes(front, "big"), 8 * len(front)
+    found: List[bytes] = []
+    while bits > 0:
+        bits -= _BITS
+        first = (number >> bits if bits > 0 else number << -bits) & (1 << _BITS) - 1
+        letters = _LETTERS[first : first + (1 << max(0, -bits))]
+        letters += b"-" * (b"+" in letters) + b"_" * (b"/" in letters)
+        found.append(b"[%b]" % re.escape(letters))
+    return between.join(found)
+
+
+def _fronts(between: bytes) -> bytes:
+    """A pattern of the letters with which Base64 may begin, and of what may stand between them."""
+    fronts = (*_PROTOCOLS, *(bytes([it]) for it in _OPENING - {_PROTO}), *_STREAMS)
+    by_letter: Dict[bytes, Dict[bytes, None]] = {}
+    for front in fronts:
+        first, _, rest = _spelled(front, b"\n").partition(b"\n")
+        by_letter.setdefault(first, {})[rest.replace(b"\n", between)] = None
+    groups = (it + between + b"(?:%b)" % b"|".join(more) for it, more in by_letter.items())
+    return b"|".join(groups)
+
+
+_DIGIT = b"[0-9A-Fa-f]"
+_HEX = b"0123456789abcdefABCDEF"
+_DIGITS = re.compile(rb"(?:\s*%b){4}" % (_DIGIT * 2))
+_SIGNED = re.compile(rb"[0-9a-f]{32,128}:")
+"""What stands in front of a pickle in a session of Django before 3.1."""
+_OF_DIGITS = rb"(?:[MNOYZ][2DGTWjmz]%b{2}){9}" % _ANY
+"""Digits of Base16, in Base64."""
+_LETTER, _FRONT = re.compile(rb"[A-Za-z0-9+/]"), re.compile(_fronts(_STRAY))
+_RUN = re.compile(rb"%b{16,}={0,2}" % _ANY)
+_RUN_FRONT = re.compile(rb"%b|%b" % (_fronts(b""), _OF_DIGITS))
+"""Base64 that stands in a text."""
+_LONG = re.compile(rb"%b{16}" % _ANY)
+_WHOLE = re.compile(rb"[A-Za-z0-9+/_\r\n-]{8,}={0,2}\s*")
+"""Nothing but Base64, in which Base64 may be packed again."""
+_NO_TEXT, _SOON = re.compile(rb"[\0-\x08\x0e-\x1f\x7f]"), 256
+"""What no text has, which other values have soon."""
+_BYTES = re.compile(rb"\xc2[\x80-\x98]")
+"""An instruction from PROTO on, in a text with a character for each byte: no other text has it."""
+
+
+def may_begin(data: bytes, at: int, end: int) -> bool:
+    """Whether a value may be spelled from its first letter on. Between the letters of Base64 other
+    bytes may stand: Python passes over these.
+    """
+    first = _LETTER.search(data, at, end)
+    if first is None:
+        return False
+    if first.start() == at and _LONG.match(data, at, end):
+        return True
+    return _FRONT.match(data, first.start(), end) is not None or (
+        data[first.start()] in _HEX and _DIGITS.match(data, at, end) is not None
+    )
+
+
+def may_hold(data: bytes, at: int, end: int) -> bool:
+    """Whether a pickle may be spelled in a text."""
+    if _BYTES.search(data, at, end):
+        return True
+    if _NO_TEXT.search(data, at, min(end, at + _SOON)):
+        return False
+    return any(_RUN_FRONT.match(data, it.start()) for it in _RUN.finditer(data, at, end))
+
+
+def is_whole(data: bytes) -> bool:
+    """Whether nothing but Base64 is in a value."""
+    return _WHOLE.fullmatch(data) is not None
+
+
+def of_letters(data: bytes, is_text: bool) -> Iterator[bytes]:
+    """What readers may make of a value: also of a part of it if it is a text."""
+    texts: Dict[bytes, None] = {}
+    if may_begin(data, 0, len(data)) or is_whole(data):
+        texts[data] = None
+    if is_text:
+        runs = (it.group() for it in _RUN.finditer(data))
+        texts.update((it, None) for it in runs if _RUN_FRONT.match(it))
+    for text in texts:
+        for made in of_base64(text):
+            signed = _SIGNED.match(made)
+            yield made[signed.end() :] if signed else made
+    yield from _of_base16(data)
+    if _BYTES.search(data):
+        try:
+            yield data.decode().encode("latin-1")
+        except UnicodeError:
+            pass
+
+
+def of_base64(text: bytes) -> Iterator[bytes]:
+    """What Python makes of Base64 in either alphabet. It passes over other bytes, and over all
+    behind the end; who lacks padding adds some.
+    """
+    for letters in dict.fromkeys((text, text.translate(_STANDARD))):
+        for padded in (letters + b"===", letters.rstrip(b"=\r\n")[:-1] + b"==="):
+            try:
+                yield binascii.a2b_base64(padded)
+                break
+            except binascii.Error:
+                continue
+
+
+def _of_base16(data: bytes) -> Iterator[bytes]:
+    """What pairs of digits are, between which spaces may stand."""
+    digits = b"".join(data.split()) if _DIGITS.match(data) else b""
+    if digits and not (len(digits) % 2 or digits.translate(None, _HEX)):
+        yield binascii.unhexlify(digits)
