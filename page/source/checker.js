@@ -4,12 +4,13 @@
 //     const checker = new Checker(new WebAssembly.Module(bytesOfTheModule));
 //     checker.load(pickle);
 //     const list = checker.list(text);
-//     const verdict = checker.check(0, text, list.numbers);
+//     const verdict = checker.check(0, list.pairs, list);
 
 export const REASONS = [
   "", "Source", "Truncated", "UnknownOpcode", "BadArgument", "TooLarge", "ExtensionCode",
   "UnsupportedProtocol", "BrokenFrame", "MissingMark", "MissingItem", "MissingMemo", "OddItems",
   "WrongClass", "NotText", "UnknownImport", "ImportOffList", "LeftOver", "OutOfMemory", "NotAscii",
+  "DeepKey", "HeavyKeys", "ManyKeys", "MuchMemory", "BuildsImport",
 ];
 export const FAULTS = [
   "", "Syntax", "Shape(Version)", "Shape(TopKey)", "Shape(Imports)", "Shape(Module)", "Shape(Name)",
@@ -22,11 +23,22 @@ const PASSED = 2n ** 40n; // payloads that are passed over may have any length
 const NUMBERS = 1_000_000n; // the greatest memo number, unless the list has a limit of its own
 const ANY_NUMBER = 2n ** 32n - 1n;
 const UNKNOWN = 2n ** 64n - 1n;
-const SETTINGS = 64, VERDICT = 64, NAMES = 1 << 17;
+const LIMITS = ["counted", "stack", "memo", "passed", "numbers"];
+const STANDARD = {
+  counted: 16_777_216n, stack: 1_000_000n, memo: 1_000_000n, passed: PASSED, numbers: NUMBERS,
+};
+const WIDEST = {
+  counted: ANY_NUMBER, stack: ANY_NUMBER, memo: ANY_NUMBER, passed: PASSED, isLarge: true,
+};
+// the limits on what loading costs, each with its bytes; null is none
+const COSTS = [["levels", 4], ["weight", 4], ["work", 8], ["clash", 8], ["memory", 8]];
+const BUILDS = 32; // where they say whether BUILD may take what was imported
+const SETTINGS = 64, VERDICT = 64, COSTING = 40, PAIR = 32, NAMES = 1 << 17;
 const FIRST_NAMES = 1 << 16, MOST_NAMES = 1 << 26;
 const LISTING_MEMORY = 1 << 29;
 
-const text = new TextDecoder();
+const text = new TextDecoder(), encoder = new TextEncoder();
+export const FREE = { builds: true }; // nothing that loading costs is too much
 
 export class OutOfMemory extends Error {}
 
@@ -57,22 +69,57 @@ export class Checker {
     return at;
   }
 
-  // Calls with room for a verdict, settings and a number; all that is taken is then given back.
+  // Calls with room for what is written; all that is taken is then given back.
   call(run) {
     try {
-      const numbers = this.room(SETTINGS + VERDICT + 8);
-      const places = { settings: numbers, verdict: numbers + 64, wanted: numbers + 128 };
-      this.memory().fill(0, numbers, numbers + SETTINGS + VERDICT + 8);
-      return run(places);
+      const settings = this.room(SETTINGS + VERDICT + 8 + 2 * COSTING);
+      const [verdict, wanted] = [settings + SETTINGS, settings + SETTINGS + VERDICT];
+      const [costs, bill] = [wanted + 8, wanted + 8 + COSTING];
+      this.memory().fill(0, settings, bill + COSTING);
+      return run({ settings, verdict, wanted, costs, bill });
     } finally {
-      this.exports.release(this.free);
+      this.exports.release(this.free ?? this.start);
     }
   }
 
-  settings(at, numbers) {
-    const view = new DataView(this.exports.memory.buffer);
-    [64n, 16_777_216n, 1_000_000n, 1_000_000n, PASSED, numbers].forEach((word, place) =>
-      view.setBigUint64(at + 8 * place, word, true));
+  settings(at, limits) {
+    const view = new DataView(this.exports.memory.buffer, at, SETTINGS);
+    view.setBigUint64(0, BigInt(SETTINGS), true);
+    LIMITS.forEach((name, place) => view.setBigUint64(8 + 8 * place, limits[name], true));
+    view.setUint32(56, limits.isLarge ? 1 : 0, true);
+  }
+
+  // The limits under which a pickle is looked at without a list: no pickler writes a memo number
+  // that is greater than the bytes in front of it.
+  widest(offset) {
+    const size = BigInt(this.size - offset);
+    return { ...WIDEST, numbers: size > NUMBERS ? size : NUMBERS };
+  }
+
+  // Writes limits on costs; `builds` says whether BUILD may take what was imported.
+  putCosts(at, costs) {
+    const view = new DataView(this.exports.memory.buffer, at, COSTING);
+    let place = 0;
+    for (const [name, size] of COSTS) {
+      const most = BigInt.asUintN(8 * size, UNKNOWN), limit = BigInt(costs[name] ?? most);
+      if (size === 4) view.setUint32(place, Number(limit < most ? limit : most), true);
+      else view.setBigUint64(place, limit, true);
+      place += size;
+    }
+    view.setUint32(BUILDS, costs.builds ? 1 : 0, true);
+  }
+
+  // Limits on costs, or a bill.
+  costsAt(at) {
+    const view = new DataView(this.exports.memory.buffer, at, COSTING);
+    let place = 0;
+    const read = (size) => {
+      place += size;
+      const from = place - size;
+      return size === 4 ? BigInt(view.getUint32(from, true)) : view.getBigUint64(from, true);
+    };
+    const found = Object.fromEntries(COSTS.map(([name, size]) => [name, read(size)]));
+    return { ...found, builds: view.getUint32(BUILDS, true) === 1 };
   }
 
   verdict(at, room) {
@@ -95,16 +142,43 @@ export class Checker {
 
   // The pairs and limits of a list file, or what is wrong with it.
   list(source) {
+    const found = this.call((places) => {
+      const pairs = this.records(this.reading(source, places), places.wanted);
+      return { ...this.verdict(places.verdict, 0), pairs, ...this.limitsAt(places.settings) };
+    });
+    return found.status !== YES || this.hasLimits(source) ? found : { ...found, passed: PASSED };
+  }
+
+  reading(source, places) {
+    const bytes = this.put(encoder.encode(source));
+    this.settings(places.settings, STANDARD);
+    return (room, size) => this.exports.pkguard_read_list(
+      bytes.at, bytes.length, room, BigInt(size), places.settings, places.wanted, places.verdict);
+  }
+
+  limitsAt(at) {
+    const view = new DataView(this.exports.memory.buffer, at, SETTINGS);
+    const word = (name) => view.getBigUint64(8 + 8 * LIMITS.indexOf(name), true);
+    const found = Object.fromEntries(LIMITS.map((name) => [name, word(name)]));
+    if (found.numbers >= ANY_NUMBER) found.numbers = NUMBERS;
+    return { ...found, isLarge: view.getUint32(56, true) === 1 };
+  }
+
+  // Whether a list file has the table `limits`: TOML permits no second one.
+  hasLimits(source) {
     return this.call((places) => {
-      const bytes = this.put(new TextEncoder().encode(source));
-      this.settings(places.settings, ANY_NUMBER);
-      const read = (room, size) => this.exports.pkguard_read_list(
-        bytes.at, bytes.length, room, BigInt(size), places.settings, places.wanted, places.verdict);
-      const pairs = this.records(read, places.wanted, places.verdict);
-      const verdict = this.verdict(places.verdict, 0);
-      const view = new DataView(this.exports.memory.buffer, places.settings, SETTINGS);
-      const named = view.getBigUint64(40, true);
-      return { ...verdict, pairs, numbers: named < ANY_NUMBER ? named : NUMBERS };
+      this.reading(`${source}\n[limits]\n`, places)(places.bill, 0);
+      return this.verdict(places.verdict, 0).reason === "Syntax";
+    });
+  }
+
+  // These limits on costs, in place of which stands what a list file says.
+  costs(source, usual) {
+    return this.call((places) => {
+      const bytes = this.put(encoder.encode(source));
+      this.putCosts(places.costs, usual);
+      this.exports.pkguard_list_costs(bytes.at, bytes.length, places.costs, places.verdict);
+      return this.costsAt(places.costs);
     });
   }
 
@@ -114,16 +188,43 @@ export class Checker {
     return { at, length: BigInt(bytes.length) };
   }
 
-  // The verdict on the pickle at an offset, under a list file.
-  check(offset, source, numbers) {
+  // Puts pairs where the checker finds them.
+  putPairs(pairs) {
+    const at = this.room(PAIR * pairs.length || 1);
+    for (const [place, { module, name }] of pairs.entries()) {
+      for (const [word, text] of [module, name].entries()) {
+        const bytes = this.put(encoder.encode(text));
+        const view = new DataView(this.exports.memory.buffer, at + PAIR * place + 16 * word, 16);
+        view.setBigUint64(0, BigInt(bytes.at), true);
+        view.setBigUint64(8, bytes.length, true);
+      }
+    }
+    return { at, length: BigInt(pairs.length) };
+  }
+
+  // The verdict on the pickle at an offset, under pairs, limits, and limits on costs.
+  check(offset, pairs, limits, costs = FREE) {
     return this.call((places) => {
-      const list = this.put(new TextEncoder().encode(source));
-      const room = this.room(NAMES);
-      this.settings(places.settings, numbers);
-      this.exports.pkguard_check_list(
-        list.at, list.length, places.settings, this.at + offset, BigInt(this.size - offset), room,
-        BigInt(NAMES), places.verdict);
+      const [list, room] = [this.putPairs(pairs), this.room(NAMES)];
+      this.settings(places.settings, limits);
+      this.putCosts(places.costs, costs);
+      this.exports.pkguard_check_within(
+        list.at, list.length, places.settings, places.costs, this.at + offset,
+        BigInt(this.size - offset), room, BigInt(NAMES), places.verdict);
       return this.verdict(places.verdict, room);
+    });
+  }
+
+  // The verdict on the pickle at an offset with every import permitted, within limits on costs; and
+  // what loading it costs, if it is accepted.
+  loading(offset, costs = FREE) {
+    return this.call((places) => {
+      this.settings(places.settings, this.widest(offset));
+      this.putCosts(places.costs, costs);
+      this.exports.pkguard_imports_loading(
+        places.settings, places.costs, this.at + offset, BigInt(this.size - offset), places.bill,
+        0n, places.wanted, places.verdict, places.bill);
+      return { ...this.verdict(places.verdict, 0), bill: this.costsAt(places.bill) };
     });
   }
 
@@ -131,13 +232,20 @@ export class Checker {
   // import permitted.
   imports(offset) {
     return this.call((places) => {
-      this.settings(places.settings, ANY_NUMBER);
+      this.settings(places.settings, this.widest(offset));
       const read = (room, size) => this.exports.pkguard_imports(
         places.settings, this.at + offset, BigInt(this.size - offset), room, BigInt(size),
         places.wanted, places.verdict);
-      const pairs = this.records(read, places.wanted, places.verdict);
+      const pairs = this.records(read, places.wanted);
       return { ...this.verdict(places.verdict, 0), pairs };
     });
+  }
+
+  // How the argument of an opcode lies, as a number; null if no opcode has this code.
+  layout(code) {
+    this.load(Uint8Array.of(code));
+    const isNone = this.imports(0).reason === "UnknownOpcode";
+    return isNone ? null : this.exports.pkguard_layout(code);
   }
 
   // What a call writes as records, or null if that is too much.

@@ -1,5 +1,7 @@
 // What is known of names: the table of `storklocker lint`, looked up as the Python package does.
 
+import { Renaming } from "./renaming.js";
+
 const HEAD = 1000, WORDS = 32, INNER_WORDS = 8;
 const HIDDEN = "The pickle computes the name that it imports.";
 const UNKNOWN = "Nobody has judged what a pickle can do with it.";
@@ -31,8 +33,7 @@ export class Known {
   // pairs in the shipped lists, each as "module name".
   constructor({ table, renames, listed }) {
     Object.assign(this, { rows: new Map(), same: new Map(), under: new Map(), begun: [] });
-    this.modules = new Map(Object.entries(renames.modules));
-    this.names = new Map(Object.entries(renames.names));
+    this.renaming = new Renaming(renames);
     this.listed = new Set(listed);
     for (const [header, lines] of sections(table)) this.add(header, lines);
   }
@@ -96,10 +97,8 @@ export class Known {
       return;
     }
     yield row;
-    const pair = this.names.get(`${module} ${name}`);
-    if (pair || this.modules.has(module)) {
-      yield this.judged((pair ?? `${this.modules.get(module)} ${name}`).replace(" ", "."));
-    }
+    const now = this.renaming.renamed(module, name);
+    if (now[0] !== module || now[1] !== name) yield this.judged(now.join("."));
     if (INWARDS.has(name)) yield INNER;
     if (module.endsWith(".__main__")) yield MAIN;
     const making = MAKING.find((end) => name.endsWith(end));

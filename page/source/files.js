@@ -9,10 +9,11 @@ const MEMBERS = 20_000;
 const UNPACKED = 2 ** 30;
 const BLOCK = 512;
 
+const XZ = [0xfd, 0x37, 0x7a, 0x58, 0x5a];
 const PACKED = [
   [[0x1f, 0x8b], "gzip", "gzip"],
   [[0x42, 0x5a, 0x68], "", "bzip2"],
-  [[0xfd, 0x37, 0x7a, 0x58, 0x5a], "", "xz"],
+  [XZ, "", "xz"],
   [[0x28, 0xb5, 0x2f, 0xfd], "", "Zstandard"],
   [[0x04, 0x22, 0x4d, 0x18], "", "LZ4"],
   [[0x37, 0x7a, 0xbc, 0xaf], "", "7z"],
@@ -40,6 +41,9 @@ const NUMPY = [0x93, 0x4e, 0x55, 0x4d, 0x50, 0x59];
 
 const HEADER = new RegExp("^\\{'descr': '[<>|=]([biufcSUmM])([0-9]{1,4})(?:\\[[a-zA-Z0-9]*\\])?', "
   + "'fortran_order': (?:True|False), 'shape': \\(((?:[0-9]{1,15},? ?)*)\\), \\} *\n$");
+
+const OBJECTS = new RegExp("^\\{'descr': (?:'\\|O'|\\[[^{]*'\\|O'[^{]*\\]), 'fortran_order': "
+  + "(?:True|False), 'shape': \\([0-9, ]*\\), \\} *\n?$");
 
 export class Budget {
   constructor() {
@@ -79,6 +83,9 @@ export async function* piecesOf(path, blob, budget, depth = 0, kind = "pickle") 
     yield* unpack(path, blob, packed?.[2] ?? "zlib", budget, depth);
   } else if (isTar(front)) {
     yield* insideTar(path, blob, budget, depth);
+    yield { path, kind, blob, isAside: true }; // the name of its first member may begin a pickle
+  } else if (isLzma(front)) {
+    yield unread(path, "LZMA");
   } else if (begins(front, NUMPY)) {
     yield* insideArray(path, blob, front);
   } else if (storeOf(front)) {
@@ -98,11 +105,25 @@ function unread(path, kind) {
   return { path, kind, fault: "unknown-container", problem };
 }
 
-// What is told of bytes behind a pickle that are packed, as the values of Django's cache are.
+// What is told of bytes behind a pickle that are packed, as the values of Django's cache are, or an
+// array, which NumPy reads there.
 export async function packedBehind(path, blob) {
-  const front = new Uint8Array(await blob.slice(0, 2).arrayBuffer());
+  const front = new Uint8Array(await blob.slice(0, NUMPY.length).arrayBuffer());
   const isZlib = (front[0] & 0x8f) === 8 && (front[0] * 256 + front[1]) % 31 === 0;
+  if (begins(front, NUMPY)) return unread(path, "arrays behind a pickle");
   return isZlib ? unread(path, "what is packed behind a pickle") : undefined;
+}
+
+// Whether it is LZMA alone, as packers begin it, which has no magic: its window, or a size that
+// isn't known. An empty one may be zeros, with xz behind them.
+function isLzma(front) {
+  const behind = front.subarray(front.findIndex((byte) => byte !== 0));
+  if (front[0] === 0 && begins(behind, XZ)) return true;
+  if (front.length < 14 || front[0] >= 225) return false;
+  const window = new DataView(front.buffer).getUint32(1, true);
+  const isWindow = window >= 4096 && Number.isInteger(Math.log2(window));
+  const isEndless = front.subarray(5, 13).every((byte) => byte === 0xff);
+  return isEndless || (isWindow && (front[12] === 0 || front[13] === 0));
 }
 
 async function* insideZip(path, zip, budget, depth) {
@@ -125,15 +146,22 @@ async function* unpack(path, blob, kind, budget, depth) {
 
 // Whether a block is a header of tar: its checksum counts itself as blanks.
 function isTar(block) {
-  if (block.length < BLOCK || block[0] === 0) return false;
+  if (block.length < BLOCK) return false;
   let sum = 8 * 0x20;
   for (let at = 0; at < BLOCK; at += 1) if (at < 148 || at >= 156) sum += block[at];
-  return sum === octal(block, 148, 8);
+  return sum > 8 * 0x20 && sum === number(block, 148, 8);
 }
 
-function octal(block, at, size) {
-  const digits = String.fromCharCode(...block.subarray(at, at + size)).replace(/[\0 ]+$/, "");
-  return /^ *[0-7]+$/.test(digits) ? parseInt(digits, 8) : NaN;
+// A number of a header, as Python's `tarfile` reads it: in octal digits, or in bytes.
+function number(block, at, size) {
+  if (block[at] === 0x80) return block.subarray(at + 1, at + size).reduce(appended, 0);
+  const [digits] = String.fromCharCode(...block.subarray(at, at + size)).split("\0", 1);
+  const plain = digits.trim().replace(/^\+/, "").replace(/^0[oO]/, "").replaceAll("_", "");
+  return /^[0-7]*$/.test(plain) ? parseInt(plain || "0", 8) : NaN;
+}
+
+function appended(made, byte) {
+  return made * 256 + byte;
 }
 
 function name(block, at, size) {
@@ -147,7 +175,7 @@ async function* insideTar(path, blob, budget, depth) {
   while (at + BLOCK <= blob.size) {
     const block = new Uint8Array(await blob.slice(at, at + BLOCK).arrayBuffer());
     if (!isTar(block)) break;
-    const size = octal(block, 124, 12);
+    const size = number(block, 124, 12);
     budget.members -= 1;
     if (!(at + BLOCK + size <= blob.size) || budget.members < 0) {
       const problem = "This tar file is damaged, or has too many members.";
@@ -179,6 +207,8 @@ async function* insideArray(path, blob, front) {
   const header = await blob.slice(isShort ? 10 : 12, Math.min(start, 1 << 16)).text();
   const size = sizeOf(header);
   if (header.includes("O")) {
+    const problem = "Its type isn't one that NumPy writes: readers may differ.";
+    if (!OBJECTS.test(header)) yield { path, kind: "npy", fault: DIFFERING, problem };
     yield { path: `${path} › objects`, kind: "npy", blob: blob.slice(start), isWhole: true };
   } else if (start + size === blob.size) {
     yield { path, kind: "npy", isOther: true, why: "numbers only" };

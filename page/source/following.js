@@ -2,29 +2,14 @@
 
 export class NotFollowed extends Error {}
 
-// What follows each opcode: a number of bytes, lines, or a count of so many bytes and then that
-// many.
-const FIXED = new Map(Object.entries({
-  J: 4, K: 1, M: 2, G: 8, h: 1, j: 4, q: 1, r: 4,
-  "\x80": 1, "\x82": 1, "\x83": 2, "\x84": 4, "\x95": 8,
-}));
-const LINES = new Map([..."FILPSVgp"].map((it) => [it, 1]).concat([["c", 2], ["i", 2]]));
-const COUNTS = new Map(Object.entries({
-  T: 4, U: 1, X: 4, B: 4, C: 1, "\x8a": 1, "\x8b": 4, "\x8c": 1, "\x8d": 8, "\x8e": 8, "\x96": 8,
-}));
-const PLAIN = "(.012QRabdeosutl]})N\x81\x85\x86\x87\x88\x89\x8f\x90\x91\x92\x93\x94\x97\x98";
-const [NONE, COUNTED, LINE] = [0, 1, 2];
+// What follows each opcode, as the checker says: so many bytes, lines of 16 each, or from 64 on the
+// bytes of a count; null if there is no such opcode.
+const LINE = 16, COUNT = 64;
+let layouts = [];
 
-function layouts() {
-  const found = new Array(256).fill(null);
-  const put = (code, layout) => { found[code.charCodeAt(0)] = layout; };
-  for (const code of PLAIN) put(code, [NONE, 0]);
-  for (const [code, size] of FIXED) put(code, [NONE, size]);
-  for (const [code, size] of COUNTS) put(code, [COUNTED, size]);
-  for (const [code, lines] of LINES) put(code, [LINE, lines]);
-  return found;
+export function learnLayouts(checker) {
+  layouts = Array.from({ length: 256 }, (_, code) => checker.layout(code));
 }
-const LAYOUTS = layouts();
 
 // Reads one instruction after the other: `code`, and its argument from `from` to `at`.
 export class Instructions {
@@ -41,16 +26,16 @@ export class Instructions {
   next() {
     this.start = this.at;
     this.code = this.bytes[this.at];
-    const layout = LAYOUTS[this.code];
-    if (!layout) throw new NotFollowed(`no opcode at ${this.at}`);
-    const [kind, size] = layout;
-    this.from = this.at + 1;
-    this.at = this.from + (kind === LINE ? 0 : size);
-    if (kind === COUNTED) {
-      this.at += this.number(this.from, size);
-      this.from += size;
+    const layout = layouts[this.code] ?? null;
+    if (layout === null) throw new NotFollowed(`no opcode at ${this.at}`);
+    this.at = this.from = this.start + 1;
+    if (layout >= COUNT) {
+      this.from += layout - COUNT;
+      this.at = this.from + this.number(this.start + 1, layout - COUNT);
+    } else if (layout < LINE) {
+      this.at += layout;
     }
-    for (let line = 0; kind === LINE && line < size; line += 1) {
+    for (let left = layout < COUNT ? layout : 0; left >= LINE; left -= LINE) {
       const end = this.bytes.indexOf(10, this.at);
       this.at = end < 0 ? Infinity : end + 1;
     }
@@ -82,5 +67,16 @@ export function memoNumber(read) {
   return read.code === GET || read.code === PUT
     ? parseInt(read.lines()[0], 10) : read.number(read.from, read.at - read.from);
 }
-const GET = "g".charCodeAt(0), PUT = "p".charCodeAt(0);
+const GET = "g".charCodeAt(0), PUT = "p".charCodeAt(0), BUILD = "b".charCodeAt(0);
 export const STOP = ".".charCodeAt(0);
+
+// Whether the pickle at an offset sets a state.
+export function setsState(bytes, at) {
+  const read = new Instructions(bytes, at);
+  try {
+    do read.next(); while (read.code !== STOP && read.code !== BUILD);
+  } catch (error) {
+    if (!(error instanceof NotFollowed)) throw error;
+  }
+  return read.code === BUILD;
+}

@@ -81,13 +81,11 @@ export class Judge {
       findings.push({ kind: "broken-pickle", why: verdictLine(any) });
       return ["unreadable", verdictLine(any)];
     }
+    if (verdict.isUsual) return ["refused", `no: ${costs.why}`];
     const line = verdictLine(verdict);
     if (verdict.status === NO) findings.push({ kind: "refused", why: line });
     if (verdict.status === NO) return ["refused", line];
-    if (verdict.status === YES && costs && costs.kind !== "too-much") {
-      return ["refused", `no: ${costs.why}`];
-    }
-    const why = verdict.status === YES ? this.undecided(part, listed) : line;
+    const why = this.undecided(part, listed);
     if (why) findings.push({ kind: "undecided", why });
     return why ? ["undecided", why] : ["accepted", line];
   }

@@ -40,7 +40,8 @@ function begin() {
   worker = new Worker(place);
   worker.onmessage = ({ data }) => handlers[data.kind](data);
   worker.onerror = (event) => handlers.failed({ why: event.message || "it can't start" });
-  worker.postMessage({ kind: "begin", code, source: get("list").value });
+  const told = { costs: packed.said.costs, renames: packed.known.renames };
+  worker.postMessage({ kind: "begin", code, known: told, source: get("list").value });
 }
 
 const handlers = {

@@ -2,7 +2,6 @@
 // the page as text.
 
 const LONGEST = 256;
-const UNSERVED = 3; // the status of a check under a list that limits what loading costs
 
 const SENTENCES = {
   Truncated: "the bytes end before the pickle does",
@@ -19,6 +18,11 @@ const SENTENCES = {
   LeftOver: "more than one object is left at the end",
   OutOfMemory: "the page has no memory left",
   NotAscii: "an old string has a byte beyond ASCII",
+  DeepKey: "a key has more levels than are permitted",
+  HeavyKeys: "a key, or all of them, weigh more than is permitted",
+  ManyKeys: "keys that can be made to collide weigh more than is permitted",
+  MuchMemory: "loading takes more memory than is permitted",
+  BuildsImport: "BUILD would change what the pickle imports",
 };
 
 // Text from a file so that it can't be taken for anything else: nothing in it is invisible, turns
@@ -45,7 +49,6 @@ export function counted(number, one, more = `${one}s`) {
 // The line that `pktool check` prints.
 export function verdictLine(verdict) {
   if (verdict.status === 0) return `yes: ${verdict.taken} bytes, ${verdict.imports} imports`;
-  if (verdict.status === UNSERVED) return "the list limits what loading costs";
   if (verdict.status !== 1) return `the list can't be read: ${verdict.reason}`;
   const numbered = ["UnknownOpcode", "UnsupportedProtocol", "MissingMemo"];
   let reason = verdict.reason;
@@ -68,9 +71,6 @@ export function sentence(verdict) {
   if (verdict.status === 0) {
     const imports = verdict.imports === 0 ? "nothing" : counted(verdict.imports, "listed name");
     return `Its ${counted(verdict.taken, "byte")} import ${imports}, and leave one object.`;
-  }
-  if (verdict.status === UNSERVED) {
-    return "The list limits what loading costs, which pktool checks and this page doesn't.";
   }
   if (verdict.status !== 1) return "The list can't be read, so nothing was checked.";
   const place = `At byte ${verdict.at.toLocaleString("en")}`;

@@ -1,24 +1,28 @@
 // Reads files and judges what is in them, beside the page, which stays usable meanwhile.
 
-import { Checker, NO, NO_LIST, OutOfMemory, YES } from "./checker.js";
+import { Checker, FREE, NO, NO_LIST, OutOfMemory, YES } from "./checker.js";
 import { Costs } from "./costs.js";
 import { Budget, packedBehind, piecesOf } from "./files.js";
-import { NotFollowed } from "./following.js";
+import { NotFollowed, learnLayouts, setsState } from "./following.js";
 import { Cutter, isWrapper } from "./joblib.js";
+import { Renaming, isOld } from "./renaming.js";
 
 const LARGEST = 2 ** 29;
 const FRONT = 1 << 16;
 const PICKLES = 1000;
 const IMPORTING = ["UnknownImport", "ExtensionCode"];
-// where every reader stops too
+// where every reader stops too, unless the first instruction imports
+const IMPORTS = [..."ci"].map((it) => it.charCodeAt(0));
 const STOPPING = ["UnknownOpcode", "MissingItem", "MissingMark", "MissingMemo"];
 const TORCH = [..."\x80\x02\x8a\nl\xfc\x9cF\xf9 j\xa8P\x19."].map((it) => it.charCodeAt(0));
 const TORCH_PICKLES = 5;
 
 let module = null;
+let said = null; // of costs, in the words of the package
+let renaming = null;
 let checker = null;
 let loaded = null; // the bytes that the checker holds
-let list = { source: "", status: NO_LIST, numbers: 0n };
+let list = { status: NO_LIST };
 let parts = [];
 
 function post(kind, message) {
@@ -26,8 +30,16 @@ function post(kind, message) {
 }
 
 function setList(source) {
-  list = { source, ...checker.list(source) };
-  post("list", { fault: list.status === YES ? "" : list.reason, pairs: list.pairs });
+  const found = checker.list(source);
+  const pairs = found.pairs ?? [];
+  const own = checker.costs(source, FREE), usual = checker.costs(source, said.usual);
+  list = { ...found, pairs, own, usual, spelled: pairs.flatMap(spelled) };
+  post("list", { fault: list.status === YES ? "" : list.reason, pairs });
+}
+
+// The pairs by which pickles with names of Python 2 import this one.
+function spelled({ module: it, name }) {
+  return [...renaming.spelled(it, name)].map(([from, old]) => ({ module: from, name: old }));
 }
 
 // A call that was ended in the middle leaves nothing that the next may use.
@@ -68,12 +80,16 @@ function add(part) {
 
 async function judgePiece(piece) {
   if (piece.problem || piece.isOther) return add(piece);
-  if (piece.blob.size > LARGEST) return add(await largePiece(piece));
+  if (piece.blob.size > LARGEST) {
+    const part = await largePiece(piece);
+    return piece.isAside && part.isOther ? undefined : add(part);
+  }
   await load(piece.blob);
   let offset = 0;
   for (let number = 1; number <= PICKLES; number += 1) {
     const part = judged(piece, offset, number);
     if (number === 1 && part.imports?.some(isWrapper)) return judgeJoblib(piece, part);
+    if (piece.isAside && part.isOther) return undefined;
     add(part);
     offset += part.any.taken;
     if (part.any.status !== YES || offset >= piece.blob.size) return undefined;
@@ -119,9 +135,10 @@ async function largePiece(piece) {
 // What is found out about a pickle, whatever the list.
 function judged(piece, offset, number) {
   const any = checker.imports(offset);
-  const front = checker.memory().slice(checker.at + offset, checker.at + offset + 2);
+  const front = frontOf(offset);
+  if (isOld(front)) any.pairs = any.pairs?.map(renamedToday) ?? null;
   const isClaimed = front[0] === 0x80 && front[1] <= 5;
-  const isStopped = any.at === 0 && STOPPING.includes(any.reason);
+  const isStopped = any.at === 0 && STOPPING.includes(any.reason) && !IMPORTS.includes(front[0]);
   const isFirst = piece.isWhole && number === 1 && !isStopped;
   const isOther = any.status === NO && any.imports === 0 && !isClaimed
     && !IMPORTING.includes(any.reason) && !isFirst;
@@ -132,7 +149,23 @@ function judged(piece, offset, number) {
     isOther, imports: any.pairs, kind: isOther && kind === "pickle" ? "file" : kind,
   };
   delete any.pairs;
-  return { ...part, ...(isOther ? {} : costsOf(offset)), verdict: underList(part) };
+  if (isOther) return { ...part, verdict: any };
+  const bytes = checker.memory().subarray(checker.at, checker.at + checker.size);
+  const costs = new Costs(checker, said).exceeded(offset);
+  const told = { costs, hasBuild: setsState(bytes, offset) };
+  return { ...part, ...told, verdict: underList({ ...part, ...told }) };
+}
+
+function frontOf(offset) {
+  const end = Math.min(offset + 2, checker.size);
+  return checker.memory().slice(checker.at + offset, checker.at + end);
+}
+
+// An import as Python 3 names it.
+function renamedToday(it) {
+  if (it.module === null) return it;
+  const [now, name] = renaming.renamed(it.module, it.name);
+  return { ...it, module: now, name };
 }
 
 function startsWith(offset, front) {
@@ -140,17 +173,14 @@ function startsWith(offset, front) {
   return front.every((byte, at) => bytes[at] === byte);
 }
 
-// What a guard refuses whatever is listed, and whether the pickle sets a state.
-function costsOf(offset) {
-  const bytes = checker.memory().subarray(checker.at, checker.at + checker.size);
-  const found = new Costs(bytes, offset);
-  return { costs: found.find(), hasBuild: found.hasBuild };
-}
-
-function underList({ offset, isOther, any }) {
-  if (isOther) return any;
+// The verdict under the list alone, unless the list permits what a guard refuses by default.
+function underList({ offset, costs }) {
   if (list.status !== YES) return { status: NO_LIST, reason: list.reason };
-  return checker.check(offset, list.source, list.numbers);
+  const pairs = isOld(frontOf(offset)) ? list.spelled : list.pairs;
+  const verdict = checker.check(offset, pairs, list, list.own);
+  if (verdict.status !== YES || !costs) return verdict;
+  const guarded = checker.check(offset, pairs, list, list.usual);
+  return guarded.status === YES ? verdict : { ...guarded, isUsual: true };
 }
 
 async function judgeAgain(source) {
@@ -176,10 +206,12 @@ async function sendListing(id) {
   }
 }
 
-async function answer({ kind, code, source, files, id }) {
+async function answer({ kind, code, known, source, files, id }) {
   if (kind === "begin") {
     module = await WebAssembly.compile(code);
     checker = new Checker(module);
+    [said, renaming] = [known.costs, new Renaming(known.renames)];
+    learnLayouts(checker);
     setList(source);
     post("ready", {});
   } else if (kind === "files") {

@@ -10,6 +10,7 @@ import re
 from typing import Callable, Dict, Tuple
 
 from ._answers import Verdict
+from ._cost_words import CHANGES
 from ._limits import Limits
 from ._reasons import Reason
 
@@ -44,7 +45,6 @@ _COSTS = {
     Reason.MuchMemory: {"memory": "loading takes more bytes than"},
 }
 """What a pickle exceeds, by the limits that its reason may be of."""
-CHANGES = "BUILD would change what the pickle imports, for all that use it"
 _NO_PICKLE = (
     Reason.UnknownOpcode,
     Reason.MissingItem,

@@ -1,9 +1,12 @@
 // What the page's worker finds in files: containers.mjs FOLDER MODULE.wasm FILES, with the scripts
-// of the page in FOLDER. Prints a line for each file: its name, and the kinds of its parts.
+// of the page in FOLDER, and on standard input what the worker has of words and names. Prints a
+// line for each file: its name, and the kinds of its parts.
 
 import { readFileSync, readdirSync } from "node:fs";
 import { join } from "node:path";
 import { pathToFileURL } from "node:url";
+
+import "./strict.mjs";
 
 const [folder, module, files] = process.argv.slice(2);
 const LIST = 'version = 1\n[imports]\ndatetime = ["datetime"]\n';
@@ -31,7 +34,8 @@ function kindOf({ problem, isOther, verdict }) {
   return verdict.status === 0 ? "yes" : "no";
 }
 
-await ask({ kind: "begin", code: readFileSync(module), source: LIST });
+const known = JSON.parse(readFileSync(0, "utf8"));
+await ask({ kind: "begin", code: readFileSync(module), known, source: LIST });
 for (const name of readdirSync(files).sort()) {
   await ask({ kind: "files", files: [new File([readFileSync(join(files, name))], name)] });
   const parts = told.filter((it) => it.kind === "part").map(({ part }) => kindOf(part));

@@ -10,13 +10,14 @@ import io
 import json
 import pickle
 import random
-import shutil
 import subprocess
 import tarfile
 import tempfile
 import zipfile
 from pathlib import Path
 from typing import Dict
+
+from sentences import maker, scripts
 
 ROOT = Path(__file__).resolve().parent.parent.parent
 FILES = 1000
@@ -79,11 +80,8 @@ def _is_read(data: bytes) -> bool:
 def fault(module: Path) -> str:
     """Where the page is silent about what a reader gets to, or nothing."""
     dice = random.Random(SEED)
-    with tempfile.TemporaryDirectory() as name:
-        scripts, files = Path(name, "scripts"), Path(name, "files")
-        shutil.copytree(ROOT / "page" / "source", scripts)
-        (scripts / "package.json").write_text(json.dumps({"type": "module"}))
-        files.mkdir()
+    with tempfile.TemporaryDirectory() as name, scripts() as its:
+        files = Path(name)
         reads: Dict[str, bool] = {}
         for number in range(FILES):
             data = _damaged(dice)
@@ -91,8 +89,9 @@ def fault(module: Path) -> str:
             packed = gzip.compress(data, mtime=0) if dice.random() < 0.2 else data
             (files / f"{number:04}").write_bytes(packed)
         inner = Path(__file__).with_suffix(".mjs")
-        words = ["node", *map(str, (inner, scripts, module, files))]
-        ran = subprocess.run(words, capture_output=True, text=True, check=False)
+        words = ["node", *map(str, (inner, its, module, files))]
+        told = json.dumps({"costs": maker().costs(), "renames": maker().names.renames()})
+        ran = subprocess.run(words, input=told, capture_output=True, text=True, check=False)
     lines = [line.split() for line in ran.stdout.splitlines()]
     if ran.returncode or len(lines) != FILES or not any(reads.values()):
         return f"{len(lines)} of {FILES} files were answered: {ran.stderr}"

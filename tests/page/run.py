@@ -12,6 +12,7 @@ to. The last line counts; what isn't installed is skipped.
 from __future__ import annotations
 
 import argparse
+import re
 import shutil
 import subprocess
 import sys
@@ -22,6 +23,7 @@ from typing import Callable, Dict, List, Optional
 
 HERE = Path(__file__).resolve().parent
 ROOT = HERE.parent.parent
+CHECKER = ROOT / "page" / "source" / "checker.js"
 sys.dont_write_bytecode = True
 sys.path.insert(0, str(HERE))
 
@@ -39,6 +41,19 @@ def shipped(folder: Path) -> Optional[Path]:
         return None
     subprocess.run(["tar", "-C", folder, "-xzf", archives[0]], check=True)
     return next(folder.glob("*/storklocker.wasm"))
+
+
+def usable(module: Optional[Path], skipped: List[str]) -> Optional[Path]:
+    """The module, if it exports what the page calls: one of an earlier release may not."""
+    if module is None:
+        skipped.append("the page: release/ has no module for it")
+        return None
+    called = re.findall(r"exports\.(pk\w+)", CHECKER.read_text(encoding="utf-8"))
+    lacks = sorted(it for it in set(called) if it.encode() not in module.read_bytes())
+    if not lacks:
+        return module
+    skipped.append(f"the page: the module of an earlier release has no {', '.join(lacks)}")
+    return None
 
 
 def in_browser(page: Path, pictures: Path) -> Dict[str, str]:
@@ -70,18 +85,16 @@ def main() -> int:
     skipped: List[str] = []
     found: Dict[str, str] = {}
     with tempfile.TemporaryDirectory() as folder:
-        module = asked.module or shipped(Path(folder))
+        module = usable(asked.module or shipped(Path(folder)), skipped)
         if not browser.chromium():
             skipped.append("the page in a browser: there is no chromium")
-        elif module is None:
-            skipped.append("the page in a browser: release/ has no module for it")
-        else:
+        elif module is not None:
             page = Path(folder, "storklocker.html")
             subprocess.run([sys.executable, ROOT / "page" / "make", module, page], check=True)
             found = in_browser(page, asked.pictures or Path(folder))
-        if shutil.which("node") is None or module is None:
-            skipped.append("damaged containers: there is no node, or no module")
-        else:
+        if shutil.which("node") is None:
+            skipped.append("damaged containers: there is no node")
+        elif module is not None:
             found["containers that are damaged"] = containers.fault(module)
         why = sentences.lacking()
         if not why and module is not None:

@@ -4,7 +4,7 @@
 import { readFileSync } from "node:fs";
 import { pathToFileURL } from "node:url";
 
-const { Known } = await import(pathToFileURL(`${process.argv[2]}/dangers.mjs`));
+const { Known } = await import(pathToFileURL(`${process.argv[2]}/dangers.js`));
 const { known, wanted } = JSON.parse(readFileSync(0, "utf8"));
 const names = new Known(known);
 

@@ -3,6 +3,7 @@
 from __future__ import annotations
 
 import _compat_pickle as tables
+import contextlib
 import importlib.machinery
 import importlib.util
 import json
@@ -42,6 +43,16 @@ def maker() -> ModuleType:
     return module
 
 
+@contextlib.contextmanager
+def scripts() -> Iterator[Path]:
+    """A folder with the scripts of the page, as node imports them."""
+    with tempfile.TemporaryDirectory() as held:
+        folder = Path(held, "scripts")
+        shutil.copytree(ROOT / "page" / "source", folder)
+        (folder / "package.json").write_text(json.dumps({"type": "module"}))
+        yield folder
+
+
 def _pairs(names: List[str]) -> Iterator[Pair]:
     for dotted in names:
         module, _, name = dotted.replace("*", "x").rpartition(".")
@@ -64,10 +75,9 @@ def fault() -> str:
     judged = [(*pair, dangers.judged(*pair)) for pair in sorted(pairs)]
     wanted = [[m, n, it.severity, it.why] if it else [m, n, "", ""] for m, n, it in judged]
     asked = {"known": maker().known(), "wanted": wanted}
-    with tempfile.TemporaryDirectory() as folder:
-        shutil.copy(ROOT / "page" / "source" / "dangers.js", Path(folder, "dangers.mjs"))
+    with scripts() as folder:
         ran = subprocess.run(
-            ["node", str(HERE / "sentences.mjs"), folder],
+            ["node", str(HERE / "sentences.mjs"), str(folder)],
             input=json.dumps(asked), capture_output=True, text=True, env=os.environ, check=False,
         )
     return "" if ran.returncode == 0 and ran.stdout == f"{len(wanted)} agree\n" else (

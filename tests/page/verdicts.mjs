@@ -1,10 +1,12 @@
 // What the page says of files: verdicts.mjs FOLDER MODULE.wasm FILES, with the scripts of the page
 // in FOLDER, and on standard input what the page has of names and words, and lists. Prints JSON:
-// under each list for each file its parts, each with path, word, kind, why and kinds of findings.
+// under each list for each file its parts, each with path, word, kind, why and findings.
 
 import { readFileSync, readdirSync } from "node:fs";
 import { join } from "node:path";
 import { pathToFileURL } from "node:url";
+
+import "./strict.mjs";
 
 const [folder, module, files] = process.argv.slice(2);
 const { known, said, lists } = JSON.parse(readFileSync(0, "utf8"));
@@ -36,13 +38,14 @@ function parted(pairs) {
   return parts.map(({ part }) => judge.judged(part, pairs)).map((part) => {
     const { path, word, kind, why, findings } = part;
     const line = judge.headline([part]);
-    return { path, word, kind, why, line, findings: findings.map((it) => it.kind) };
+    return { path, word, kind, why, line, findings };
   });
 }
 
 const found = {};
 for (const [name, source] of Object.entries(lists)) {
-  await ask({ kind: "begin", code: readFileSync(module), source });
+  const begun = { costs: said.costs, renames: known.renames };
+  await ask({ kind: "begin", code: readFileSync(module), known: begun, source });
   const { pairs } = told.find((it) => it.kind === "list");
   found[name] = {};
   for (const file of readdirSync(files).sort()) {
@@ -50,5 +53,4 @@ for (const [name, source] of Object.entries(lists)) {
     found[name][file] = parted(pairs);
   }
 }
-console.log(JSON.stringify({ found, words: judge.words }));
-process.exit(0);
+process.stdout.write(JSON.stringify({ found, words: judge.words }), () => process.exit(0));

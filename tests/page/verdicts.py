@@ -1,4 +1,6 @@
-"""What the page says of files, beside what `storklocker scan` says: the same words and kinds."""
+"""What the page says of files, beside what `storklocker scan` says: the same words, kinds and
+names, or that it can't read them.
+"""
 
 from __future__ import annotations
 
@@ -11,7 +13,6 @@ import itertools
 import json
 import os
 import pickle
-import shutil
 import sqlite3
 import subprocess
 import tarfile
@@ -19,9 +20,10 @@ import tempfile
 import zipfile
 import zlib
 from pathlib import Path
-from typing import Any, Dict, Iterable, Iterator, List, Set
+from typing import Any, Dict, Iterable, Iterator, List, Set, Tuple
 
-from sentences import maker
+from corpus import files as files_of_tests
+from sentences import maker, scripts
 
 HERE = Path(__file__).resolve().parent
 ROOT = HERE.parent.parent
@@ -29,10 +31,18 @@ HOSTILE = b"cos\nsystem\n(S'touch pwned'\ntR."
 HONEST = pickle.dumps([1, {"a": (2, 3.5)}], 4)
 BUILD = b"\x80\x04ccollections\nOrderedDict\n}\x8c\x01aNsb."
 KEYS = b"})" + b"2\x86" * 30 + b"Ns."
+MANY = b"}" + b"K\x01\x85" + b"2\x86" * 16 + b"q\x01" + b"0" + b"h\x01Ns" * 800 + b"."
+"""Keys of which none is too heavy, and all are."""
+NAMES = b"\x80\x02" + b"".join(b"c%s\n0" % it for it in (
+    b"__builtin__\nset", b"UserDict\nUserDict", b"copy_reg\n_reconstructor", b"urlparse\nurljoin",
+)) + b"N."
 NUMPY = 'numpy = ["dtype", "ndarray"]\n"numpy.core.multiarray" = ["_reconstruct", "scalar"]\n'
 LISTS = {
     "": "version = 1\n\n[imports]\n",
     "some": 'version = 1\n[imports]\ncollections = ["OrderedDict"]\n"shop.orders" = ["Order"]\n',
+    "limits": 'version = 2\n[imports]\ncollections = ["OrderedDict"]\nbuiltins = ["set"]\n'
+    '"urllib.parse" = ["urljoin"]\n[limits]\nlevels = 5\nweight = 4294967295\n'
+    'numbers = 20000000\n[rules]\nbuild = "any"\n',
     "numpy": f'version = 1\n[imports]\n"joblib.numpy_pickle" = ["NumpyArrayWrapper"]\n{NUMPY}'
     '"numpy._core.multiarray" = ["_reconstruct", "scalar"]\n',
 }
@@ -85,7 +95,8 @@ def _files() -> Dict[str, bytes]:
         "rows.pickle": HONEST * 3, "text.txt": b"A text.\n", "cut.pickle": HONEST[:-3],
         "cut hostile.pickle": b"\x80\x04" + HOSTILE[:-1], "keys.pickle": KEYS,
         "deep.pickle": b"})" + b"\x85" * 5_000 + b"Ns.",
-        "few.pickle": b"})" + b"2\x86" * 9 + b"Ns.",
+        "few.pickle": b"})" + b"2\x86" * 9 + b"Ns.", "many.pickle": MANY, "names.pickle": NAMES,
+        "old.pickle": b"c__builtin__\nset\n.", "numbers.pickle": b"\x80\x02Nr\x80\x96\x98\0.",
         "build.pickle": BUILD, "unknown.pickle": b"cshop.orders\nOrder\n.",
         "partial.pickle": b"cfunctools\npartial\n.", "ends.pickle": _ends_the_process(),
         "main.pickle": b"cshop.__main__\nOrder\n.",
@@ -165,24 +176,21 @@ def _kinds(parts: Iterable[Dict[str, Any]], word: str) -> Set[str]:
 
 def fault(module: Path) -> str:
     """Where they differ, or nothing."""
-    files = {**_files(), **dict(_of_libraries())}
-    found, words = _page(module, files)
-    return "".join(itertools.islice(_differing(files, found, words), 9))
+    own, others = {**_files(), **dict(_of_libraries())}, files_of_tests()
+    found, words = _page(module, {**own, **others})
+    differing = itertools.chain(_differing(own, found, words), _milder(others, found, words))
+    return "".join(itertools.islice(differing, 9))
 
 
 def _page(module: Path, files: Dict[str, bytes]) -> Any:
     made = maker()
     asked = {"known": made.known(), "said": made.said(), "lists": LISTS}
-    with tempfile.TemporaryDirectory() as held:
-        scripts, folder = Path(held, "scripts"), Path(held, "files")
-        shutil.copytree(ROOT / "page" / "source", scripts)
-        (scripts / "package.json").write_text(json.dumps({"type": "module"}))
-        folder.mkdir()
+    with tempfile.TemporaryDirectory() as folder, scripts() as its:
         for name, data in files.items():
-            (folder / name).write_bytes(data)
+            Path(folder, name).write_bytes(data)
         inner = Path(__file__).with_suffix(".mjs")
         ran = subprocess.run(
-            ["node", *map(str, (inner, scripts, module, folder))],
+            ["node", *map(str, (inner, its, module, folder))],
             input=json.dumps(asked), capture_output=True, text=True, check=False,
         )
     if ran.returncode:
@@ -194,13 +202,43 @@ def _page(module: Path, files: Dict[str, bytes]) -> Any:
 def _differing(files: Dict[str, bytes], found: Any, words: List[str]) -> Iterator[str]:
     for listed, name in itertools.product(LISTS, sorted(files)):
         parts, reports = found[listed][name], _scanned(name, files[name], LISTS[listed])
-        page = min((it["word"] for it in parts), key=words.index)
-        scan = min((it["status"] for it in reports), key=words.index)
-        if listed == "numpy" and page == "undecided" and scan in ("accepted", "refused"):
-            page = scan  # (scan may ask NumPy)
+        page, scan = _word(parts, "word", words), _word(reports, "status", words)
+        if page == "undecided" and _may_ask(listed, scan):
+            page = scan
         if name in LESS:
             is_right = page == LESS[name]
         else:
             is_right = page == scan and _kinds(parts, "word") == _kinds(reports, "status")
+            is_right &= _told(parts) == _told(reports)
         if not is_right:
             yield f"{name} under {listed!r}: {parts}, scan: {reports}\n"
+
+
+def _milder(files: Dict[str, bytes], found: Any, words: List[str]) -> Iterator[str]:
+    """Where the page says anything else but that it can't read what `scan` warns of."""
+    for listed, name in itertools.product(LISTS, sorted(files)):
+        parts, reports = found[listed][name], _scanned(name, files[name], LISTS[listed])
+        page, scan = _word(parts, "word", words), _word(reports, "status", words)
+        is_unread = page == "unreadable" and any(it["findings"] for it in reports)
+        is_asked = page == "undecided" and _may_ask(listed, scan)
+        is_same = page == scan and _told(parts)[1] <= _told(reports)[1]
+        if not (is_same or is_unread or is_asked):
+            yield f"{name} under {listed!r}: {parts}, scan: {reports}\n"
+
+
+def _word(parts: List[Dict[str, Any]], key: str, words: List[str]) -> str:
+    """The worst word."""
+    return min((str(it[key]) for it in parts), key=words.index)
+
+
+def _may_ask(listed: str, scan: str) -> bool:
+    """Whether `scan` asked substitutes, which a page can't."""
+    return listed in ("numpy", "limits") and scan in ("accepted", "refused")
+
+
+def _told(parts: List[Dict[str, Any]]) -> Tuple[Set[str], Set[str]]:
+    """What is said of costs, and the names that are findings."""
+    findings = [it for part in parts for it in part["findings"]]
+    costs = {it["why"] for it in findings if it["kind"] in ("costly-keys", "changed-import")}
+    names = {it["name"].replace("\0", r"\x00") for it in findings if it.get("name")}
+    return costs, names

@@ -8,7 +8,7 @@ const [folder, file, listings] = process.argv.slice(2);
 const { Checker } = await import(pathToFileURL(`${folder}/checker.mjs`));
 const checker = new Checker(new WebAssembly.Module(readFileSync(`${folder}/storklocker.wasm`)));
 const bytes = readFileSync(file);
-const ROOM = 1 << 20, ANY_NUMBER = 2n ** 32n - 1n;
+const ROOM = 1 << 20, ANY_NUMBER = 2n ** 32n - 1n, PASSED = 2n ** 40n;
 
 function* records() {
   for (let at = 0; at < bytes.length;) {
@@ -36,12 +36,19 @@ function fields(at) {
   return [...words, ...[16, 24, 32, 40, 48, 56].map((place) => view.getBigUint64(place, true))];
 }
 
+// Of storklocker.h: the size, the limits, and zeros.
+function set(at, numbers) {
+  const view = new DataView(checker.exports.memory.buffer, at, 64);
+  [64n, 16_777_216n, 1_000_000n, 1_000_000n, PASSED, numbers].forEach((word, place) =>
+    view.setBigUint64(8 * place, word, true));
+}
+
 function checked(list) {
   const { numbers } = checker.list(new TextDecoder("utf-8").decode(list));
   return checker.call((places) => {
     const { at, length } = checker.put(list);
     const room = checker.room(ROOM);
-    checker.settings(places.settings, numbers);
+    set(places.settings, numbers);
     checker.exports.pkguard_check_list(
       at, length, places.settings, checker.at, BigInt(checker.size), room, BigInt(ROOM),
       places.verdict);
@@ -53,7 +60,7 @@ function checked(list) {
 function imported() {
   return checker.call((places) => {
     const room = checker.room(ROOM);
-    checker.settings(places.settings, ANY_NUMBER);
+    set(places.settings, ANY_NUMBER);
     checker.exports.pkguard_imports(
       places.settings, checker.at, BigInt(checker.size), room, BigInt(ROOM), places.wanted,
       places.verdict);

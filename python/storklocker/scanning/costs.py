@@ -7,8 +7,8 @@ from __future__ import annotations
 import functools
 from typing import TYPE_CHECKING, Iterable, NamedTuple, Optional, Tuple
 
+from .. import _cost_words as words
 from .._answers import Verdict
-from .._hints import CHANGES
 from .._limits import COSTS, Limits
 from .._lists import STANDARD, AllowList, settings_of
 from .._names import old_names
@@ -28,14 +28,9 @@ def with_costs(limits: Limits) -> Limits:
 
 LIMITS = with_costs(WIDEST)
 """Limits on costs alone: where a reader must stop, whatever it has room for, or may never stop."""
-COSTLY = "costly-keys"
 COUNTED = (Reason.DeepKey, Reason.HeavyKeys, Reason.ManyKeys, Reason.MuchMemory)
 """The reasons by which a list may refuse what costs too much."""
-KINDS = {
-    Reason.DeepKey: COSTLY,
-    Reason.HeavyKeys: COSTLY,
-    Reason.BuildsImport: "changed-import",
-}
+KINDS = {Reason[name]: kind for name, kind in words.KINDS.items()}
 """The kinds of findings, by the reason for which a guard refuses the pickle."""
 
 _SETTINGS = settings_of(NOTHING, LIMITS, "unknown")
@@ -44,16 +39,6 @@ _COUNTING = settings_of(NOTHING, WIDEST._replace(memory=(1 << 64) - 2), "unknown
 _WEIGHING = settings_of(NOTHING, LIMITS._replace(work=None), "unknown")
 _SMALL = 512
 """The most bytes of names whose list is kept."""
-_LEVELS, _WEIGHT = 1_023, 1_048_575
-"""As far as levels and weights are counted."""
-_WHY = {
-    Reason.DeepKey: "the key at byte {at:,} has more levels than the limit levels, {levels:,}:"
-    " hashing it may overflow the reader's stack",
-    Reason.HeavyKeys: "the key at byte {at:,} weighs more than the limit weight, {weight:,}:"
-    " hashing it may take days",
-    Reason.BuildsImport: CHANGES + ", at byte {at:,}",
-}
-_WORK = "at byte {at:,} all keys weigh more than the limit work, {work:,}: hashing them takes long"
 
 
 class Exceeded(NamedTuple):
@@ -73,10 +58,11 @@ def exceeded(data: bytes, names: Iterable[Names]) -> Optional[Exceeded]:
     found = verdict(data, allow, None)
     if found.reason not in KINDS:
         return None
-    why = _WHY[found.reason]
+    why = words.WHY[found.reason.name]
     if found.reason is Reason.HeavyKeys and verdict(data, allow, _WEIGHING).at != found.at:
-        why = _WORK
-    return Exceeded(found, why, _bill_under(allow, data) if KINDS[found.reason] == COSTLY else "")
+        why = words.ALL
+    is_costly = KINDS[found.reason] == words.COSTLY
+    return Exceeded(found, why, _bill_under(allow, data) if is_costly else "")
 
 
 def exceeded_in_row(data: bytes, names: Iterable[Names]) -> Optional[Tuple[Exceeded, int, int]]:
@@ -124,9 +110,10 @@ def _bill_under(allow: AllowList, data: bytes) -> str:
     if costs is None:
         return ""
     levels, weight, work, _, _ = costs
-    deeper = "+" * (levels == _LEVELS)
-    more = "+" * (weight == _WEIGHT)
-    return f"; bill: levels {levels:,}{deeper}, weight {weight:,}{more}, work {work:,}{more}"
+    deeper, more = "+" * (levels == words.COUNTED["levels"]), "+" * (
+        weight == words.COUNTED["weight"]
+    )
+    return words.BILL.format(levels=levels, weight=weight, work=work, deeper=deeper, more=more)
 
 
 def cost_finding(found: Exceeded, start: int, number: int) -> Finding:
