@@ -12,7 +12,7 @@ import weakref
 from pickle import UnpicklingError
 from typing import Any, Dict, FrozenSet, List, Tuple, cast
 
-from . import _compiled, _storklocker
+from . import _compiled, _library, _storklocker
 from ._states import _SHARED, _has_own, _set_state_of, build, judge_made
 from ._substitutes import MOST_FREE, Feed, Piece, Reader
 
@@ -101,6 +101,8 @@ def _kind_of(kind: Any) -> Any:
     if not is_known:
         return None
     set_state = _set_state_of(kind)
+    if _library.judge_of(kind) is not None:
+        return _library.uuid_setter() if kind.__module__ == "uuid" else None
     if set_state is None:
         return _has_own(kind) or None
     is_own = any(vars(base).get("__setstate__") is set_state for base in kind.__mro__)

@@ -8,6 +8,7 @@ from typing import TYPE_CHECKING, Any, Callable, Dict, Tuple
 
 from ._answers import Misused
 from ._calls import row, wrong
+from ._library import uncached
 from ._of_sklearn import whole
 from ._substitute import Class, Substitute
 from ._weighing import SCALARS, Scales
@@ -290,7 +291,7 @@ def array_state(reader: Reader, array: Any, state: Any) -> Any:
         reader.pay(held[0].nbytes)
         if held[0].min() < -1 or held[0].max() >= len(kinds[0].categories):
             raise Misused("a code of an array of pandas is of no category")
-    return state
+    return (*state[:2], uncached(state[2]))
 
 
 def manager_state(reader: Reader, state: Any) -> Any:

@@ -118,6 +118,11 @@ class Arrays(unittest.TestCase):
             self.assertEqual(pickle.loads(b"\x80\x03" + data)[0], 5)  # (the control)
             with self.assertRaises(Misused):
                 guard.loads(b"\x80\x03" + data)
+        empty = one.rpartition(b"(K\x01")[0]
+        for data in (empty + b"]K\x05s.", empty + b"(]K\x05u."):
+            pickle.loads(b"\x80\x03" + data)  # (the control: what has no state yet takes them too)
+            with self.assertRaises(Misused):
+                guard.loads(b"\x80\x03" + data)
 
     @needs("module:numpy")
     def test_the_places_of_generators(self):

@@ -41,7 +41,8 @@ class Hostile(unittest.TestCase):
             [sys.executable, str(HOSTILE / "unguarded.py")], stdout=subprocess.PIPE,
             env={**os.environ, "PYTHONPATH": str(IMPORTED_FROM)}, encoding="utf-8",
         )
-        for word in ("takes too long", "memory", "process ended", "dangerous", "changes what was"):
+        for word in ("takes too long", "memory", "ended: 6\n", "dangerous", "changes what was",
+                     "ended: 6, behind 2 others"):
             self.assertIn(word, ran.stdout)
 
 

@@ -1,22 +1,21 @@
 """Loads pickles in forked processes, which tell what is wrong with one.
 
 A pickle mustn't run, open or import anything, end the process, take much time or memory, or change
-what is older than its load. What a child shows is tried again, alone, in three fresh ones, and
-counts only if each of them shows it. Time is that of the processor.
+what is older than its load. What a child shows of a pickle is tried again in three fresh ones,
+alone and else behind those that were before it, and counts only if each of them shows it. Time is
+that of the processor, memory the most that a child has had since it began.
 """
 
-import builtins
-import copyreg
 import importlib
 import os
 import pkgutil
 import resource
 import signal
 import sys
-import types
 import warnings
 
 import storklocker
+from before import changed, older
 from storklocker import Misused, Refused, lists
 
 SECONDS, MEMORY, AGAIN = 2, 1 << 30, 3
@@ -31,12 +30,6 @@ DANGERS = (
 """Audit events of what no load of a ready-made list does."""
 _OWN = ("storklocker", "encodings")
 """Packages whose modules are imported when they are needed, as are those of listed packages."""
-_PASSING = ("__abstractmethods__", "_abc_impl", "__warningregistry__", "_cache_dtypes",
-            "_value2member_map_")
-"""Attributes that Python sets when it likes, and caches of pandas' types and of flags together."""
-
-_LEVELS, _MANY = 3, 200
-"""How far what was there before is looked at."""
 
 
 class Watch:
@@ -50,6 +43,8 @@ class Watch:
             return
         if event == "import" and str(given[0]).partition(".")[0] in self.packages:
             return
+        if event == "os.listdir" and given[0] in sys.path_importer_cache:
+            return  # (a folder of modules has changed)
         self.seen.append(f"{event} {given!r:.60}")
 
 
@@ -77,37 +72,12 @@ def is_here(pair):
     return hasattr(module, pair[1])
 
 
-def older(pairs):
-    """What could be changed of the objects that are named, of their members, and of Python."""
-    found = {}
-    for module, word in pairs:
-        held = sys.modules.get(module)
-        if held is not None:
-            found[module, word] = _parts(vars(held).get(word), _LEVELS)
-            found[module] = {key: id(it) for key, it in vars(held).items() if key not in _PASSING}
-    found["builtins"] = {key: id(it) for key, it in vars(builtins).items() if key != "_"}
-    found["copyreg"] = (len(copyreg.dispatch_table), sys.getrecursionlimit(), dict(os.environ))
-    return found
-
-
-def _parts(it, levels):
-    """What could be changed of an object: its attributes or its items, and those of these."""
-    if levels == 0 or isinstance(it, (types.ModuleType, types.FunctionType)):
-        return None
-    if type(it) in (list, set, bytearray):
-        return len(it)
-    own = it if type(it) is dict else getattr(it, "__dict__", None)
-    if own is None or len(own) > _MANY:
-        return None
-    return {key: (id(own[key]), _parts(own[key], levels - 1)) for key in list(own)
-            if key not in _PASSING and not (isinstance(own[key], type) and levels < _LEVELS)}
-
-
 class Children:
     """Tries pickles in forked processes, and counts those that were accepted, and loaded."""
 
     def __init__(self, load, pairs, seconds=SECONDS, every=1):
         self._load, self._pairs, self._seconds, self._every = load, pairs, seconds, every
+        self._began = 0
         self.accepted = self.loaded = 0
 
     def findings(self, cases):
@@ -115,24 +85,27 @@ class Children:
         at = 0
         while at < len(cases):
             counts, last, said = self._ran(cases[at:], self._every)
+            row = cases[at : at + last + 1]
+            if said is not None:
+                counts, last, _ = self._ran(row, 1)  # (which of them is the first?)
             self.accepted, self.loaded = self.accepted + counts[0], self.loaded + counts[1]
-            if said is None:
-                return
-            begun = at if said == _CHANGED else at + last
-            for place in range(begun, at + last + 1):
-                told = self._again(cases[place])
-                if told is not None:
-                    yield place, told
+            told = None if said is None else self._again(row[: last + 1])
+            if told is not None:
+                yield at + last, told
             at += last + 1
 
-    def _again(self, case):
-        """What each of some fresh processes shows of a pickle."""
-        told = None
-        for _ in range(AGAIN):
-            told = self._ran([case], 1)[2]
-            if told is None:
-                break
-        return told
+    def _again(self, row):
+        """What each of some fresh processes shows of the last of a row of pickles: of it alone, or
+        else of all of them.
+        """
+        for tried, where in ((row[-1:], ""), (row, f", behind {len(row) - 1} others")):
+            for _ in range(AGAIN):
+                told = self._ran(tried, 1)[2]
+                if told is None:
+                    break
+            else:
+                return told + where
+        return None
 
     def _ran(self, cases, every):
         """The numbers of those accepted and loaded; the last that was begun; what is wrong."""
@@ -163,13 +136,15 @@ class Children:
         quiet = os.open(os.devnull, os.O_WRONLY)
         os.dup2(quiet, 1)
         os.dup2(quiet, 2)
+        self._began = _most_memory()
         before = older(self._pairs)
         for number, data in enumerate(cases, 1):
             os.write(writing, b"b")
             how, found = self._tried(data)
             os.write(writing, how)
             if found is None and (number % every == 0 or number == len(cases)):
-                found = None if older(self._pairs) == before else _CHANGED
+                place = changed(before, older(self._pairs))
+                found = None if place is None else f"it changes what was there before: {place}"
             if found is not None:
                 os.write(writing, b"\n" + found.encode("utf-8", "replace"))
                 return
@@ -177,7 +152,6 @@ class Children:
 
     def _tried(self, data):
         """Whether a pickle was (r)efused, (m)isused, or (l)oaded, and what is wrong with it."""
-        most = resource.getrusage(resource.RUSAGE_SELF).ru_maxrss
         signal.setitimer(signal.ITIMER_PROF, self._seconds)
         how, is_short = b"m", False
         WATCH.is_on = True
@@ -197,10 +171,15 @@ class Children:
             signal.setitimer(signal.ITIMER_PROF, 0)
         if WATCH.seen:
             return how, f"dangerous: {WATCH.seen[0]}"
-        more = (resource.getrusage(resource.RUSAGE_SELF).ru_maxrss - most) << 10
+        more = _most_memory() - self._began
         if more > MEMORY or is_short:
             return how, f"{more:,} bytes of memory" if more > MEMORY else "no memory is left"
         return how, None
 
 
-_SLOW, _CHANGED = "it takes too long", "it changes what was there before"
+def _most_memory():
+    """The most memory that this process has had, in bytes."""
+    return resource.getrusage(resource.RUSAGE_SELF).ru_maxrss << 10
+
+
+_SLOW = "it takes too long"

@@ -4,11 +4,15 @@ by whatever a pickle can make. Nothing runs, opens, imports, dies, changes what 
 takes much time or memory.
 
     PYTHONPATH=python python3 python/tests/hostile/generated.py [LIST ..] [--pickles N] [--seed N]
+
+A pickle follows from the seed and its number, which a finding tells: `--first NUMBER --pickles 1`
+tries it alone.
 """
 
 import argparse
 import contextlib
-import random
+import platform
+import resource
 import sys
 from pathlib import Path
 
@@ -26,7 +30,7 @@ BATCH = 250
 
 def run(name, asked):
     """Tries pickles under a list. Returns those accepted and loaded, and what was found."""
-    allow, count = shapes.widened(getattr(lists, name)), asked.pickles
+    allow, end = shapes.widened(getattr(lists, name)), asked.first + asked.pickles
     load = honest.loader(name, Guard(allow))
     pairs = [pair for pair in allow if is_here(pair)]
     held = honest.pickles(name, asked.few)
@@ -35,22 +39,29 @@ def run(name, asked):
     for data in held:  # (has everything imported that a load needs)
         with contextlib.suppress(TypeError):  # (what some exceptions raise, under `pickle` too)
             load(data)
-    chance = random.Random(f"{name} {asked.seed}")
-    mutator = Mutator(chance, held, pairs, shapes.fragments())
+    mutator = Mutator(held, pairs, shapes.fragments())
     children = Children(load, pairs, asked.seconds, BATCH)
     found = []
-    for begun in range(0, count, BATCH):
-        cases = [mutator.made() for _ in range(min(BATCH, count - begun))]
+    for begun in range(asked.first, end, BATCH):
+        numbers = range(begun, min(begun + BATCH, end))
+        cases = [mutator.made(f"{name} {asked.seed} {number}") for number in numbers]
         for at, said in children.findings(cases):
             found.append((said, cases[at]))
             print(f"{name} {begun + at}: {said}: {cases[at][:4000].hex()}", flush=True)
     return children.accepted, children.loaded, found
 
 
+def _seconds():
+    """What this process and its children have taken of the processor."""
+    used = map(resource.getrusage, (resource.RUSAGE_SELF, resource.RUSAGE_CHILDREN))
+    return sum(it.ru_utime + it.ru_stime for it in used)
+
+
 def main():
     parser = argparse.ArgumentParser(description=__doc__.partition("\n\n")[0])
     parser.add_argument("lists", nargs="*", metavar="LIST")
     parser.add_argument("--pickles", type=int, default=1000, help="for each list")
+    parser.add_argument("--first", type=int, default=0, help="the number of the first")
     parser.add_argument("--few", action="store_true", help="begin with what is quickly made")
     parser.add_argument("--seed", type=int, default=1)
     parser.add_argument("--seconds", type=float, default=SECONDS, help="for a pickle, at most")
@@ -58,9 +69,11 @@ def main():
     begin()
     many = tried = 0
     for name in asked.lists or lists.__all__:
+        begun = _seconds()
         accepted, loaded, found = run(name, asked)
         print(f"{name}: {asked.pickles:,} pickles, {accepted:,} accepted, {loaded:,} loaded,"
-              f" {len(found)} findings", flush=True)
+              f" {len(found)} findings, {_seconds() - begun:.0f} s, {platform.python_version()}",
+              flush=True)
         many, tried = many + len(found), tried + accepted
     print(f"{many} findings")
     return 1 if many or not tried else 0

@@ -1,6 +1,9 @@
 """Makes hostile pickles from honest ones."""
 
+import random
 import struct
+import sys
+import types
 
 import shapes
 import trees
@@ -16,22 +19,27 @@ _NUMBERS = (0, 1, 2, 3, 7, 64, 127, 255, 256, 65_535, 1 << 31, (1 << 32) - 1, 1 
 class Mutator:
     """Makes pickles of the trees of honest ones, and of fragments."""
 
-    def __init__(self, chance, pickles, names, fragments):
-        self._chance = chance
-        self._trees, self._shared = [], set()
+    def __init__(self, pickles, names, fragments):
+        self._chance = random.Random()
+        self._trees, self._shared, self._like = [], set(), {}
         for data in pickles:
             root = trees.parsed_or_none(data)
             if root is not None:
                 self._shared |= trees.shared(root)
-                self._trees.append((root, [node for node, _ in trees.nodes(root)], data[1]))
+                rows = [node for node, _ in trees.nodes(root)]
+                self._trees.append((root, rows, data[1]))
+                for node in rows:
+                    self._like.setdefault(_sort(node), []).append(node)
         self._names = [Node(NAME, b"c%b\n%b\n" % (module.encode(), word.encode()))
                        for module, word in names]
+        self._words = _words(names)
         self._quick = [Node(RAW, it) for it in fragments if len(it) < _SLOW]
         self._slow = [Node(RAW, it) for it in fragments if len(it) >= _SLOW]
 
-    def made(self):
-        """A pickle."""
+    def made(self, seed):
+        """The pickle of a seed."""
         chance = self._chance
+        chance.seed(seed)
         if not self._trees or chance.random() < 0.1:
             return trees.Writer(self._shared, {}).written(self._new_call(self._any()), 4)
         root, rows, protocol = chance.choice(self._trees)
@@ -39,7 +47,16 @@ class Mutator:
         for _ in range(chance.choice((1, 1, 1, 2, 2, 3, 6))):
             node = chance.choice(rows)
             instead[id(node)] = self._changed(instead.get(id(node), node))
+        root = self._as_key(root) if chance.random() < 0.15 else root
         return trees.Writer(self._shared, instead).written(root, protocol)
+
+    def _as_key(self, node):
+        """A dict, a set or a frozenset with this object, which is hashed."""
+        if self._chance.random() < 0.3:
+            return Node(FROZEN, parts=[node])
+        if self._chance.random() < 0.5:
+            return Node(RAW, b"\x8f", acts=[(ADDS, [node])])
+        return Node(RAW, b"}", acts=[(PAIRS, [node, Node(RAW, b"N")])])
 
     def _any(self):
         """Any object: a fragment, a name, or a part of an honest pickle."""
@@ -61,11 +78,22 @@ class Mutator:
         return made
 
     def _act(self):
+        if self._chance.random() < 0.4:
+            return STATE, [self._state()]
         act = self._chance.choice((STATE, STATE, STATE, AGAIN, ITEMS, PAIRS, ADDS))
         return act, [self._any() for _ in range(2 if act == PAIRS else 1)]
 
+    def _state(self):
+        """A state with an attribute that objects of the named classes have."""
+        word = Node(RAW, shapes.text(self._chance.choice(self._words)))
+        made = Node(RAW, b"}", acts=[(PAIRS, [word, self._any()])])
+        is_of_slots = self._chance.random() < 0.5
+        return Node(ROW, parts=[Node(RAW, b"N"), made]) if is_of_slots else made
+
     def _changed(self, node):
         """Another node in the place of one: another object, or the same with a part of another."""
+        if self._chance.random() < 0.5:
+            return self._chance.choice(self._like.get(_sort(node), [node]))
         kind = self._chance.random()
         if kind < 0.4:
             return self._any()
@@ -148,3 +176,33 @@ class Mutator:
         if code == b"\x96":
             return code + struct.pack("<Q", len(made)) + made
         return (b"T" if code in b"UT" else b"B") + struct.pack("<I", len(made)) + made
+
+
+def _words(names):
+    """The attributes of the objects of classes, as far as these tell."""
+    found = {"data": None, "args": None}
+    for module, word in names:
+        kind = getattr(sys.modules.get(module), word, None)
+        for base in getattr(kind, "__mro__", ()):
+            slots = vars(base).get("__slots__", ())
+            found.update(dict.fromkeys((slots,) if isinstance(slots, str) else slots))
+            found.update(dict.fromkeys(vars(base).get("__annotations__", ())))
+            found.update((key, None) for key, it in vars(base).items()
+                         if isinstance(it, (property, types.MemberDescriptorType)))
+    return sorted(found)
+
+
+def _sort(node):
+    """What objects have in common of which one may stand for another: how they are made, and by
+    which name.
+    """
+    if node.kind in trees.CALLS:
+        return node.kind, node.parts[0].data
+    if node.kind == RAW:
+        return node.kind, _SORTS.get(node.data[:1], node.data[:1])
+    return node.kind, min(len(node.parts), 9)
+
+
+_SORTS = {code: sort for sort in (b"KMJ\x8aIL", b"CBUT", b"X\x8cV", b"\x88\x89N")
+          for code in (sort[at : at + 1] for at in range(len(sort)))}
+"""Instructions that make much the same."""

@@ -1,0 +1,90 @@
+"""Judges the states of values of Python's library, which hash, compare or show what they hold.
+
+A state could give such an object a tuple that has itself many times, and its hash would take hours.
+Picklers give most of these objects no state at all. Objects of pandas lose what they have cached:
+compiled code takes each cache for a dict, and what is in it for what it has computed.
+"""
+
+from __future__ import annotations
+
+import functools
+from typing import Any, Callable, Dict, Optional, Tuple
+
+from ._answers import Misused
+
+_STATELESS = frozenset(("fractions", "ipaddress", "pathlib", "pathlib._local"))
+"""Modules whose objects are pickled with what they are called with."""
+_BITS = 128
+"""The bits of a UUID."""
+
+
+def judge_of(kind: Any) -> Optional[Callable[[Any], bool]]:
+    """What says whether a state is one that picklers write, for a class of the library."""
+    module = kind.__module__
+    if type(module) is not str or issubclass(kind, BaseException):
+        return None
+    return _refuse if module in _STATELESS else _KNOWN.get((module, kind.__qualname__))
+
+
+def known_state(kind: Any, state: Any) -> Any:
+    """The state of an object. Refuses that of one of the library which no pickler writes."""
+    judge = judge_of(kind)
+    if judge is not None and not judge(state):
+        raise Misused(f"the state of a {kind.__name__} is of no known kind")
+    if not _is_of_pandas(kind):
+        return state
+    if type(state) is tuple and len(state) == 2:
+        return uncached(state[0]), uncached(state[1])
+    return uncached(state)
+
+
+@functools.lru_cache(maxsize=1024)
+def _is_of_pandas(kind: Any) -> bool:
+    return any(f"{base.__module__}.".startswith("pandas.") for base in kind.__mro__)
+
+
+def uncached(attributes: Any) -> Any:
+    """The attributes of an object of pandas, with a cache of which nothing is known."""
+    if not isinstance(attributes, dict) or _CACHE not in attributes:
+        return attributes
+    if type(attributes[_CACHE]) is not dict:
+        raise Misused("the cache of an object of pandas is no dict")
+    return {**attributes, _CACHE: {}}
+
+
+_CACHE = "_cache"
+
+
+def _refuse(state: Any) -> bool:
+    return False
+
+
+def _is_of_text(state: Any) -> bool:
+    return type(state) is dict and type(state.get("data", "")) is str
+
+
+def _is_of_uuid(state: Any) -> bool:
+    if type(state) is not dict or type(state.get("int")) is not int:
+        return False
+    is_known = type(state.get("is_safe")) in (int, type(None))
+    return is_known and 0 <= state["int"] < 1 << _BITS
+
+
+_KNOWN: Dict[Tuple[str, str], Callable[[Any], bool]] = {
+    ("collections", "UserString"): _is_of_text,
+    ("uuid", "UUID"): _is_of_uuid,
+}
+
+
+@functools.lru_cache(maxsize=1)
+def uuid_setter() -> Callable[[Any, Any], None]:
+    """The method of UUIDs which sets their state, with a judge before it."""
+    import uuid
+
+    found: Any = vars(uuid.UUID)["__setstate__"]
+
+    def set_state(receiver: Any, state: Any) -> None:
+        known_state(uuid.UUID, state)
+        found(receiver, state)
+
+    return set_state
