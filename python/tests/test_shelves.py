@@ -95,6 +95,14 @@ class Shelves(unittest.TestCase):
         self.made([])
         self.check(False)
 
+    def test_values_with_more_in_front(self):
+        """As dogpile.cache stores them."""
+        for value, is_evil in ((print, True), ([1.5, "text"], False)):
+            self.made([])
+            with dbm.dumb.open(str(self.path), "w") as base:
+                base["key"] = b'{"v": 2, "ct": 1700000000.5}|' + pickle.dumps(value)
+            self.check(is_evil)
+
     def test_places_that_cannot_be_read(self):
         self.made([("a", 1)])
         self.part(".dir").write_text("'a', (0, 9)\n'b' (\n")

@@ -12,6 +12,7 @@ Shelves are those of each Python that is here. The last line counts the files.
 import argparse
 import collections
 import json
+import logging
 import os
 import pathlib
 import random
@@ -44,6 +45,8 @@ from watching import Stopped, Watch  # noqa: E402
 
 IMPORTED_FROM = pathlib.Path(storklocker.__file__).resolve().parents[1]
 SECONDS, MEMORY = 5, 1 << 30
+IN_MEMORY = "/dev/shm"
+"""Where files are in memory, if there is such a folder: libraries wait until a disk has written."""
 ENOUGH = 50
 """Of so many values of a program one asks for a name off the list."""
 DANGEROUS = (("posix", "system"), ("os", "system"), ("os\0x", "system"), ("builtins", "eval"))
@@ -114,6 +117,7 @@ def stop(*_):
 def examine(asked):
     """Has the programs of this Python load values, and prints a line for each."""
     warnings.simplefilter("ignore")
+    logging.disable(logging.CRITICAL)
     pages = int(pathlib.Path("/proc/self/statm").read_text().split()[0])
     most = pages * resource.getpagesize() + MEMORY
     watch, here = Watch(), []
@@ -224,6 +228,14 @@ def main():
     if asked.examine:
         examine(asked)
         return 0
+    there = IN_MEMORY if os.access(IN_MEMORY, os.W_OK) else None
+    with tempfile.TemporaryDirectory(dir=there) as folder:
+        os.environ["TMPDIR"] = folder  # (of the processes below)
+        return compare(asked)
+
+
+def compare(asked):
+    """Has each Python examine values, and prints the counts. Returns the status."""
     counts, others = Counts(), list(pythons(asked.python))
     begun = time.monotonic()
     run(sys.executable, asked, asked.first, asked.files, begun + asked.seconds * 3 / 4, counts)

@@ -10,6 +10,7 @@ from .budget import STEP, TooMuch
 from .places import PLACES, VALUES
 from .readings import Found, Place
 from .source import Source
+from .stores import searched
 from .values import Values
 
 _LONGEST = 1 << 16
@@ -44,7 +45,8 @@ def shelf_reading(place: Place) -> Found:
     plain = Values(place, "dbm.dumb")
     for (start, size), key in values.items():
         inner = place.inside(key or "''", place.source.part(start, size), "value")
-        yield from plain.member(inner)
+        if not (yield from plain.member(inner)):
+            yield from searched(inner, "dbm.dumb")  # (dogpile.cache has more in front)
     yield from plain.told()
     return True
 
