@@ -129,8 +129,10 @@ class Substitutes(unittest.TestCase):
         allow = lists.DATETIME
         self.assertEqual(word(dates * 12_000, allow), ACCEPTED)
         encoded = P + HONEST["encoded"]
-        self.assertEqual(word(encoded * 9, allow), ACCEPTED)
-        self.assertEqual(word(encoded * 12_000, allow), UNDECIDED)
+        self.assertEqual(word(encoded * 12_000, allow), ACCEPTED)
+        code = text("latin1") + b"\x86R."
+        differing = b"".join(P + ENCODE + text(f"{it}") + code for it in range(12_000))
+        self.assertEqual(word(differing, allow), UNDECIDED)
         slow = P + PICKLES["a slow codec"][0]
         self.assertEqual(word(dates * 5_000 + slow + dates, allow), REFUSED)
 
@@ -275,8 +277,26 @@ class NumPy(unittest.TestCase):
                 data = pickle.dumps(value, protocol)
                 self.assertEqual(word(data, allow), ACCEPTED, (value, protocol))
                 self.assertTrue(is_loaded(data, allow))
-        dates = pickle.dumps(numpy.array([datetime.date(2020, 1, 1)], object), 4)
-        self.assertEqual(word(dates, allow), UNDECIDED)
+
+    def test_arrays_of_objects(self):
+        """What decides about an array isn't in its items, unless they are rows."""
+        numpy = importlib.import_module("numpy")
+        allow, date = lists.NUMPY | lists.DATETIME, datetime.date(2020, 1, 1)
+        fields = [("a", "i4"), ("b", "O")]
+        for value in (
+            numpy.array([date], object), numpy.array([[date, None], ["a", date]], object),
+            numpy.array([(1, date)], fields), numpy.ma.array([date], mask=[1], dtype=object),
+        ):
+            data = pickle.dumps(value, 4)
+            self.assertEqual((word(data, allow), is_loaded(data, allow)), (ACCEPTED, True), value)
+            short = data.replace(b"K\x01\x85", b"K\x03\x85", 1).replace(
+                b"K\x02K\x02\x86", b"K\x03K\x02\x86", 1)
+            self.assertNotEqual(short, data)
+            self.assertEqual((word(short, allow), is_loaded(short, allow)), (REFUSED, False))
+        rows = P + pickle.dumps(numpy.array([(1, date)], fields), 4)[11:]
+        row = rows[rows.rindex(b"]") : rows.rindex(b"a")]
+        data = rows.replace(row, b"]\x94" + row[4:-2])  # a date in place of a tuple
+        self.assertEqual((word(data, allow), is_loaded(data, allow)), (UNDECIDED, False))
 
     def test_another_name_of_what_has_a_substitute(self):
         """A guard knows it by the object; here only a load would tell."""

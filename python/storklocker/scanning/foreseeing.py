@@ -10,6 +10,7 @@ object is set that may be a class or an array, which a guard refuses.
 from __future__ import annotations
 
 import enum
+import hashlib
 import itertools
 import sys
 from typing import Any, Dict, List, NamedTuple, Optional
@@ -34,8 +35,8 @@ from .stand_ins import UNKNOWN, Answer, Named, Pair, PutOff, Storage, Tensors, W
 _LARGEST = 1 << 28
 """The most bytes of a file whose pickles are read here."""
 _MOST, _MOST_READ = 10_000_000, 10_000
-"""The most values that are looked through in a pickle, and the most pickles of a file that are read
-here.
+"""The most values that are looked through in a pickle, and the most different pickles of a file that
+are read here.
 """
 _MAKING = ("attrgetter", "methodcaller")
 """Substitutes of a list that import nothing to judge what they are given. What they make is called
@@ -79,19 +80,36 @@ def foreseen(source: Source, most: int, allow: AllowList) -> Foreseen:
     """
     if source.size > _LARGEST:
         return Foreseen(Fate.UNDECIDED, f"its {source.size:,} bytes are too many to foresee it")
-    data, at, left, worst = source.read(0, source.size), 0, _MOST_READ, _LOADED
-    look = Look(allow)
+    data, at, worst = source.read(0, source.size), 0, _LOADED
+    look, told = Look(allow), _Told(allow)
     for _ in range(most):
         end, is_stopped = walked(data, at)
         if not is_stopped or worst.fate is Fate.REFUSED:
             break
         if look.finds(data[at:end]):
-            if not left:
+            one = told.of(data[at:end])
+            if one is None:
                 return Foreseen(Fate.UNDECIDED, "its pickles are too many to foresee them")
-            left, one = left - 1, _of_one(data[at:end], allow)
             worst = worst if one.fate is Fate.LOADED else one
         at = end
     return worst
+
+
+class _Told:
+    """What a guard with this list does with pickles, each of which is read once."""
+
+    def __init__(self, allow: AllowList) -> None:
+        self._allow, self._left = allow, _MOST_READ
+        self._of: Dict[bytes, Foreseen] = {}
+
+    def of(self, data: bytes) -> Optional[Foreseen]:
+        """What it does with a pickle; None if too many others have been read."""
+        sha256 = hashlib.sha256(data).digest()
+        found = self._of.get(sha256)
+        if found is None and self._left:
+            self._left -= 1
+            found = self._of[sha256] = _of_one(data, self._allow)
+        return found
 
 
 def _of_one(data: bytes, allow: AllowList) -> Foreseen:
@@ -221,8 +239,9 @@ class Foreseer(Reader):
                     self.put_off(f"a state or items are for what {_told(asked[0])}")
             if len(asked) == 2 or type(asked[2]) is int:
                 return asked[0]
-        if type(asked) is tuple and len(asked) == 2 and not self.knows(asked[1]):
-            raise _Late("the state of an array has what only a load makes")
+        if type(asked) is tuple and len(asked) == 2:
+            if not self.knows(_judged_of(type(asked[0]), asked[1])):
+                raise _Late("the state of an array has what only a load makes")
         return super().persistent_load(asked)
 
     def persistent(self, number: Any) -> Any:
@@ -248,6 +267,19 @@ class Foreseer(Reader):
             if self._steps > _MOST:
                 raise _Late("it has too many values to look through")
         return True
+
+
+def _judged_of(kind: Any, state: Any) -> Any:
+    """What a guard judges of the state of an object of this class: of an array not the objects that
+    are its items, unless they are rows.
+    """
+    numpy: Any = sys.modules.get("numpy")
+    if numpy is None or kind not in (numpy.ndarray, numpy.ma.MaskedArray):
+        return state
+    if type(state) is not tuple or len(state) not in (5, 7) or type(state[4]) is not list:
+        return state
+    rows = state[4] if getattr(state[2], "names", None) else ()
+    return (*state[:4], *state[5:], [it for it in rows if type(it) is not tuple])
 
 
 def _parts_of(held: Any) -> List[Any]:
