@@ -85,6 +85,7 @@ class Figure(NamedTuple):
 
 GUARD, BUDGET = "python/storklocker/_guard.py", "python/storklocker/scanning/budget.py"
 LIMITS, SCANNING = "crates/pkops/src/limits.rt", "docs/SCANNING.md"
+FORESEEING = "python/storklocker/scanning/foreseeing.py"
 FIGURES = [
     Figure("docs/PYTHON.md", r"max_bytes=(\d+ << \d+)", GUARD, r"(?m)^MAX_BYTES = (.+)$"),
     Figure("docs/PYTHON.md", r"loads pickles of (\d+ KiB)", GUARD, r"(?m)^ASYNC_FROM = (.+)$"),
@@ -102,6 +103,8 @@ FIGURES = [
     Figure(SCANNING, r"([\d,]+) pickles", BUDGET, r"(?m)^PICKLES = (.+)$"),
     Figure(SCANNING, r"([\d,]+) steps", BUDGET, r"(?m)^STEPS = (.+)$"),
     Figure(SCANNING, r"(\d+ MiB) unpacked", BUDGET, r"UNPACKED = (\d+ << \d+),"),
+    Figure(SCANNING, r"more than (\d+ MiB)", FORESEEING, r"(?m)^_LARGEST = (.+)$"),
+    Figure(SCANNING, r"([\d,]+) different", FORESEEING, r"(?m)^_MOST, _MOST_READ = \S+ (.+)$"),
     Figure("docs/FORMATS.md", r"`counted`: [^|]+\| ([\d,]+)", LIMITS, r"  counted: ([\d_]+)"),
     Figure("docs/FORMATS.md", r"`passed`: [^|]+\| ([\d,]+)", LIMITS, r"  passed: ([\d_]+)"),
     Figure("docs/FORMATS.md", r"`stack`: [^|]+\| ([\d,]+)", LIMITS, r"  stack: ([\d_]+)"),

@@ -35,8 +35,8 @@ from .stand_ins import UNKNOWN, Answer, Named, Pair, PutOff, Storage, Tensors, W
 _LARGEST = 1 << 28
 """The most bytes of a file whose pickles are read here."""
 _MOST, _MOST_READ = 10_000_000, 10_000
-"""The most values that are looked through in a pickle, and the most different pickles of a file that
-are read here.
+"""The most values that are looked through in a pickle, and the most different pickles of a file
+that are read here.
 """
 _MAKING = ("attrgetter", "methodcaller")
 """Substitutes of a list that import nothing to judge what they are given. What they make is called
