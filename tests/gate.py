@@ -222,6 +222,22 @@ class Groups(Copies):
             self.assertEqual((status, self.counts(lines)), (1, counts), last)
             self.assertIn("failed: edits: what went wrong", lines)
 
+    def test_a_python_without_its_whole_library(self) -> None:
+        concurrent = self.fakes / "parts" / "concurrent.py"
+        concurrent.parent.mkdir()
+        concurrent.write_text("raise ModuleNotFoundError")
+        start = f'PYTHONPATH={concurrent.parent} exec {sys.executable} "$@"'
+        self.script(self.fakes / "python3", start)
+        status, lines = self.group("echo 1 passed, 0 failed")
+        self.assertEqual((status, self.counts(lines)), (0, [0, 0, 2]), lines)
+        self.assertRegex("\n".join(lines), "edits .* python3 lacks a part of its standard library\n")
+
+    def test_why_there_is_no_package(self) -> None:
+        (self.copy / "python/storklocker/__init__.py").write_text("raise SystemExit('its reason')")
+        status, lines = self.ran("./test", "corpus", "gone")
+        self.assertEqual((status, self.counts(lines)), (1, [0, 1, 1]), lines)
+        self.assertRegex(lines[-2], "^failed: corpus: python3 finds no package .*: its reason$")
+
     def test_one_group_is_shown_whole(self) -> None:
         self.script(self.copy / "tests" / "edits.py", "echo noise", "echo 1 passed, 0 failed")
         status, lines = self.ran("./test", "edits")
