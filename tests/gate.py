@@ -239,6 +239,19 @@ class Groups(Copies):
         self.assertEqual((status, self.counts(lines)), (1, [0, 1, 1]), lines)
         self.assertRegex(lines[-2], "^failed: corpus: python3 finds no package .*: its reason$")
 
+    def test_why_something_is_not_installed(self) -> None:
+        for name, line in (
+            ("id", "echo 0"),
+            ("apt-get", "echo 'E: its reason' >&2; exit 1"),
+            ("apt-cache", "echo Package: gcc"),
+            ("dpkg-query", "exit 1"),
+        ):
+            self.script(self.fakes / name, line)
+        status, lines = self.group("echo 1 passed, 0 failed", words=("--install",))
+        self.assertEqual((status, self.counts(lines)), (0, [1, 0, 1]), lines)
+        self.assertEqual(lines.count("E: its reason"), 1)
+        self.assertIn("gcc can't be installed", lines)
+
     def test_one_group_is_shown_whole(self) -> None:
         self.script(self.copy / "tests" / "edits.py", "echo noise", "echo 1 passed, 0 failed")
         status, lines = self.ran("./test", "edits")
