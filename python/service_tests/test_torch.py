@@ -25,6 +25,7 @@ def run():
     try_other_names()
     try_storages(guard)
     try_bytes()
+    try_foreseen(guard)
     common.nothing_ran()
 
 
@@ -55,6 +56,31 @@ def try_kinds(guard):
         assert all(torch.equal(loaded[key], state[key]) for key in state), word
         loaded["plain"][1, 0] = 0
         assert not loaded["view"][0, 0], "they no longer share a storage"
+
+
+def try_foreseen(guard):
+    """What `scan --allow` says of what the guard loads, and of a parameter of no tensor."""
+    import torch
+
+    from storklocker.contrib.torch import load_torch
+    from storklocker.scanning.judging import Question, reports_of
+
+    def word(data):
+        question = Question(lists.TORCH_TENSORS | storklocker.AllowList(common.LISTED))
+        return [it.status.value for it in reports_of("file", io.BytesIO(data), question)][0]
+
+    state = torch.nn.Linear(3, 2).state_dict()
+    state["fixed"] = torch.nn.Parameter(torch.ones(2))
+    assert word(saved(state)) == "accepted"
+    assert torch.equal(loaded_again(state, guard)["fixed"], state["fixed"])
+    made = b"\x80\x02ctorch._utils\n_rebuild_parameter\n"
+    made += b"K\x01\x88ccollections\nOrderedDict\n)R\x87R."
+    with zipfile.ZipFile(io.BytesIO(saved([]))) as archive:
+        members = {name: archive.read(name) for name in archive.namelist()}
+    (pickled,) = [name for name in members if name.endswith("/data.pkl")]
+    data = zipped({**members, pickled: made}.items())
+    assert word(data) == "undecided"
+    assert "_rebuild_parameter" in common.raises(lambda: load_torch(data, guard))
 
 
 def loaded_again(state, guard, protocol=2, is_zip=True):

@@ -226,12 +226,17 @@ def _tensor(reader: Reader, *given: Any) -> Any:
     return maker._rebuild_tensor_v2(*given)
 
 
+def judge_parameter(given: Tuple[Any, ...], tensor: type) -> None:
+    """Refuses a parameter that isn't of a tensor, which is of this class."""
+    if len(given) != 3 or type(given[0]) is not tensor or type(given[1]) is not bool:
+        raise wrong("_rebuild_parameter")
+    _hooks("_rebuild_parameter", given[2])
+
+
 def _parameter(reader: Reader, *given: Any) -> Any:
     import torch._utils
 
-    if len(given) != 3 or type(given[0]) is not torch.Tensor or type(given[1]) is not bool:
-        raise wrong("_rebuild_parameter")
-    _hooks("_rebuild_parameter", given[2])
+    judge_parameter(given, torch.Tensor)
     maker: Any = torch._utils
     return maker._rebuild_parameter(*given)
 

@@ -77,7 +77,10 @@ PICKLES = {
         UNDECIDED,
     ),
 }
+STATED = OrderedDict(a=1)
+STATED.about = OrderedDict(b=OrderedDict())
 HONEST = {
+    "a dict with an attribute": pickle.dumps(STATED, 4),
     "bytes": BYTES + b"C\x01a\x85R.",
     "no bytes": BYTES + b")R.",
     "nested": ARRAY + BYTES + b"C\x05aaaaa\x85R\x85R.",

@@ -13,6 +13,7 @@ import enum
 import hashlib
 import itertools
 import sys
+from collections import OrderedDict
 from typing import Any, Dict, List, NamedTuple, Optional
 
 from .. import _arrays, lists
@@ -30,7 +31,9 @@ from .._uses import Uses, named_by
 from .dangers import is_in_shipped_list
 from .joblib_cutting import WRAPPERS
 from .source import Source
-from .stand_ins import UNKNOWN, Answer, Named, Pair, PutOff, Storage, Tensors, Watched
+from .stand_ins import (
+    TENSORS, UNKNOWN, Answer, Named, Pair, PutOff, Storage, Tensors, Watched
+)
 
 _LARGEST = 1 << 28
 """The most bytes of a file whose pickles are read here."""
@@ -47,13 +50,12 @@ whose states a guard judges by what they hold.
 """
 _IMPORTED, _MADE = frozenset(("torch", *PACKAGES)), (Class, Value)
 """Packages whose functions are judged when a guard has imported them, and what is judged before."""
-_TENSORS = ("torch._utils", "_rebuild_tensor_v2")
 _ONE = (("pytz", "_UTC"),)
 """Classes of which there is one object."""
 _ARRAYS = frozenset(name for _, name in _arrays.TABLE)
 """The names of NumPy that have substitutes, which a guard knows by any other name too."""
 _ATOMS = frozenset((type(None), bool, int, float, complex, str, bytes, bytearray))
-_HELD = frozenset((tuple, list, set, frozenset))
+_HELD, _NAMED = frozenset((tuple, list, set, frozenset)), frozenset((dict, OrderedDict))
 
 
 class Fate(enum.Enum):
@@ -212,8 +214,8 @@ class Foreseer(Reader):
         within = substitute.within(self)
         if isinstance(within, Kind):
             return within
-        if pair == _TENSORS and pair not in self.own:
-            return Tensors(substitute, self)
+        if pair in TENSORS and pair not in self.own:
+            return Tensors(substitute, self, TENSORS[pair])
         is_imported = pair[0].partition(".")[0] in _IMPORTED and not isinstance(substitute, _MADE)
         if is_imported or pair in self.own and substitute.name not in _MAKING:
             return PutOff(substitute, self)
@@ -258,7 +260,7 @@ class Foreseer(Reader):
                 continue
             if id(it) in seen:
                 continue
-            if not (type(it) in _HELD or type(it) is dict or _is_made(it)):
+            if not (type(it) in _HELD or type(it) in _NAMED or _is_made(it)):
                 return False
             seen.add(id(it))
             parts = _parts_of(it)
@@ -283,8 +285,8 @@ def _judged_of(kind: Any, state: Any) -> Any:
 
 
 def _parts_of(held: Any) -> List[Any]:
-    if type(held) is dict:
-        return [*held, *held.values()]
+    if type(held) in _NAMED:
+        return [*held, *held.values(), *getattr(held, "__dict__", {}).values()]
     return list(held) if type(held) in _HELD else []
 
 

@@ -5,7 +5,7 @@ from __future__ import annotations
 import sys
 from typing import TYPE_CHECKING, Any, Optional, Tuple
 
-from .._of_packages import judge_tensor
+from .._of_packages import judge_parameter, judge_tensor
 from .._substitute import Class, Substitute
 from .joblib_cutting import WRAPPERS
 
@@ -104,20 +104,39 @@ class Storage(Answer):
         return self._count
 
 
+class Tensor(Answer):
+    """A tensor of PyTorch, within its storage."""
+
+    __slots__ = ()
+
+
 class Tensors(Substitute):
-    """Judges tensors without PyTorch."""
+    """Judges what PyTorch makes of an object of this kind, without PyTorch."""
 
-    __slots__ = ("_reader",)
+    __slots__ = ("_reader", "_kind")
 
-    def __init__(self, own: Substitute, reader: Foreseer) -> None:
+    def __init__(self, own: Substitute, reader: Foreseer, kind: type) -> None:
         super().__init__(own.name, own, own.role)
-        self._reader = reader
+        self._reader, self._kind = reader, kind
 
     def __call__(self, *given: Any) -> Answer:
-        if not (given and isinstance(given[0], Storage)):
+        is_one = bool(given) and type(given[0]) is self._kind
+        if not is_one or any(map(self._is_unknown, given[1:])):
             return self._reader.put_off(f"{self.name} is given what only a load makes")
-        judge_tensor(given)
+        if self._kind is Storage:
+            judge_tensor(given)
+            return Tensor(None)
+        judge_parameter(given, Tensor)
         return Answer(None)
+
+    def _is_unknown(self, given: Any) -> bool:
+        return not (isinstance(given, dict) or self._reader.knows(given))  # (or hooks, which count)
+
+
+TENSORS = {
+    ("torch._utils", "_rebuild_tensor_v2"): Storage, ("torch._utils", "_rebuild_parameter"): Tensor
+}
+"""What PyTorch's functions make something of."""
 
 
 class PutOff(Substitute):
