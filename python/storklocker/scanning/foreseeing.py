@@ -48,8 +48,8 @@ _OPEN = frozenset(("numpy", "operator", "_operator", "types", "torch", *PACKAGES
 """Packages whose classes and functions may make arrays, types, modules or functions, or objects
 whose states a guard judges by what they hold.
 """
-_IMPORTED, _MADE = frozenset(("torch", *PACKAGES)), (Class, Value)
-"""Packages whose functions are judged when a guard has imported them, and what is judged before."""
+_MADE = (Class, Value)
+"""What is judged before a guard has imported it, also of packages with compiled code."""
 _ONE = (("pytz", "_UTC"),)
 """Classes of which there is one object."""
 _ARRAYS = frozenset(name for _, name in _arrays.TABLE)
@@ -216,7 +216,7 @@ class Foreseer(Reader):
             return within
         if pair in TENSORS and pair not in self.own:
             return Tensors(substitute, self, TENSORS[pair])
-        is_imported = pair[0].partition(".")[0] in _IMPORTED and not isinstance(substitute, _MADE)
+        is_imported = pair[0].partition(".")[0] in PACKAGES and not isinstance(substitute, _MADE)
         if is_imported or pair in self.own and substitute.name not in _MAKING:
             return PutOff(substitute, self)
         return Watched(within, self, pair not in self.own)
