@@ -71,6 +71,17 @@ class Kinds(unittest.TestCase):
             source = in_memory(io.BytesIO(safetensors(tensors, bytes(size))))
             self.assertEqual(is_safetensors(source), is_right, tensors)
 
+    def test_a_length_that_begins_like_a_pickle(self):
+        with self.assertRaises(pickle.UnpicklingError):
+            pickle.loads(b"\x80\2" + bytes(6))
+        header = json.dumps({"a": tensor(0, 4, [4])}).encode()
+        for number in range(6):
+            length = 0x80 | number << 8
+            data = length.to_bytes(8, "little") + header.ljust(length) + bytes(4)
+            (report,) = told(data, "a.safetensors")
+            self.assertEqual((report.why, report.findings), ("safetensors", ()), number)
+            self.assertEqual(bool(told(data + b".")[0].findings), number > 1)
+
     def test_pickles_in_other_stores(self):
         for name, make in (
             ("records", lambda data: records(GOOD, data)),

@@ -3,33 +3,18 @@
 A file is made from what the library itself has written, with other bytes for the value.
 """
 
-import base64
 import dataclasses
+import dbm.dumb
 import importlib
 import logging.handlers
 import pathlib
 import pickle
 import shelve
-import shutil
 import sqlite3
 import struct
-import tempfile
-import time
-import zlib
-from typing import Callable, Dict, Iterator, NamedTuple, Tuple, Union
+from typing import Callable, Dict, Iterator, Tuple, Union
 
-KEY = "key"
-
-
-class Keeper(NamedTuple):
-    """A program that keeps pickles."""
-
-    put: Callable[[pathlib.Path, bytes], object]
-    """Stores the bytes of a value in an empty folder."""
-    load: Callable[[pathlib.Path], object]
-    """Loads the value in a folder."""
-    is_searched: bool = False
-    """Whether `scan` looks through the file for what begins like a pickle."""
+from django_keepers import KEY, Keeper, django_files, django_table, filled, sessions
 
 
 def shelf(name: str, is_searched: bool) -> Keeper:
@@ -181,21 +166,6 @@ def arrays_of_zarr(is_packed: bool) -> Keeper:
     return Keeper(put, lambda folder: zarr.open(str(folder), "r")[0])
 
 
-def filled(make: Callable, name: str, words: str) -> Callable:
-    """Stores values in a base that a library has made once, by a statement of SQL."""
-    kept = pathlib.Path(tempfile.mkdtemp())
-    make(kept)
-
-    def put(folder: pathlib.Path, data: object) -> None:
-        shutil.copytree(kept, folder, dirs_exist_ok=True)
-        base = sqlite3.connect(str(folder / name))
-        base.execute(words, (data,))
-        base.commit()
-        base.close()
-
-    return put
-
-
 def dicts() -> Keeper:
     from sqlitedict import SqliteDict
 
@@ -246,60 +216,19 @@ def made_by_sql() -> Keeper:
     return Keeper(put, load)
 
 
-DJANGO = pathlib.Path(tempfile.mkdtemp(), "base")
+def dogpile() -> Keeper:
+    """dogpile.cache, over `dbm.dumb`: a line of JSON stands in front of each value."""
+    from dogpile.cache import make_region
 
-
-def django_table() -> Keeper:
-    """Django's cache in a database, whose values are Base64."""
-    _configured()
-    from django.core.cache.backends.db import DatabaseCache
-    from django.core.management import call_command
-    from django.db import connection
-
-    cache = DatabaseCache("cached", {})
-
-    def make(folder: pathlib.Path) -> None:
-        call_command("createcachetable", "cached", verbosity=0)
-        cache.set(KEY, None)
-        connection.close()
-        shutil.move(str(DJANGO), str(folder / "base"))
-
-    fill = filled(make, "base", "update cached set value = ?")
+    def region(folder: pathlib.Path, **more: object):
+        words = {"filename": str(folder / "base"), "rw_lockfile": False, "dogpile_lockfile": False}
+        return make_region(**more).configure("dogpile.cache.dbm", arguments=words)
 
     def put(folder: pathlib.Path, data: bytes) -> None:
-        fill(folder, base64.b64encode(data).decode("ascii"))
+        dbm.dumb.open(str(folder / "base"), "n").close()
+        region(folder, serializer=bytes).set(KEY, data)
 
-    def load(folder: pathlib.Path) -> object:
-        shutil.copy(str(folder / "base"), str(DJANGO))
-        try:
-            return cache.get(KEY)
-        finally:
-            connection.close()
-
-    return Keeper(put, load)
-
-
-def _configured() -> None:
-    import django
-    from django.conf import settings
-
-    if not settings.configured:
-        base = {"ENGINE": "django.db.backends.sqlite3", "NAME": str(DJANGO)}
-        table = {"BACKEND": "django.core.cache.backends.db.DatabaseCache", "LOCATION": "cached"}
-        settings.configure(DATABASES={"default": base}, CACHES={"default": table}, USE_TZ=True)
-        django.setup()
-
-
-def django_files() -> Keeper:
-    _configured()
-    from django.core.cache.backends.filebased import FileBasedCache
-
-    def put(folder: pathlib.Path, data: bytes) -> None:
-        cache = FileBasedCache(str(folder), {})
-        path = pathlib.Path(cache._key_to_file(KEY))
-        path.write_bytes(pickle.dumps(time.time() + 999, 4) + zlib.compress(data))
-
-    return Keeper(put, lambda folder: FileBasedCache(str(folder), {}).get(KEY))
+    return Keeper(put, lambda folder: region(folder).get(KEY), True)
 
 
 def cachelib_files() -> Keeper:
@@ -356,6 +285,7 @@ def lacking(library: str) -> Callable[[], Keeper]:
 
 MAKERS: Dict[str, Tuple[str, Callable[[], Keeper]]] = {
     "shelve, dbm.dumb": ("dbm.dumb", lambda: shelf("dbm.dumb", False)),
+    "dogpile.cache": ("dbm.dumb", dogpile),
     "shelve, dbm.gnu": ("GDBM", lambda: shelf("dbm.gnu", True)),
     "shelve, dbm.ndbm": ("Berkeley DB", lambda: shelf("dbm.ndbm", True)),
     "shelve, dbm.sqlite3": ("SQLite", lambda: shelf("dbm.sqlite3", False)),
@@ -375,6 +305,7 @@ MAKERS: Dict[str, Tuple[str, Callable[[], Keeper]]] = {
     "diskcache": ("SQLite", disks),
     "sqlite3, a view": ("SQLite", made_by_sql),
     "Django, a table": ("SQLite", django_table),
+    "Django, sessions": ("SQLite", sessions),
     "Django, files": ("Django", django_files),
     "cachelib": ("cachelib", cachelib_files),
     "torch, a checkpoint": ("distcp", checkpoints),
