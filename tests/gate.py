@@ -231,7 +231,8 @@ class Groups(Copies):
         self.script(self.fakes / "python3", start)
         status, lines = self.group("echo 1 passed, 0 failed")
         self.assertEqual((status, self.counts(lines)), (0, [0, 0, 2]), lines)
-        self.assertRegex("\n".join(lines), "edits .* python3 lacks a part of its standard library\n")
+        said = "edits .* python3 lacks a part of its standard library\n"
+        self.assertRegex("\n".join(lines), said)
 
     def test_why_there_is_no_package(self) -> None:
         (self.copy / "python/storklocker/__init__.py").write_text("raise SystemExit('its reason')")

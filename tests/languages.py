@@ -55,8 +55,9 @@ def unpacked(folder: Path) -> Path:
 def lack_of(language: str) -> str:
     """Why a program can't be compiled here, or an empty text."""
     compiler = COMPILERS[language]
-    if not shutil.which(compiler):
-        return f"without {compiler}"
+    for it in (compiler, "cc"):  # with which the others link
+        if not shutil.which(it):
+            return f"without {it}"
     if language in OLDEST:
         word = "version" if language == "Go" else "--version"
         said = subprocess.run([compiler, word], stdout=subprocess.PIPE, text=True).stdout
