@@ -3,11 +3,13 @@
 from __future__ import annotations
 
 import datetime
+import itertools
 import sys
 from typing import TYPE_CHECKING, Any, Callable, Dict, Tuple
 
 from ._answers import Misused
-from ._calls import row, wrong
+from ._calls import row as plain_row
+from ._calls import wrong
 from ._library import uncached
 from ._of_sklearn import whole
 from ._substitute import Class, Substitute
@@ -22,6 +24,30 @@ _INDEXES = {
     "data", "name", "names", "start", "stop", "step", "levels", "codes", "sortorder", "freq", "tz",
     "left", "right", "closed",
 }
+MOST_KEPT, LONGEST_KEPT = 1000, 200
+"""How many types that pickles have made pandas may keep, and the longest name of one."""
+
+
+def _forgetting(judged: Callable[..., Any]) -> Callable[..., Any]:
+    """Has pandas forget the types that it would keep until the process ends, if they are many."""
+    def called(reader: Reader, *given: Any) -> Any:
+        types: Any = sys.modules.get("pandas.core.dtypes.dtypes")
+        kinds = (types.PeriodDtype, types.IntervalDtype) if types else ()
+        held = [(kind._cache_dtypes, len(kind._cache_dtypes)) for kind in kinds]
+        try:
+            return judged(reader, *given)
+        finally:
+            for kept, before in held:
+                more = max(0, len(kept) - before)
+                for key in list(itertools.islice(reversed(kept), more)):
+                    if len(kept) > MOST_KEPT or len(str(key)) > LONGEST_KEPT:
+                        kept.pop(key, None)
+
+    return called
+
+
+def row(module: str, name: str, judged: Callable[..., Any]) -> Tuple[Any, Substitute]:
+    return plain_row(module, name, _forgetting(judged))
 
 
 def is_array(reader: Reader, it: Any) -> bool:
@@ -57,6 +83,11 @@ def _index_words(reader: Reader, given: Tuple[Any, ...]) -> Tuple[Any, Dict[str,
     for word in ("start", "stop", "step"):
         if word in words:
             whole(words[word], -_MOST, _MOST)
+    zone, freq = words.get("tz"), words.get("freq")
+    if not (zone is None or isinstance(zone, datetime.tzinfo)):  # (a text may name a file)
+        raise wrong("_new_Index")
+    if not (freq is None or _is_offset(freq)):
+        raise wrong("_new_Index")
     if "data" in words and not (is_array(reader, words["data"]) or _is_index(words["data"])):
         raise wrong("_new_Index")
     if "name" in words:

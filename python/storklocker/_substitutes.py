@@ -165,6 +165,7 @@ class Reader(pickle.Unpickler):
             disguised.__class__ = kind
         if not self._uses.is_whole:
             raise Misused(_UNFOLLOWED)
+        _compiled.check_whole(self.unbuilt)
         return made
 
     @property
