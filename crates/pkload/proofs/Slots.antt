@@ -129,11 +129,11 @@ items_above (suc count) fence codes above enough =
           ∙ ap (λ l. Ok (record { operands = rest.0; below = entries_of fence l })) less,
     )
 
-pub items_replaced : (count fence : ℕ) (codes : List ℕ) (code : ℕ) (heft : Heft)
+pub all_replaced : (count fence : ℕ) (codes : List ℕ) (code : ℕ) (heft : Heft)
     → count + fence ≤ length codes → unpacked code ≡ heft
     → AreReplaced count (entries_of fence codes)
     (entries_of fence (take (length codes - count) codes ++ code ∷ [])) heft
-items_replaced count fence codes code heft enough shown_is =
+all_replaced count fence codes code heft enough shown_is =
     let found = items_above count fence codes [] enough in
     let place = length codes - count in
     record {

@@ -1,7 +1,7 @@
 //! The stack: marks, and what objects cost.
 
-ghost use Rattle.std.specs.Prelude.{◌≡◌, ◌<◌, [], ◌∷◌, List, Err, IfNone, IfOk, IfSome, IsErr, OnErr};
-ghost use Rattle.std.specs.Prelude.{OnOk, false, true};
+ghost use Rattle.std.specs.Prelude.{◌≡◌, ◌<◌, [], ◌∷◌, List, Err, IfNone, IfOk, IfSome, IsErr};
+ghost use Rattle.std.specs.Prelude.{OnErr, OnOk, false, true};
 ghost use Rattle.pkstack.specs.Shape.{Entry, Item, Mark, NoItem, NoMark, items, slice, top};
 ghost use Rattle.pkload.specs.Heft.{Heft};
 ghost use Rattle.pkload.specs.Private.Billing.{AreReplaced, HasReplaced, HasSlice};
@@ -162,9 +162,9 @@ impl Stack {
         Ok(())
     }
 
-    /// Puts an object in place of so many of the topmost entries, which must be objects. It wants no
-    /// memory.
-    #[tactic(auto, using(crate::proofs::Slots::items_replaced, crate::proofs::Slots::items_missing))]
+    /// Puts an object in place of so many of the topmost entries, which must be objects. It wants
+    /// no memory.
+    #[tactic(auto, using(crate::proofs::Slots::all_replaced, crate::proofs::Slots::items_missing))]
     pub fn replace_objects(&mut self, count: usize, heft: PackedHeft) -> Result<(), Halt>
         requires { 0 < count }
         ensures ok { OnOk result (AreReplaced count self.old self.new heft) }

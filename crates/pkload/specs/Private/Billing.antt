@@ -176,8 +176,8 @@ frozen_heft held = record {
   imported = false;
 }
 
--- the slice was found, with so many objects in it, all were counted as keys, and a frozenset of them
--- was put in its place
+-- the slice was found, with so many objects in it, all were counted as keys, and a frozenset of
+-- them was put in its place
 pub record AreFrozen (entries new : List (Entry Heft)) (tally counted : Tally) (count : ℕ) : Type 0
   where
     pub below : List (Entry Heft)
