@@ -3,10 +3,13 @@
 from __future__ import annotations
 
 import copyreg
-from typing import Any, Dict, Tuple
+from typing import TYPE_CHECKING, Any, Dict, Tuple
 
 from ._answers import Misused
-from ._substitute import BECOMES_REAL, IS_JUDGED, Substitute
+from ._substitute import BECOMES_REAL, IS_JUDGED, Remembering, Substitute
+
+if TYPE_CHECKING:
+    from ._substitutes import Reader
 
 _CODECS = ("latin1", "latin-1", "ascii", "utf-8")
 
@@ -34,7 +37,7 @@ def _encode(*given: Any) -> bytes:
     return given[0].encode(given[1])
 
 
-def _reconstructor(*given: Any) -> Any:
+def _reconstructor(reader: Reader, *given: Any) -> Any:
     """`copyreg._reconstructor`: an object of a class, made of a value of its base class."""
     if len(given) != 3:
         raise Misused("_reconstructor is called with other arguments")
@@ -42,6 +45,8 @@ def _reconstructor(*given: Any) -> Any:
     is_class = isinstance(kind, type) and isinstance(base, type) and issubclass(kind, base)
     if not is_class or not (value is None if base is object else type(value) is base):
         raise Misused("_reconstructor is called with other arguments")
+    if isinstance(value, (tuple, frozenset)):  # (which is hashed with all that it has)
+        reader.keys.weigh(value)
     reconstructor: Any = getattr(copyreg, "_reconstructor")
     return reconstructor(kind, base, value)
 
@@ -50,7 +55,7 @@ TABLE: Dict[Tuple[str, str], Substitute] = {
     ("builtins", "bytes"): Substitute("builtins.bytes", _bytes, BECOMES_REAL),
     ("builtins", "bytearray"): Substitute("builtins.bytearray", _bytearray, BECOMES_REAL),
     ("_codecs", "encode"): Substitute("_codecs.encode", _encode),
-    ("copyreg", "_reconstructor"): Substitute(
+    ("copyreg", "_reconstructor"): Remembering(
         "copyreg._reconstructor", _reconstructor, IS_JUDGED
     ),
 }

@@ -39,6 +39,12 @@ def takes_row(reader: Reader, name: str, given: Tuple[Any, ...]) -> None:
     if given and (len(given) > 1 or type(given[0]) not in (list, tuple)):
         raise wrong(name)
     reader.pay(sum(map(len, given)) * 16)
+    takes_fields(reader, name, tuple(it for row in given for it in row))
+
+
+def takes_fields(reader: Reader, name: str, given: Tuple[Any, ...]) -> None:
+    """Has NEWOBJ take the fields of a named tuple, which is hashed with all that they have."""
+    reader.keys.weigh(given)
 
 
 def plain(reader: Reader, name: str, given: Any) -> Any:
@@ -258,6 +264,7 @@ TABLE: Dict[Tuple[str, str], Substitute] = dict(
         ),
         *(((at, name), shown(at, name)) for at in _SHOWN for name in _SHOWN[at].split()),
         *((("builtins", name), _group(name)) for name in ("ExceptionGroup", "BaseExceptionGroup")),
+        (("decimal", "DecimalTuple"), Class("decimal.DecimalTuple", news=takes_fields)),
         (("uuid", "UUID"), Class("uuid.UUID", call=_uuid, role=OF_TEXT | NEW_OF_NONE)),
     ]
 )

@@ -13,7 +13,7 @@ import types
 from typing import TYPE_CHECKING, Any, Callable, Dict, Optional, Tuple
 
 from . import _of_pandas, _of_sklearn
-from ._calls import row, shown, takes_row, takes_text, wrong
+from ._calls import row, shown, takes_fields, takes_row, takes_text, wrong
 from ._items import SHOWING, judging
 from ._substitute import BECOMES_REAL, Class, Remembering, Substitute, Value
 from ._weighing import CONTAINERS, SCALARS, keys_of, values
@@ -111,7 +111,7 @@ def _found(it: Any, module: str, package: str) -> Optional[Substitute]:
         return _Showing(name, it)
     if not issubclass(it, tuple):
         return Class(name, it, takes_text)
-    return Class(name, it, _fields if hasattr(it, "_fields") else takes_row)
+    return Class(name, it, takes_fields if hasattr(it, "_fields") else takes_row)
 
 
 def _says_how(kind: type) -> bool:
@@ -123,10 +123,6 @@ def _is_filled(kind: type) -> bool:
     """Whether a class of pandas is one whose objects its own functions make for pickles."""
     names = ("Index", "ExtensionArray", "NDArrayBacked")
     return any(base.__name__ in names for base in kind.__mro__)
-
-
-def _fields(reader: Reader, name: str, given: Tuple[Any, ...]) -> None:
-    """Takes the fields of a named tuple."""
 
 
 def _scalar(name: str, kind: Any) -> Substitute:

@@ -19,7 +19,7 @@ NAMES = {
     " InterpolationDepthError ParsingError MissingSectionHeaderError MultilineContinuationError"
     " UnnamedSectionDisabledError InvalidWriteError",
     "copyreg": "_reconstructor",
-    "decimal": "Decimal",
+    "decimal": "Decimal DecimalTuple",
     "fractions": "Fraction",
     "http.cookies": "Morsel SimpleCookie",
     "ipaddress": "IPv4Address IPv4Interface IPv4Network IPv6Address IPv6Interface IPv6Network",

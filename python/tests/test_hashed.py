@@ -3,6 +3,7 @@ shown, part by part. In the control, without the guard, each of its parts is cou
 """
 
 import collections
+import decimal
 import fractions
 import ipaddress
 import pathlib
@@ -12,11 +13,11 @@ import uuid
 
 from storklocker import AllowList, Guard, Misused, lists
 
-LEVELS = 10
+LEVELS, MANY = 10, 60
 VALUES = (
     uuid.UUID(int=7), uuid.uuid1(), ipaddress.ip_address("::1"), ipaddress.ip_address("10.0.0.1"),
     ipaddress.ip_network("10.0.0.0/8"), fractions.Fraction(1, 3), pathlib.PurePosixPath("a/b"),
-    collections.UserString("a"),
+    collections.UserString("a"), decimal.DecimalTuple(0, (1, 2), 3),
 )
 
 
@@ -34,32 +35,39 @@ class Counted:
         return "it"
 
 
-ALLOW = (lists.STANDARD_TYPES | lists.COLLECTIONS | lists.PATHLIB
-         | AllowList([(__name__, "Counted"), ("uuid", "UUID")]))
+ALLOW = (lists.STANDARD_TYPES | lists.COLLECTIONS | lists.PATHLIB | lists.DECIMAL
+         | AllowList([(__name__, "Counted"), ("uuid", "UUID"), ("copyreg", "_reconstructor")]))
 
 
 def text(word):
     return b"X%c\0\0\0%b" % (len(word), word.encode())
 
 
+def doubled(levels):
+    return b"c%b\nCounted\n)\x81" % __name__.encode() + b"2\x86" * levels
+
+
 def attacked(value, state):
     """A pickle which sets a state of an object that it then uses as a key."""
-    honest = pickle.dumps(value, 2)[2:-1]
-    doubled = b"c%b\nCounted\n)\x81" % __name__.encode() + b"2\x86" * LEVELS
-    return b"\x80\x02}" + honest + state(doubled) + b"bNs."
+    return b"\x80\x02}" + pickle.dumps(value, 2)[2:-1] + state + b"bNs."
 
 
-def attacks():
-    """Pickles with the attributes that a hash looks at, or that are shown."""
+def attacks(levels):
+    """Pickles with the attributes that a hash looks at, or that are shown, and with fields."""
+    it = doubled(levels)
     for value, name in (
         (VALUES[2], "_ip"), (VALUES[2], "_scope_id"), (VALUES[6], "_hash"),
         *((VALUES[6], word) for word in ("_cached_cparts", "_parts_normcase_cached", "_parts",
                                          "_str_normcase_cached")),
     ):
-        yield attacked(value, lambda doubled: b"N}" + text(name) + doubled + b"s\x86")
-    yield attacked(VALUES[7], lambda doubled: b"}" + text("data") + doubled + b"s")
+        yield attacked(value, b"N}" + text(name) + it + b"s\x86")
+    yield attacked(VALUES[7], b"}" + text("data") + it + b"s")
     for shown in (b"}" + text("int") + b"K\1s" + text("is_safe"), b"}" + text("int")):
-        yield attacked(VALUES[0], lambda doubled: shown + doubled + b"s")
+        yield attacked(VALUES[0], shown + it + b"s")
+    fields = pickle.dumps({decimal.DecimalTuple(0, (1, 2), 3): None}, 2)
+    yield fields.replace(b"K\1K\2\x86", it)
+    fields = pickle.dumps({decimal.DecimalTuple(0, (1, 2), 3): None}, 1)
+    yield b"\x80\x02" + fields.replace(b"(K\1K\2t", it)
 
 
 class Hashed(unittest.TestCase):
@@ -74,12 +82,12 @@ class Hashed(unittest.TestCase):
         return Counted.seen
 
     def test_without_the_guard_each_part_is_counted(self):
-        most = [self.seen_by(pickle.loads, data) for data in attacks()]
-        self.assertGreaterEqual(sum(count >= 1 << LEVELS for count in most), 4, most)
+        most = [self.seen_by(pickle.loads, data) for data in attacks(LEVELS)]
+        self.assertGreaterEqual(sum(count >= 1 << LEVELS for count in most), 6, most)
 
     def test_each_is_refused(self):
         guard = Guard(ALLOW)
-        for data in attacks():
+        for data in attacks(MANY):
             for _ in range(3):  # (a guard learns how to load a pickle)
                 self.assertRaises(Misused, self.seen_by, guard.loads, data)
                 self.assertEqual(Counted.seen, 0)
