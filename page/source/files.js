@@ -1,6 +1,7 @@
 // What a file holds, as far as a page can unpack it: the bytes of each piece, or what can't be
 // read.
 
+import { STOP } from "./following.js";
 import { inflated } from "./inflating.js";
 import { readZip } from "./zip.js";
 
@@ -88,8 +89,8 @@ export async function* piecesOf(path, blob, budget, depth = 0, kind = "pickle") 
     yield unread(path, "LZMA");
   } else if (begins(front, NUMPY)) {
     yield* insideArray(path, blob, front);
-  } else if (storeOf(front)) {
-    yield unread(path, storeOf(front));
+  } else if (storeOf(front) || await isRecord(blob, 0)) {
+    yield unread(path, storeOf(front) ?? "other stores");
   } else {
     yield { path, kind, blob, isWhole: depth === 0 };
   }
@@ -98,6 +99,20 @@ export async function* piecesOf(path, blob, budget, depth = 0, kind = "pickle") 
 function storeOf(front) {
   const text = String.fromCharCode(...front);
   return STORES.find(([pattern]) => pattern.test(text))?.[1];
+}
+
+// Whether a pickle stands behind its length at a place, and the end or another length behind it.
+async function isRecord(blob, at) {
+  const length = await lengthAt(blob, at), end = at + 4 + length;
+  if (!(length > 1 && end <= blob.size)) return false;
+  const [last] = new Uint8Array(await blob.slice(end - 1, end).arrayBuffer());
+  const isNext = end + 4 <= blob.size && end + 4 + await lengthAt(blob, end) <= blob.size;
+  return last === STOP && (end === blob.size || isNext);
+}
+
+async function lengthAt(blob, at) {
+  const bytes = await blob.slice(at, at + 4).arrayBuffer();
+  return bytes.byteLength === 4 ? new DataView(bytes).getUint32(0) : NaN;
 }
 
 function unread(path, kind) {

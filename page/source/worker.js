@@ -140,9 +140,9 @@ function judged(piece, offset, number) {
   const isClaimed = front[0] === 0x80 && front[1] <= 5;
   const isStopped = any.at === 0 && STOPPING.includes(any.reason) && !IMPORTS.includes(front[0]);
   const isFirst = piece.isWhole && number === 1 && !isStopped;
+  if (number === 1) Object.assign(piece, { isTorch: startsWith(offset, TORCH), isClaimed });
   const isOther = any.status === NO && any.imports === 0 && !isClaimed
-    && !IMPORTING.includes(any.reason) && !isFirst;
-  if (number === 1) piece.isTorch = startsWith(offset, TORCH);
+    && !IMPORTING.includes(any.reason) && !isFirst && !isBehind(piece, offset, number);
   const kind = kindOf(piece, number);
   const part = {
     path: piece.path, blob: piece.blob, offset, number, size: piece.blob.size - offset, any,
@@ -154,6 +154,13 @@ function judged(piece, offset, number) {
   const costs = new Costs(checker, said).exceeded(offset);
   const told = { costs, hasBuild: setsState(bytes, offset) };
   return { ...part, ...told, verdict: underList({ ...part, ...told }) };
+}
+
+// Whether what can't be read stands where a reader that goes on takes the next pickle. (Of one byte
+// nothing is known: it may begin what is packed.)
+function isBehind({ isClaimed, isTorch, kind, blob }, offset, number) {
+  const isRow = isClaimed && kind !== "npy" && (!isTorch || number <= TORCH_PICKLES);
+  return isRow && number > 1 && blob.size - offset > 1;
 }
 
 function frontOf(offset) {

@@ -47,8 +47,9 @@ LISTS = {
     '"numpy._core.multiarray" = ["_reconstruct", "scalar"]\n',
 }
 PLACES = ("row of pickles", "pickle")
+RECORDS = b"".join(len(it).to_bytes(4, "big") + it for it in (b"}.", HOSTILE))
 STORES = ("base", "gdbm", "berkeley", "lmdb", "blocks.h5", "arrow", "parquet", "zodb", "cachelib")
-LESS = dict.fromkeys(("packed.bz2", "rows.npy", "django", *STORES), "unreadable")
+LESS = dict.fromkeys(("packed.bz2", "rows.npy", "django", "records", *STORES), "unreadable")
 """What the page can't unpack, or doesn't read to its end."""
 
 
@@ -99,6 +100,7 @@ def _files() -> Dict[str, bytes]:
         "old.pickle": b"c__builtin__\nset\n.", "numbers.pickle": b"\x80\x02Nr\x80\x96\x98\0.",
         "build.pickle": BUILD, "unknown.pickle": b"cshop.orders\nOrder\n.",
         "partial.pickle": b"cfunctools\npartial\n.", "ends.pickle": _ends_the_process(),
+        "behind.pickle": HONEST + bytes(400) + HOSTILE, "lines.pickle": HONEST + b"\na\n",
         "main.pickle": b"cshop.__main__\nOrder\n.",
         "inner.pickle": b"\x80\x04\x8c\x01a\x8c\x0bb.__class__\x93.",
         "extension.pickle": b"\x80\x02\x82\x01.", "hidden.pickle": b"\x80\x04NN\x93.",
@@ -106,7 +108,7 @@ def _files() -> Dict[str, bytes]:
         "packed.bz2": bz2.compress(HOSTILE), "a.tar": _tarred("a.pickle", b"\x80\x02" + HOSTILE),
         "model.zip": _zipped(("m/data.pkl", HOSTILE), ("m/version", b"3\n")),
         "calm.zip": _zipped(("m/data.pkl", HONEST), ("m/data/0", bytes(64))),
-        **_stores(),
+        "records": RECORDS, **_stores(),
         "legacy.pt": legacy + pickle.dumps({"w": 1}, 2) + pickle.dumps(["0"], 2) + bytes(24),
         "hostile legacy.pt": legacy + b"\x80\x02" + HOSTILE + pickle.dumps(["0"], 2) + bytes(24),
     }
@@ -208,8 +210,9 @@ def _differing(files: Dict[str, bytes], found: Any, words: List[str]) -> Iterato
         if name in LESS:
             is_right = page == LESS[name]
         else:
-            is_right = page == scan and _kinds(parts, "word") == _kinds(reports, "status")
-            is_right &= _told(parts) == _told(reports)
+            is_right = page == scan and _told(parts) == _told(reports)
+            if page != "unreadable":
+                is_right &= _kinds(parts, "word") == _kinds(reports, "status")
         if not is_right:
             yield f"{name} under {listed!r}: {parts}, scan: {reports}\n"
 
@@ -233,7 +236,7 @@ def _word(parts: List[Dict[str, Any]], key: str, words: List[str]) -> str:
 
 def _may_ask(listed: str, scan: str) -> bool:
     """Whether `scan` asked substitutes, which a page can't."""
-    return listed in ("numpy", "limits") and scan in ("accepted", "refused")
+    return bool(listed) and scan in ("accepted", "refused")
 
 
 def _told(parts: List[Dict[str, Any]]) -> Tuple[Set[str], Set[str]]:
