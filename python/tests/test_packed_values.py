@@ -11,8 +11,10 @@ import pickle
 import random
 import sqlite3
 import struct
+import sys
 import tempfile
 import unittest
+import unittest.mock
 import zlib
 
 from storklocker import AllowList
@@ -138,6 +140,14 @@ class Packed(unittest.TestCase):
         for encoding in ("UTF-8", "UTF-16be"):
             found = reports(self.base(texts, encoding), AllowList([]))
             self.assertFalse(any(it.is_finding for it in found), found[:3])
+
+    def test_what_this_python_lacks_is_told(self):
+        for name, value in (("bz2", bz2.compress(EVIL[0])), ("lzma", lzma.compress(EVIL[0]))):
+            data = self.base([value])
+            with unittest.mock.patch.dict(sys.modules, {name: None}):
+                found = reports(data, AllowList([]))
+            told = [it.kind for report in found for it in report.findings]
+            self.assertIn("unread-pickles", told, name)
 
     def test_what_is_not_unpacked_is_told(self):
         packed = struct.pack("<BBHLLL", 2, 1, 1, 40, 40, 30) + bytes(14)

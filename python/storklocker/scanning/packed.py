@@ -303,6 +303,17 @@ def streams_at(front: bytes) -> Iterator[Tuple[str, Callable[[], Any], int]]:
             yield form.name, make, taken
 
 
+def lacking_at(front: bytes) -> str:
+    """The format of a stream that begins with these bytes, if this Python can't unpack it."""
+    for form in _STREAMS:
+        if form.is_certain and form.is_at(front):
+            try:
+                form.begin(front).make()
+            except ImportError:
+                return form.name
+    return ""
+
+
 def _behind_header(front: bytes) -> int:
     found: Optional["re.Match[bytes]"] = _ZF.match(front)
     return -1 if found is None else found.end()

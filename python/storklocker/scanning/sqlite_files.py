@@ -9,7 +9,7 @@ import re
 from typing import Generator, Iterator, List, NamedTuple, Optional, Set, Tuple, Union
 
 from .budget import STEP, Budget
-from .packed import unread_packing
+from .packed import lacking_at, unread_packing
 from .readings import Answer, Found, Nothing, Piece, Place, Together, Unread
 from .report import LONGEST
 from .source import Source, in_memory
@@ -26,6 +26,8 @@ KIND = "SQLite"
 _LONGEST = 1 << 20
 """Of a longer text in UTF-16 no more characters are read."""
 
+_HEADER = 32
+"""More bytes than a stream has in front."""
 _SMALL, _UNPACKING = 1 << 20, 6 * STEP
 """A larger file has more steps; and those of a value that is unpacked by itself."""
 _STOP, _WORDS = ord("."), re.compile(rb"[\t-\r -~]*")
@@ -131,7 +133,7 @@ def _read(place: Place, record: Record, encoding: str, told: _Told) -> _Reads:
 
 def _unread(place: Place, source: Source, told: Set[str]) -> Iterator[Unread]:
     """What is to be said of a value that is packed in a way that isn't read here, once."""
-    name = unread_packing(source)
+    name = unread_packing(source) or lacking_at(source.front()[:_HEADER])
     if name and name not in told:
         told.add(name)
         why = f"values may be packed by {name}, which isn't read here"

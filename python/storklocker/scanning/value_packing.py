@@ -99,7 +99,10 @@ def _made(source: Source, budget: Budget) -> Iterator[Source]:
     """What a value may be unpacked to once."""
     front = source.front()
     for first in streams_at(front[:_HEADER]) if _STREAM.match(front) else ():
-        yield _unpacked(source, first, budget)
+        try:
+            yield _unpacked(source, first, budget)
+        except ImportError:  # (which is told, if it is certain that it is packed so)
+            continue
     is_spelled = is_text(front) or may_begin(front, 0, len(front))
     if not is_spelled and not may_hold(front, 0, len(front)):
         return
