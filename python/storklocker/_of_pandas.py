@@ -8,12 +8,13 @@ import sys
 from typing import TYPE_CHECKING, Any, Callable, Dict, Tuple
 
 from ._answers import Misused
+from ._attributes import judge_attributes
 from ._calls import row as plain_row
 from ._calls import wrong
 from ._library import uncached
 from ._of_sklearn import whole
 from ._substitute import Class, Substitute
-from ._weighing import SCALARS, Scales
+from ._weighing import SCALARS, Scales, keys_of
 
 if TYPE_CHECKING:
     from ._substitutes import Reader
@@ -357,12 +358,34 @@ def check_masked(reader: Reader, array: Any) -> None:
         raise Misused("the state of an array of pandas is of no known kind")
 
 
-def check_sparse(reader: Reader, array: Any) -> None:
-    """Whether a sparse array of pandas has a value for each of its places."""
+def sparse_state(reader: Reader, array: Any, state: Any) -> Any:
+    """The state of a sparse array of pandas, with a value for each of its places. No tuple: pandas
+    would hand a part of one to NumPy.
+    """
     from pandas._libs.sparse import SparseIndex
 
-    own = vars(array)
-    places, held = own.get("_sparse_index"), own.get("_sparse_values")
+    if type(state) is not dict:
+        raise Misused("the state of a sparse array of pandas is of no known kind")
+    judge_attributes(array, state.items(), False)
+    places, held = state.get("_sparse_index"), state.get("_sparse_values")
     is_one = isinstance(places, SparseIndex) and is_array(reader, held)
     if not is_one or len(held) != places.npoints:
         raise Misused("the state of a sparse array of pandas is of no known kind")
+    return uncached(state)
+
+
+def frame_state(reader: Reader, frame: Any, state: Any) -> Any:
+    """The state of a frame or a series, whose class sets what it has: a name is hashed, and a dict
+    is made of more attributes.
+    """
+    if type(state) is not dict:
+        raise Misused("the state of a frame is no dict")
+    judge_attributes(frame, state.items(), False)
+    known = ("_mgr", "_typ", "_metadata", "attrs", "_flags", *type(frame)._metadata)
+    for name in state:
+        if name not in known and hasattr(type(getattr(type(frame), str(name), None)), "__set__"):
+            raise Misused("the state of a frame sets what it computes")
+    if any(type(state.get(name, {})) is not dict for name in ("attrs", "_flags")):
+        raise Misused("the state of a frame has more attributes in no dict")
+    keys_of(reader, [state.get("name")])
+    return uncached(state)

@@ -87,14 +87,15 @@ class Scales:
 
     def _length(self, part: Any) -> int:
         """What a plain value takes beside a part: the words of a number, whose hash it doesn't
-        keep, or the text that is shown. That of a number takes much time.
+        keep, or the text that is shown. That of a number takes the square of its length.
         """
         if type(part) is not int:
             is_text = not self._are_keys and type(part) in (str, bytes, bytearray)
             return len(part) if is_text else 0
-        if not self._are_keys and part.bit_length() > SHOWN:
+        bits = part.bit_length()
+        if not self._are_keys and bits > SHOWN:
             raise Misused("a number that is shown has too many digits")
-        return part.bit_length() >> 6
+        return bits >> 6 if self._are_keys else bits * bits >> 10
 
     def _parts_of(self, part: Any) -> List[Any]:
         """What a hash, or for other values anything, may look at."""
