@@ -28,7 +28,7 @@ sys.path.append(str(HERE.parent / "tests"))
 
 import harm  # noqa: E402
 
-SECONDS, ALL, MEMORY = 0.5, 20, 6 << 30
+SECONDS, ALL, LONGEST, MEMORY = 0.5, 20, 300, 6 << 30
 """What a call and a name may take."""
 CODE = "open('pwned', 'w')"
 MARKS = ("pwned", "evil")
@@ -179,6 +179,9 @@ def states(it):
     settable = [word for word in dir(it)
                 if getattr(inspect.getattr_static(it, word, None), "fset", None)]
     yield lambda value: restored(it, {word: value for word in given})
+    honest = state_of(it)
+    for name in honest:
+        yield lambda value, name=name: restored(it, {**honest, name: text(value)})
     yield lambda value: restored(it, value)
     for count in (1, 2, 3, 4, 5, 6):
         yield lambda value, count=count: restored(it, (value,) * count)
@@ -195,6 +198,22 @@ def states(it):
         yield lambda value: it.__new__(it).__setitem__(value, value)
     yield lambda value: it.__new__(it, value)
     yield lambda value: it.__new__(it, value, value)
+
+
+def text(value):
+    """A value if it is a text: of an honest state, only what may be code is changed, for speed."""
+    if not isinstance(value, str):
+        raise TypeError
+    return value
+
+
+def state_of(it):
+    """The state of an object that is made with nothing, in which a pickle may change anything."""
+    try:
+        state = it().__reduce_ex__(4)[2]
+    except Exception:  # (whatever a class raises that wants arguments, or has no pickles)
+        return {}
+    return state if isinstance(state, dict) else {}
 
 
 def restored(it, state):
@@ -236,7 +255,8 @@ def standing():
 
 def tried(it):
     """What calling the object of a name does; an empty text if nothing happens."""
-    before, files, done, began = standing(), harm.seen(Path()), 0, time.monotonic()
+    before, files, done = standing(), harm.seen(Path()), 0
+    began, began_here = time.monotonic(), time.process_time()
     for call, is_state in [(call, False) for call in calls(it)] + [(s, True) for s in states(it)]:
         for value in values():
             if is_state and isinstance(value, Probe):
@@ -262,7 +282,8 @@ def tried(it):
                 return "it changes the process, or calls what it is given"
         if harm.seen(Path()) != files:
             return "it changes files"
-        if time.monotonic() - began > ALL:
+        spent = time.process_time() - began_here  # (a busy machine takes longer for it)
+        if spent > ALL or time.monotonic() - began > LONGEST:
             return "it takes too long"
     return "" if done else "no call of it returned"
 

@@ -2,6 +2,8 @@
 harm isn't taken for harmless.
 """
 
+import hashlib
+import importlib.util
 import os
 import random
 import subprocess
@@ -14,7 +16,8 @@ from storklocker.scanning.known import HARMLESS
 
 SCRIPT = PYTHON / "dangers" / "running.py"
 SHARE = 25
-"""How many of the names are run again."""
+"""How many of the names are run again, chosen by what they are: all of them with EVERY."""
+EVERY = "STORKLOCKER_EVERY_NAME" in os.environ
 CALM = ("run", "derived", "absent", "no call of it returned", "it takes too long",
         "it can't be tried", "the process ended")
 HARMFUL = """
@@ -23,6 +26,11 @@ HARMFUL = """
     shutil.rmtree pydoc.locate sqlite3.connect builtins.open sys.exit
     os.putenv codeop.compile_command
 """.split()
+OF_LIBRARIES = """
+    scipy.stats._continuous_distns.norm_gen numpy.lookfor numpy.savez celery.app.backends.by_name
+    toolz.functoolz._restore_curry dateutil.tz.tz.tzfile
+""".split()
+"""Those that only some Pythons have."""
 
 
 def judged(names):
@@ -40,7 +48,8 @@ def judged(names):
 @unittest.skipIf(sys.implementation.name == "pypy", "PyPy tells its audit hooks other things")
 class Running(unittest.TestCase):
     def test_what_does_harm_is_told(self):
-        for name, word in judged(HARMFUL).items():
+        here = [it for it in OF_LIBRARIES if importlib.util.find_spec(it.partition(".")[0])]
+        for name, word in judged(HARMFUL + here).items():
             self.assertFalse(word.startswith(CALM), (name, word))
 
     def test_the_harmless_do_nothing(self):
@@ -49,7 +58,9 @@ class Running(unittest.TestCase):
         self.assertGreater(len(names), 1000)
         for name in names:
             self.assertEqual(import_findings([tuple(name.rsplit(".", 1))]), [], name)
-        shared = random.Random(1).sample(sorted(names), SHARE)
+        names.sort()
+        chosen = random.Random(hashlib.sha256(" ".join(names).encode()).hexdigest())
+        shared = names if EVERY else chosen.sample(names, SHARE)
         for name, word in judged(shared).items():
             self.assertTrue(word.startswith(CALM), (name, word))
 
