@@ -33,9 +33,11 @@ def known_state(kind: Any, state: Any) -> Any:
         raise Misused(f"the state of a {kind.__name__} is of no known kind")
     if not _is_of_pandas(kind):
         return state
-    if type(state) is tuple and len(state) == 2:
-        return uncached(state[0]), uncached(state[1])
-    return uncached(state)
+    is_pair = type(state) is tuple and len(state) == 2
+    rows = state if is_pair else (state, None)
+    if not all(it is None or isinstance(it, dict) for it in rows):  # (of old versions of pandas)
+        raise Misused(f"the state of a {kind.__name__} is of no known kind")
+    return tuple(map(uncached, rows)) if is_pair else uncached(state)
 
 
 @functools.lru_cache(maxsize=1024)
