@@ -97,6 +97,15 @@ class Budget:
             raise TooMuch(f"it has more than {most:,} members: the rest was not read")
         self.spend()
 
+    def has_members(self, count: int) -> bool:
+        """Whether so many members of a container may still be read."""
+        return count <= self._members
+
+    def spend_members(self, count: int) -> None:
+        """Counts members of a container that are read together."""
+        self._members -= count
+        self.spend(count * STEP // 2)
+
     def spend_pickle(self, size: int = 0) -> None:
         """Counts a pickle of a row, of which so many bytes are looked at."""
         self._pickles -= 1

@@ -6,13 +6,14 @@ import zlib
 from typing import TYPE_CHECKING, Iterable
 
 from .._reasons import Reason
+from .blocks import is_harmful_pair
 from .budget import Budget
 from .marks import TIME
 from .names import NOTHING, WIDEST, imports_within, verdict_at
 from .readings import Found, Place
 from .source import BLOCK, Source
 from .spelled import LENGTHS
-from .stores import imports_at, is_harmful_pair, is_value
+from .stores import imports_at, is_value
 
 if TYPE_CHECKING:
     from .._pairs import Names

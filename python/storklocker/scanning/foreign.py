@@ -202,7 +202,7 @@ def _first(
         at, data = at + len(block), kept + block
         kept = data[-_MOST_APART:]
         if b"\0" in data:
-            data = data.replace(b"\0", b"")
+            data = data.translate(None, b"\0")
         if it.is_json and b"\\" in data:
             data = _ESCAPED.sub(_unescaped, data)
         if any(mark in data for mark in it.marks):

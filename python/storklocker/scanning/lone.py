@@ -4,7 +4,7 @@ from __future__ import annotations
 
 import functools
 import io
-from typing import TYPE_CHECKING, List, NamedTuple, Optional, Tuple
+from typing import TYPE_CHECKING, List, NamedTuple, Optional, Set, Tuple
 
 from .._checking import check_row
 from .._lists import AllowList, settings_of, within
@@ -26,6 +26,8 @@ if TYPE_CHECKING:
 
 _ROOM = LONGEST
 """The most bytes of encoded imports that are told of here."""
+_KEPT = 1 << 17
+"""So many hashes are kept."""
 
 
 class Told(NamedTuple):
@@ -47,6 +49,8 @@ class Lone:
         self.allow, listed = allow, NOTHING if allow is None else allow
         self._is_limited = limits_costs(listed)
         self._look: Optional[Look] = None
+        self._unfound: Set[int] = set()
+        """The hashes of values of which a guard judges nothing."""
         limits = within(limits_under(allow, BLOCK), listed.limits)
         assert limits is not None
         # (whatever the list says of BUILD, what an import answers is not to be changed)
@@ -80,23 +84,36 @@ class Lone:
             return 0, None
         return verdict.taken, told
 
-    def imports_of_quiet(self, values: List[bytes], listed: AllowList) -> int:
-        """The number of imports of these values, if each is a pickle and nothing else, of which no
-        more is to be told than that it imports what is listed, as `told_of_value` finds it, by one
-        call; or -1.
+    def quiet_of(self, values: List[bytes], listed: AllowList) -> Tuple[int, int]:
+        """How many of the first of these values are each a pickle and nothing else, of which no
+        more is to be told than that it imports what is listed, as `told_of_value` finds it, by few
+        calls; and how many imports these make.
         """
-        data, at = b"".join(values), 0
-        for value in values:
-            end, is_whole = walked(data, at)
-            at += len(value)
-            if end != at or not is_whole:
-                return -1
-        found = None if self._is_limited else check_row(data, listed, limits=self._limits)
-        if not found or len(listed) and self.allow is not None and any(
-            map(self._looked().finds, values)
-        ):
-            return -1
-        return found.imports
+        data, ends = b"".join(values), [] if self._is_limited else _ends_of(values)
+        has_looked = not len(listed) or self.allow is None
+        while ends:
+            found = check_row(data[: ends[-1]], listed, limits=self._limits)
+            count = min(found.pickles, len(ends) - (not found))
+            if found and not has_looked:
+                count, has_looked = self._first_found(values[:count]), True
+            if found and count == len(ends):
+                return count, found.imports
+            del ends[count:]
+        return 0, 0
+
+    def _first_found(self, values: List[bytes]) -> int:
+        """The index of the first of which a guard judges anything; their number if there is none.
+        """
+        finds, unfound = self._looked().finds, self._unfound
+        if len(unfound) > _KEPT:
+            unfound.clear()
+        for number, data in enumerate(values):
+            # (pages have copies of what they had)
+            if hash(data) not in unfound:
+                if finds(data):
+                    return number
+                unfound.add(hash(data))
+        return len(values)
 
     def is_quiet(self, told: Told, data: bytes) -> bool:
         """Whether nothing in a pickle of which this is told is known to do harm, or is judged while
@@ -127,3 +144,17 @@ class Lone:
             return None
         pairs = tuple(map(pair_of, names))
         return Told(pairs, sorted_findings(import_findings(pairs, self.allow)), len(made))
+
+
+def _ends_of(values: List[bytes]) -> List[int]:
+    """Where the first of these values end, one behind another, which are each as long as the pickle
+    at its front.
+    """
+    data, ends, at = b"".join(values), [], 0  # type: bytes, List[int], int
+    for value in values:
+        end, is_whole = walked(data, at)
+        at += len(value)
+        if end != at or not is_whole:
+            break
+        ends.append(at)
+    return ends

@@ -9,7 +9,7 @@ from __future__ import annotations
 import functools
 import re
 import struct
-from typing import Dict, Pattern, Tuple
+from typing import Dict, Pattern, Sequence, Tuple
 
 from .._storklocker import holds
 from .places import METADATA, PART, VALUES
@@ -83,6 +83,15 @@ def is_named(path: str) -> bool:
 def is_unmarked(data: bytes) -> bool:
     """Whether a file that is these bytes has none of the marks of readers."""
     return not (holds(data, _HELD) or beginning(data[:1])[1].match(data))
+
+
+def unmarked_of(values: Sequence[bytes]) -> int:
+    """How many of the first of these files, which begin with PROTO, have no mark of readers."""
+    mark, has_any = beginning(b"\x80")[1].match, holds(b"".join(values), _HELD)
+    for number, data in enumerate(values):
+        if mark(data) or has_any and holds(data, _HELD):
+            return number
+    return len(values)
 
 
 def is_plain(path: str, data: bytes) -> bool:

@@ -4,8 +4,11 @@ from __future__ import annotations
 
 import ast
 import io
-from typing import Any, Dict, Iterator, Optional, Tuple
+import re
+from functools import partial
+from typing import Any, Dict, Iterator, Optional, Sequence, Tuple
 
+from .batches import parts_of
 from .budget import STEP, TooMuch
 from .places import PLACES, VALUES
 from .readings import Found, Place
@@ -16,8 +19,12 @@ from .values import Values
 _LONGEST = 1 << 16
 """The most characters of a line of `.dir`: more take too long to be read."""
 
+_PLAIN = re.compile(r"'([ -&(-\[\]-~]*)', \((0|[1-9][0-9]{0,15}), (0|[1-9][0-9]{0,15})\)")
+"""A line as `dbm.dumb` writes most: to read one as Python does takes longer."""
+
 _Values = Dict[Tuple[int, int], str]
 """The offset and the size of each value, and its key."""
+_Item = Tuple[Tuple[int, int], str]
 
 
 class _Broken(Exception):
@@ -43,7 +50,8 @@ def shelf_reading(place: Place) -> Found:
     if taken:
         yield place.piece("behind a value", taken)
     plain = Values(place, "dbm.dumb")
-    for (start, size), key in values.items():
+    taken_of = partial(_taken_of, place, plain)
+    for (start, size), key in plain.batches.left_of(list(values.items()), taken_of):
         inner = place.inside(key or "''", place.source.part(start, size), "value")
         if not (yield from plain.member(inner)):
             yield from searched(inner, "dbm.dumb")  # (dogpile.cache has more in front)
@@ -51,11 +59,22 @@ def shelf_reading(place: Place) -> Found:
     return True
 
 
+def _taken_of(place: Place, plain: Values, those: Sequence[_Item]) -> int:
+    """How many of the first of these are plain values, which are told later."""
+    found = parts_of(place.source, [part for part, _ in those]) if plain.is_begun else []
+    return plain.taken_of([key or "''" for _, key in those], found) if found else 0
+
+
 def _values(beside: Source, place: Place) -> Optional[_Values]:
     """The values, as `dbm.dumb` reads their places; None if it doesn't read these."""
     found: _Values = {}
     for line in _lines(beside):
         place.budget.spend(STEP + len(line) // 2)
+        plain = _PLAIN.fullmatch(line)
+        if plain:
+            name, start, size = plain.groups()
+            found[(int(start), int(size))] = name
+            continue
         try:
             key, both = ast.literal_eval(line.strip(" \t"))
             key.encode("latin-1")

@@ -17,6 +17,9 @@ LEAST = 4
 """No shorter value imports anything."""
 _HIGH = 0x80
 """The bit of a byte of a number behind which another one follows."""
+_PROTO = 0x80
+_NEAR, _NUMBER = 12, 8
+"""More bytes than the numbers in front of a record; and so many of the second one have that bit."""
 _SIZE = rb"[\x80-\xff]?[\0-\x7f]"
 _FRONTS = (re.compile(_SIZE), re.compile(_SIZE + rb"[\x80-\xff]{0,7}[\0-\x7f]"))
 """What stands in front of a short record: of an index, and of a table."""
@@ -54,9 +57,23 @@ class PlainCells:
         left: List[int] = []
         values: List[bytes] = []
         parts: List[Tuple[int, int]] = []
+        most, whole = len(page) - _NEAR, len(page) - _KEPT_BACK
+        most_size = whole if is_of_table else len(page) // _SHARE
         for cell in cells:
-            at = self._record_at(page, cell, is_of_table)
-            found = self._found(page, at) if at else None
+            size, at, form = page[cell], cell + 1, None
+            if cell < most:
+                if size & _HIGH:
+                    size = 0 if page[at] & _HIGH else (size & ~_HIGH) << 7 | page[at]
+                    at += 1
+                while is_of_table and page[at] & _HIGH and at < cell + _NUMBER:
+                    at += 1
+                if 0 < size < most_size and not (is_of_table and page[at] & _HIGH):
+                    at += is_of_table
+                    form = self._forms.get(page[at : at + page[at]])
+            if form is None or form.size > size or at + size > len(page):
+                at = self._record_at(page, cell, is_of_table)
+                form = self._forms[page[at : at + page[at]]] if at else None
+            found = self._found(page, at, form) if form is not None else None
             if found is None or found and not is_begun:
                 left.append(cell)
                 continue
@@ -93,14 +110,16 @@ class PlainCells:
             form = self._forms[header] = _Form(size, its)
         return form
 
-    def _found(self, page: bytes, at: int) -> Optional[List[Tuple[int, int, bytes]]]:
+    def _found(
+        self, page: bytes, at: int, form: _Form
+    ) -> Optional[List[Tuple[int, int, bytes]]]:
         """The values of a record that are plain pickles, perhaps: from where to where they are, and
         what they are unpacked to. None if another one may import something.
         """
         found = []
-        for place, size in self._forms[page[at : at + page[at]]].values:
+        for place, size in form.values:
             begin, end = at + place, at + place + size
-            if CLAIM.match(page, begin):
+            if page[begin] == _PROTO and CLAIM.match(page, begin):
                 found.append((begin, end, page[begin:end]))
             elif may_import(page, begin, end):
                 value = plainly_unpacked(page[begin:end], self._budget)

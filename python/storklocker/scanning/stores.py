@@ -18,50 +18,26 @@ from typing import (
 
 from .._answers import Verdict
 from .._reasons import Reason
+from .blocks import (
+    FIRST, LONGEST, PROTO, Block, blocks, is_harmful_pair, joined_parts, shown_in
+)
 from .budget import LOOKED_AT, STEP, Budget
-from .dangers import is_harmful, is_suspect, may_be_imported, may_be_there, suspect_heads
+from .dangers import may_be_imported, may_be_there
 from .marks import HDF5, LMDB
 from .names import NOTHING, imports_within
 from .reaching import ALL_STOP, reached
 from .readings import Found, Piece, Place, Reading, is_text
 from .source import BLOCK, Source, in_memory
 from .spelled import LENGTHS
-from .trails import Trail, Trails, texts_in
+from .trails import Trail, Trails
 from .values import Values
 
 if TYPE_CHECKING:
     from .._pairs import Names
 
-_WORD = rb"[A-Za-z_][\w.]{0,99}"
-_BEGINNINGS = tuple(
-    re.compile(begun, re.DOTALL)
-    for begun in (
-        rb"\x80(?=[\0-\x05])",
-        rb"\((?=[dl]p?[0-9]*\n)",
-        rb"c(?=%b\n%b\n)" % (_WORD, _WORD),
-        rb"i(?=%b\n%b\n)" % (_WORD, _WORD),
-        rb"\x8c(?=.%b\x94?\x8c.%b\x94?\x93)" % (_WORD, _WORD),
-    )
-)
-"""PROTO, the front of a dict or a list of protocol 0, or an import, which may begin anywhere in a
-word. A pattern each, because the search for a first byte is fast.
-"""
-_PROTO = _BEGINNINGS[0]
-_SHOWN = re.compile(
-    rb"[ci](%b)\n(%b)\n|\x8c(.)(%b)\x94?\x8c(.)(%b)\x94?\x93" % ((_WORD,) * 4), re.DOTALL
-)
-_NULS = tuple(re.compile(code + rb"(?=([A-Za-z_]\w{0,30})[.\0])") for code in (b"c", b"i"))
-_WITH_NUL, _NAME = re.compile(rb"(%b)\0" % _WORD), re.compile(rb"%b\n" % _WORD)
-"""An import whose module Python finds by what stands in front of a NUL: its first word, all of it,
-and the line with the name.
-"""
-_LONGEST = 1024
-"""More bytes than these patterns match."""
-_SEARCHED_AT = 16
-"""For so many bytes in one step the patterns are looked for."""
 _NEAR = 64
 """How many bytes in front of a trail are tried as the beginning of its pickle."""
-_STEP, _FIRST, _MOST, _FOOTER = 1 << 16, 1 << 12, 1 << 20, 1 << 20
+_MOST, _FOOTER = 1 << 20, 1 << 20
 _GDBM = tuple(
     struct.pack(f"{order}I", number)
     for number in (0x13579ACD, 0x13579ACE, 0x13579ACF, 0x13579AD0, 0x13579AD1)
@@ -107,28 +83,45 @@ def searched(
 
     end_of: where the page ends that has a place, if what follows a page is another matter.
     """
-    source, end, left = place.source, 0, Deque(known)
-    trails, values = Trails(source, place.budget), Values(place, kind)
-    hidden = _joined([part for part in known if part[0] in told])
-    for at, is_text in _beginnings(source, place.budget, hidden):
-        while left and left[0][0] <= at:
-            end = max(end, left.popleft()[1])
-        for trail in trails.followed(at):
-            yield _piece(place, kind, _start_of(trail, place))
-        if is_text and (at >= end or trails.is_at(at)):
-            trails.begin(at)
-        elif is_text or at in told:
-            continue
-        elif at < end and _is_harm(source, at, place.budget):
-            yield _piece(place, kind, at)  # (what seems to be in another may be a value of its own)
-        elif at >= end and _is_plain(source, at, values):
-            end = at + values.last
-        elif at >= end and _is_found(source, at, place.budget):
-            page_end = 0 if end_of is None or _is_harm(source, at, place.budget) else end_of(at)
-            end = at + ((yield _piece(place, kind, at, page_end)) or 0)
+    source, end = place.source, 0
+    trails, values, left = Trails(source, place.budget), Values(place, kind), Deque(known)
+    hidden = joined_parts([part for part in known if part[0] in told])
+    for block in blocks(source, place.budget, hidden, values):
+        block.end = end
+        if values.is_begun:
+            block.look_ahead(left)
+        for at, is_text in block.places(trails, place.budget, not (known or told)):
+            while left and left[0][0] <= at:
+                block.end = max(block.end, left.popleft()[1])
+            for trail in trails.followed(at) if trails.is_any else ():
+                yield _piece(place, kind, _start_of(trail, place))
+            if is_text and (at >= block.end or trails.is_at(at)):
+                trails.begin(at)
+            elif not (is_text or at in told):
+                yield from _looked_at(place, kind, at, block, end_of)
+        block.count()
+        end = block.end
     for trail in trails.followed(source.size):
         yield _piece(place, kind, _start_of(trail, place))
     yield from values.told()
+    return True
+
+
+def _looked_at(
+    place: Place, kind: str, at: int, block: Block, end_of: Optional[Callable[[int], int]]
+) -> Found:
+    """What begins at a place of a block, where no text does."""
+    source, budget, values = place.source, place.budget, block.values
+    if at < block.end:
+        if _is_harm(source, at, budget):
+            yield _piece(place, kind, at)  # (what seems to be in another may be a value of its own)
+    elif at in block.plain:
+        block.take(at)
+    elif _is_plain(source, at, values):
+        block.end = at + values.last
+    elif _is_found(source, at, budget):
+        page_end = 0 if end_of is None or _is_harm(source, at, budget) else end_of(at)
+        block.end = at + ((yield _piece(place, kind, at, page_end)) or 0)
     return True
 
 
@@ -168,95 +161,28 @@ def _schemas(source: Source) -> Iterator[Source]:
         yield in_memory(io.BytesIO(base64.b64decode(text[: len(text) // 4 * 4])))
 
 
-def _joined(parts: Sequence[Tuple[int, int]]) -> List[Tuple[int, int]]:
-    """These parts, which are in order, with those as one that touch."""
-    found: List[Tuple[int, int]] = []
-    for start, end in parts:
-        if found and start <= found[-1][1]:
-            found[-1] = (found[-1][0], max(end, found[-1][1]))
-        else:
-            found.append((start, end))
-    return found
-
-
-def _hidden(block: bytes, start: int, parts: Deque[Tuple[int, int]]) -> bytes:
-    """The block that begins at a place, with zeros for parts. Drops those in front of it."""
-    while parts and parts[0][1] <= start:
-        parts.popleft()
-    if not parts or parts[0][0] >= start + len(block):
-        return block
-    made = bytearray(block)
-    for begin, end in itertools.takewhile(lambda it: it[0] < start + len(block), parts):
-        begin, end = max(begin - start, 0), min(end - start, len(block))
-        made[begin:end] = bytes(end - begin)
-    return bytes(made)
-
-
-def _beginnings(
-    source: Source, budget: Budget, hidden: List[Tuple[int, int]]
-) -> Iterator[Tuple[int, bool]]:
-    """The places that look like the beginning of a pickle, or like a text in one: whether it is a
-    text; but for parts that are hidden.
-    """
-    left = Deque(hidden)
-    for start in range(0, source.size, _STEP):
-        block = _hidden(source.read(start, _STEP + _LONGEST), start, left)
-        budget.spend(len(block) // _SEARCHED_AT)
-        places = [(it.start(), False) for begun in _BEGINNINGS for it in begun.finditer(block)]
-        places += [(at, False) for at in _imports_with_nul(block)]
-        places += [(at, True) for at in texts_in(block)]
-        places.sort()
-        for at, is_text in itertools.takewhile(lambda it: it[0] < _STEP, places):
-            budget.spend(6)
-            yield start + at, is_text
-
-
-def _imports_with_nul(block: bytes) -> Iterator[int]:
-    heads = suspect_heads()
-    for begun in _NULS:
-        line = 0
-        for front in begun.finditer(block):
-            at = front.end()
-            if at >= line:
-                line = block.find(b"\n", at) + 1 or len(block)
-            module = _WITH_NUL.match(block, at) if front.group(1) in heads else None
-            if module and _NAME.match(block, line) and is_suspect(module.group(1).decode()):
-                yield front.start()
-
-
 def _is_plain(source: Source, at: int, values: Values) -> bool:
     """Whether a plain value begins at a place, which is told later."""
-    return source.read(at, 1) == b"\x80" and values.taken(source.read(at, _FIRST)) > 0
+    return source.read(at, 1) == b"\x80" and values.taken(source.read(at, FIRST)) > 0
 
 
 def _is_harm(source: Source, at: int, budget: Budget) -> bool:
     """Whether a pickle there imports something that is known to do harm; where an import stands,
     whether that does. (Each other one has a place of its own.)
     """
-    shown = _shown_at(source, at)
+    shown = shown_in(source.read(at, LONGEST), 0)
     budget.spend()
     found = imports_at(source, at, budget).names if shown is None else [shown]
     return any(map(is_harmful_pair, found))
 
 
-def _shown_at(source: Source, at: int) -> Optional["Names"]:
-    """The names of an import that stands at a place, if they are shown there."""
-    found = _SHOWN.match(source.read(at, _LONGEST))
-    if found is None:
-        return None
-    by_lines, name, size, module, behind, own = found.groups()
-    if by_lines is not None:
-        return by_lines, name
-    return (module, own) if len(module) == size[0] and len(own) == behind[0] else None
-
-
 def _is_found(source: Source, at: int, budget: Budget) -> bool:
     """Whether a pickle begins at a place to which a search comes."""
-    shown = _shown_at(source, at)
+    shown = shown_in(source.read(at, LONGEST), 0)
     if shown is None:
         return is_pickle(source, at, budget)
     budget.spend(3 * STEP)  # (the search comes to other imports by themselves)
-    return is_harmful_pair(shown) or bool(imports_within(source.read(at, _FIRST), NOTHING).verdict)
+    return is_harmful_pair(shown) or bool(imports_within(source.read(at, FIRST), NOTHING).verdict)
 
 
 def is_pickle(source: Source, at: int, budget: Budget) -> bool:
@@ -277,7 +203,7 @@ def is_value(source: Source, budget: Budget) -> bool:
     """
     front = source.read(0, 2)
     if front[:1] == b"\x80":
-        return _PROTO.match(front) is not None and is_pickle(source, 0, budget)
+        return PROTO.match(front) is not None and is_pickle(source, 0, budget)
     if front[0] not in LENGTHS:
         return False
     found = imports_at(source, 0, budget)
@@ -301,7 +227,7 @@ class _Imports(NamedTuple):
 
 def imports_at(source: Source, at: int, budget: Budget) -> _Imports:
     """What a pickle there imports; or some of it, if that has PROTO in front or does harm."""
-    size = _FIRST
+    size = FIRST
     while True:
         data = source.read(at, size)
         found = imports_within(data, NOTHING)
@@ -340,13 +266,6 @@ def _is_asked_by(may_be: Callable[[str, str], bool]) -> Callable[["Names"], bool
         return may_be(module.decode("utf-8", "replace"), name.decode("utf-8", "replace"))
 
     return is_asked
-
-
-def is_harmful_pair(names: "Names") -> bool:
-    module, name = names
-    if module is None or name is None:
-        return False
-    return is_harmful(module.decode("utf-8", "replace"), name.decode("utf-8", "replace"))
 
 
 STORES: Dict[str, Reading] = {name: _reading(name) for name in _MAGICS}

@@ -3,18 +3,23 @@
 from __future__ import annotations
 
 import io
+import itertools
 import re
 import tarfile
 from functools import partial
-from typing import Any, Dict, Iterator, List, Optional, Tuple
+from typing import Any, Dict, Iterator, List, Optional, Sequence, Tuple, Union
 
+from .batches import parts_of
 from .packed import behind_zeros
 from .readings import Found, Place
 from .places import places_of
 from .source import Source, in_memory
+from .tar_headers import HEADER, Plain, plain_members
 from .values import Values
 
-_BLOCK = 512
+_BLOCK = HEADER
+_TOGETHER = 256
+"""So many plain members are read together."""
 _MAGIC, _CHECKSUM = slice(257, 262), slice(148, 156)
 _NUMBERS = tuple(slice(at, end) for at, end in ((100, 108), (108, 116), (116, 124), (124, 136)))
 _TIME = slice(136, 148)
@@ -122,8 +127,12 @@ def tar_reading(place: Place) -> Found:
         odd.append("it begins with zeros")
     try:
         archive = _Archive(fileobj=source.opened(), mode="r", ignore_zeros=True)
-        for entry, other in _entries(place, archive, odd):
-            yield from values.member(_member(place, archive, entry, other))
+        for entry, other in _entries(place, archive, odd, values):
+            yield from values.member(
+                _member(place, archive, entry, other)
+                if isinstance(entry, tarfile.TarInfo)
+                else place.inside(entry.name, source.part(entry.at, entry.size), "tar member")
+            )
     except _FAULTS as error:
         odd.append(str(error))
     yield from values.told()
@@ -133,8 +142,8 @@ def tar_reading(place: Place) -> Found:
 
 
 def _entries(
-    place: Place, archive: _Archive, odd: List[str]
-) -> Iterator[Tuple[tarfile.TarInfo, Optional[tarfile.TarInfo]]]:
+    place: Place, archive: _Archive, odd: List[str], values: Values
+) -> Iterator[Tuple[Union[tarfile.TarInfo, Plain], Optional[tarfile.TarInfo]]]:
     """The members with contents, each with that of the places of its values. The latter may follow,
     so members with values come last.
     """
@@ -143,6 +152,10 @@ def _entries(
     late: List[tarfile.TarInfo] = []
     try:
         while True:
+            if count and not (archive.ends or archive.pax_headers):
+                for plain in _plain(place, archive, values):
+                    place.budget.spend_member()
+                    yield plain, None
             entry, count = archive.following(count), count + 1
             if entry is None:
                 break
@@ -160,6 +173,27 @@ def _entries(
     except _FAULTS as error:
         odd.append(str(error))
     yield from ((entry, named.get(places_of(entry.name))) for entry in late)
+
+
+def _plain(place: Place, archive: _Archive, values: Values) -> Iterator[Plain]:
+    """The plain members that follow, but for those that are told later."""
+    members = plain_members(place.source, archive.offset)
+    while True:
+        those = list(itertools.islice(members, _TOGETHER))
+        if not those:
+            return
+        archive.offset = those[-1].end
+        yield from values.batches.left_of(those, partial(_taken_of, place, values))
+
+
+def _taken_of(place: Place, values: Values, those: Sequence[Plain]) -> int:
+    """How many of the first of these are plain values, which are told later."""
+    if not (values.is_begun and place.budget.has_members(len(those))):
+        return 0
+    found = parts_of(place.source, [(it.at, it.size) for it in those])
+    count = values.taken_of([it.name for it in those], found) if found else 0
+    place.budget.spend_members(count)
+    return count
 
 
 def may_be_tar(front: bytes) -> bool:

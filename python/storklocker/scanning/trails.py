@@ -114,6 +114,11 @@ class Trails:
         self._line_at, self._line_end = 0, -1
         self._steps = 0
 
+    @property
+    def is_any(self) -> bool:
+        """Whether one is followed."""
+        return bool(self._places)
+
     def is_at(self, at: int) -> bool:
         """Whether a trail gets to a place."""
         return at in self._trails

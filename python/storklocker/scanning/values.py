@@ -2,13 +2,16 @@
 
 from __future__ import annotations
 
-from typing import Dict, Iterator, List, Optional
+from typing import Dict, Iterator, List, Optional, Tuple
 
 from .._lists import AllowList
 from .._pairs import bytes_of_pair
+from .batches import Batches
 from .budget import LOOKED_AT, STEP
 from .lone import Told
+from .marks import is_named, unmarked_of
 from .readings import Found, Place, Together, examine
+from .report import LONGEST
 from .rows import CLAIM
 from .source import BLOCK
 
@@ -30,32 +33,61 @@ class Values:
         self._seen = self._count = self._size = self._imports = self.last = 0
         self._told: Dict[int, Told] = {}
         self._listed: Optional[AllowList] = None
+        self.batches = Batches()
+        """Those in which values are looked at."""
 
     @property
     def is_begun(self) -> bool:
         """Whether some are told later, so that more may be by one call."""
         return self._count > 0
 
-    def are_taken(self, values: List[bytes]) -> bool:
-        """Whether all of these are plain pickles with imports that others had, and nothing else.
-        They are told later.
+    def quiet_of(self, values: List[bytes]) -> Tuple[int, int]:
+        """How many of the first of these are plain pickles with imports that others had, and
+        nothing else; and how many imports these make.
         """
         if self._lone is None or not self._count or len(self._told) > _MOST:
-            return False
+            return 0, 0
         if self._listed is None:
             pairs = {pair for told in self._told.values() for pair in told.imports}
             names = [bytes_of_pair((module or "", name or "")) for module, name in pairs]
             self._listed = AllowList._of(names, None, None)
         size = sum(map(len, values))
-        self._budget.spend(len(values) + size // LOOKED_AT)
-        imports = self._lone.imports_of_quiet(values, self._listed)
-        if imports < 0:
-            return False
+        self._budget.spend(STEP // 2 * len(values) + size // LOOKED_AT)
+        return self._lone.quiet_of(values, self._listed)
+
+    def count(self, number: int, size: int, imports: int) -> None:
+        """Counts values that are told later: so many, of so many bytes, with so many imports."""
         self._imports += imports
-        self._seen += len(values)
-        self._count += len(values)
+        self._seen += number
+        self._count += number
         self._size += size
+
+    def are_taken(self, values: List[bytes]) -> bool:
+        """Whether all of these are plain pickles with imports that others had, and nothing else.
+        They are told later.
+        """
+        count, imports = self.quiet_of(values)
+        if count < len(values):
+            return False
+        self.count(count, sum(map(len, values)), imports)
         return True
+
+    def taken_of(self, names: List[str], values: List[bytes]) -> int:
+        """How many of the first of these, in members with these names, are plain pickles, and
+        nothing else, of which no other reader has to be asked. They are told later.
+        """
+        if not self._count:
+            return 0
+        are_alone = zip(map(is_named, names), names, map(CLAIM.match, values))
+        most = next(
+            (number for number, (is_named_so, name, claim) in enumerate(are_alone)
+             if is_named_so or not claim or not 0 < len(name) <= LONGEST),
+            len(values),
+        )
+        most = unmarked_of(values[:most])
+        count, imports = self.quiet_of(values[:most]) if most else (0, 0)
+        self.count(count, sum(map(len, values[:count])), imports)
+        return count
 
     def taken(self, data: bytes) -> int:
         """The length of the plain pickle at the front of the bytes, which is told later; 0 if there

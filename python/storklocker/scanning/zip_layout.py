@@ -11,7 +11,7 @@ import re
 import struct
 from typing import Any, Iterator, List, NamedTuple, Optional
 
-from .source import Source
+from .source import BLOCK, Source
 
 _END = struct.Struct("<4s4H2LH")
 _LOCATOR = struct.Struct("<4sLQL")
@@ -32,6 +32,11 @@ _HEADER = re.compile(rb"PK(?:\x03\x04.{4}[\0-\x63]\0|\x05\x06\0{4})", re.DOTALL)
 """A header of a member, by its way of packing, or an end record: one that unpacks itself has their
 first bytes among its instructions.
 """
+FRONT = _LOCAL.size + 1024
+"""More bytes than most local headers have without the name."""
+_MOST_OF_ENTRY = _CENTRAL.size + 2 * ((1 << 16) - 1)
+_WINDOW = 4 * _MOST_OF_ENTRY
+"""The most bytes of an entry without its comment; and so many bytes are read at once."""
 _NONE16, _NONE32 = (1 << 16) - 1, (1 << 32) - 1
 _DESCRIBED = 8
 """The flag of a member whose sizes stand behind its data."""
@@ -54,6 +59,8 @@ class Entry(NamedTuple):
     @property
     def text(self) -> str:
         """The name."""
+        if self.name.isascii():
+            return self.name.decode("ascii")  # (that is how both begin, and takes less time)
         return self.name.decode("utf-8" if self.flags & 0x800 else "cp437", "replace")
 
 
@@ -125,16 +132,19 @@ def _large(source: Source, plain: Directory) -> Optional[Directory]:
 def entries(source: Source, start: int, found: Directory) -> Iterator[Entry]:
     """The members of a directory, from an offset on, until one can't be read."""
     at, end = start, start + found.size
+    data, base = b"", 0
     while at + _CENTRAL.size <= end:
-        record = source.read(at, _CENTRAL.size)
-        if len(record) < _CENTRAL.size or record[:4] != _CENTRAL_MARK:
+        if not 0 <= at - base <= len(data) - _MOST_OF_ENTRY:
+            data, base = source.read(at, _WINDOW), at
+        place = at - base + _CENTRAL.size
+        if len(data) < place or data[at - base : at - base + 4] != _CENTRAL_MARK:
             return
         (_, _, _, _, flags, method, _, _, crc, packed, size, names, extras, comments, disk, _, _,
-         offset) = _CENTRAL.unpack(record)
-        name = source.read(at + _CENTRAL.size, names)
-        extra = source.read(at + _CENTRAL.size + names, extras)
-        entry = Entry(name, flags, method, crc, packed, size, offset, disk not in (0, _NONE16))
-        yield _with_extra(entry, extra)
+         offset) = _CENTRAL.unpack_from(data, at - base)
+        name, extra = data[place : place + names], data[place + names : place + names + extras]
+        is_odd = disk not in (0, _NONE16)
+        entry = Entry(name, flags, method, crc, packed, size, offset, is_odd)
+        yield _with_extra(entry, extra) if extra else entry
         at += _CENTRAL.size + names + extras + comments
 
 
@@ -167,6 +177,15 @@ class Local(NamedTuple):
     data: int
 
 
+def content_of(data: bytes, size: int) -> bytes:
+    """So many bytes behind the local header that begins these; fewer if they end."""
+    if len(data) < _LOCAL.size:
+        return b""
+    *_, names, extras = _LOCAL.unpack_from(data)
+    begin = _LOCAL.size + int(names) + int(extras)
+    return data[begin : begin + size]
+
+
 def local_at(source: Source, at: int) -> Optional[Local]:
     """The local header at an offset."""
     record = source.read(at, _LOCAL.size) if at >= 0 else b""
@@ -196,11 +215,28 @@ def fault_of(source: Source, found: Directory, listed: List[Entry]) -> str:
     begin = members[0].at if members else ends[0]
     if begin and not _is_program(source, begin, bool(members)):
         return "its first bytes are of no member"
+    data, base = b"", 0
     for entry, end in zip(members, ends):
+        if not 0 <= entry.at - base <= len(data) - _LOCAL.size - len(entry.name):
+            data, base = source.read(entry.at, BLOCK), entry.at
+        if _is_followed(data, entry.at - base, entry, end - base):
+            continue
         fault = _member_fault(source, entry, end)
         if fault:
             return f"{entry.text[:80]!r}: {fault}"
     return ""
+
+
+def _is_followed(data: bytes, at: int, entry: Entry, end: int) -> bool:
+    """Whether a member with a plain header at a place of these bytes ends at another."""
+    if entry.is_odd or entry.flags & _DESCRIBED or len(data) < at + _LOCAL.size:
+        return False
+    mark, _, flags, method, _, _, crc, packed, size, names, extras = _LOCAL.unpack_from(data, at)
+    its, at = (flags, method, crc, packed, size), at + _LOCAL.size
+    if mark != LOCAL or its != entry[1:6] or _NONE32 in its:
+        return False
+    name = data[at : at + names]
+    return at + names + extras + packed == end and name == entry.name and b"\0" not in name
 
 
 def _is_program(source: Source, size: int, has_members: bool) -> bool:

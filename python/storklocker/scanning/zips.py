@@ -6,8 +6,11 @@ import re
 import zlib
 from collections import Counter
 from functools import partial
-from typing import Any, Callable, Dict, Iterator, List, NamedTuple, Optional, Set, Tuple
+from typing import (
+    Any, Callable, Dict, Iterator, List, NamedTuple, Optional, Sequence, Set, Tuple
+)
 
+from .batches import parts_of
 from .budget import LOOKED_AT, PROBED, STEP
 from .checkpoints import checkpoint_reading
 from .foreign import foreign_members
@@ -15,8 +18,11 @@ from .packed import MEMORY, NO_MODULE, bzip2, unpack
 from .readings import Found, Place
 from .places import places_of
 from .source import BLOCK, Source, in_memory
+from .rows import CLAIM
 from .values import Values
-from .zip_layout import END, LOCAL, Directory, Entry, directories, entries, fault_of, local_at
+from .zip_layout import (
+    END, FRONT, LOCAL, Directory, Entry, content_of, directories, entries, fault_of, local_at
+)
 
 _HIDDEN = 0x61
 """The flags of members that are encrypted or patched."""
@@ -59,7 +65,7 @@ def zip_reading(place: Place) -> Found:
         fault, is_read = fault_of(source, read.directory, read.members), True
         for it in foreign_members(entry.text for entry in read.members):
             yield place.foreign(it)
-        yield from _members(place, read.members, read.shift, seen)
+        yield from _members(place, read.members, read.shift, seen, not fault)
         if not fault:
             place.budget.zips.add(_place_of(source, read))
             return True
@@ -68,7 +74,7 @@ def zip_reading(place: Place) -> Found:
     if fault and not is_parted:
         kind = "differing-readings" if is_read else "broken-container"
         yield place.unread("zip", kind, f"{fault}: readers differ")
-        yield from _members(place, _streamed(source), 0, seen)
+        yield from _members(place, _streamed(source), 0, seen, False)
     return bool(fault) or is_parted
 
 
@@ -101,14 +107,15 @@ def _streamed(source: Source) -> List[Entry]:
 
 
 def _members(
-    place: Place, members: List[Entry], shift: int, seen: Set[Tuple[int, ...]]
+    place: Place, members: List[Entry], shift: int, seen: Set[Tuple[int, ...]], is_strict: bool
 ) -> Found:
     """The members that weren't seen yet, by where they are and what their headers say."""
-    yield from _twice(place, members)
-    moved = [entry._replace(at=entry.at + shift) for entry in members]
-    named = {entry.text: entry for entry in moved}
-    values = Values(place, "zip")
-    for entry in moved:
+    texts = [entry.text for entry in members]
+    yield from _twice(place, texts)
+    moved = [entry._replace(at=entry.at + shift) for entry in members] if shift else members
+    named, values = dict(zip(texts, moved)), Values(place, "zip")
+    taken_of = partial(_taken_of, place, values)
+    for entry in values.batches.left_of(moved, taken_of) if is_strict else moved:
         key = (entry.at, entry.flags, entry.method, entry.packed)
         if key in seen:
             continue
@@ -120,11 +127,53 @@ def _members(
     return True
 
 
-def _twice(place: Place, members: List[Entry]) -> Found:
+def _taken_of(place: Place, values: Values, those: Sequence[Entry]) -> int:
+    """How many of the first of these, of a file that is laid out strictly, are plain values, which
+    are told later.
+    """
+    if not (values.is_begun and place.budget.has_members(len(those))):
+        return 0
+    names, held, unpacked = [], [], []  # type: List[str], List[bytes], List[int]
+    found = parts_of(place.source, [(it.at, FRONT + len(it.name) + it.packed) for it in those])
+    for entry, data in zip(those, found):
+        name, content = entry.text, _plain_content(entry, data)
+        if not CLAIM.match(content) or _STORAGE.fullmatch(name):
+            break
+        names.append(name)
+        held.append(content)
+        unpacked.append(len(content) if entry.method == _DEFLATED else 0)
+    place.budget.spend(sum(unpacked) // LOOKED_AT)
+    count = values.taken_of(names, held) if held else 0
+    place.budget.spend_members(count)
+    place.budget.spend_bytes(sum(unpacked[:count]))
+    return count
+
+
+def _plain_content(entry: Entry, data: bytes) -> bytes:
+    """What a small member holds, whose local header begins these bytes; nothing if more is to be
+    told of it.
+    """
+    found = content_of(data, entry.packed)
+    if entry.flags & _HIDDEN or entry.size > BLOCK or len(found) != entry.packed:
+        return b""
+    if entry.method == _DEFLATED:
+        made = zlib.decompressobj(-15)
+        try:
+            found = made.decompress(found, BLOCK + 1)
+        except zlib.error:
+            return b""
+        if made.unused_data or not made.eof:
+            return b""
+    elif entry.method != _STORED:
+        return b""
+    return found if len(found) == entry.size and zlib.crc32(found) == entry.crc else b""
+
+
+def _twice(place: Place, texts: List[str]) -> Found:
     """Names that two members have. Readers differ in which they use."""
-    names = [entry.text.partition("\0")[0] for entry in members]
-    twice = [name for name, count in Counter(names).items() if count > 1]
-    if twice:
+    names = [text.partition("\0")[0] for text in texts]
+    if len(set(names)) < len(names):
+        twice = [name for name, count in Counter(names).items() if count > 1]
         why = f"{len(twice)} names are of two members, such as {twice[0][:80]!r}: readers differ"
         yield place.unread("zip", "differing-readings", why)
     pickles = sum(name.rpartition("/")[2].lower() == "data.pkl" for name in names)
