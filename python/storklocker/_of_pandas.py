@@ -367,7 +367,8 @@ def sparse_state(reader: Reader, array: Any, state: Any) -> Any:
     if type(state) is not dict:
         raise Misused("the state of a sparse array of pandas is of no known kind")
     judge_attributes(array, state.items(), False)
-    places, held = state.get("_sparse_index"), state.get("_sparse_values")
+    places: Any = state.get("_sparse_index")
+    held: Any = state.get("_sparse_values")
     is_one = isinstance(places, SparseIndex) and is_array(reader, held)
     if not is_one or len(held) != places.npoints:
         raise Misused("the state of a sparse array of pandas is of no known kind")
