@@ -10,6 +10,13 @@ from storklocker import lists
 NEEDS = ("numpy", "pandas", "sklearn")
 
 
+def without_caches(value):
+    """The same, without what the types of its columns have cached, which a guard leaves out."""
+    for kind in value.dtypes if hasattr(value, "columns") else ():
+        getattr(kind, "_cache", {}).clear()
+    return value
+
+
 def run():
     """Every object, in each protocol, is accepted under its list and loads as it was."""
     warnings.simplefilter("ignore")
@@ -25,7 +32,7 @@ def run():
                 loaded = guard.loads(data)
                 assert type(loaded) is type(value), told
                 # (one more way round writes the same bytes, where two of Python's readers do)
-                again = pickle.dumps(pickle.loads(data), protocol)
-                assert len(pickle.dumps(loaded, protocol)) == len(again), told
+                again = pickle.dumps(without_caches(pickle.loads(data)), protocol)
+                assert len(pickle.dumps(without_caches(loaded), protocol)) == len(again), told
     together = lists.STANDARD_TYPES | lists.DATETIME | lists.COLLECTIONS
     assert len(together) > len(lists.STANDARD_TYPES)

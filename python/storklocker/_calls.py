@@ -213,15 +213,16 @@ def shown(module: str, name: str) -> Remembering:
     return made
 
 
-def _group(name: str) -> Remembering:
-    """A group of exceptions, which are counted one by one."""
+def _copying(module: str, name: str, count: int, kinds: Tuple[type, ...]) -> Remembering:
+    """An exception that, called with so many arguments, copies the second unless it is bytes."""
     def judged(reader: Reader, *given: Any) -> Any:
-        if len(given) != 2 or type(given[0]) is not str or type(given[1]) not in (list, tuple):
-            raise wrong(name)
-        reader.pay(len(given[1]))
+        if len(given) == count:
+            if type(given[1]) not in kinds:
+                raise wrong(name)
+            reader.pay(0 if type(given[1]) is bytes else len(given[1]))
         return made.real()(*given)
 
-    made = Remembering(f"builtins.{name}", judged, BECOMES_REAL | IS_JUDGED)
+    made = Remembering(f"{module}.{name}", judged, BECOMES_REAL | IS_JUDGED)
     return made
 
 
@@ -240,6 +241,15 @@ _SHOWN = {
     " UnnamedSectionDisabledError InvalidWriteError",
     "json.decoder": "JSONDecodeError",
     "asyncio.exceptions": "IncompleteReadError LimitOverrunError",
+}
+_COPYING: Dict[Tuple[str, str], Tuple[int, Tuple[type, ...]]] = {
+    ("builtins", "BaseExceptionGroup"): (2, (list, tuple)),
+    ("builtins", "ExceptionGroup"): (2, (list, tuple)),
+    ("builtins", "IndentationError"): (2, (list, tuple)),
+    ("builtins", "SyntaxError"): (2, (list, tuple)),
+    ("builtins", "TabError"): (2, (list, tuple)),
+    ("builtins", "UnicodeDecodeError"): (5, (bytes, bytearray)),
+    ("xml.etree.ElementTree", "ParseError"): (2, (list, tuple)),
 }
 
 TABLE: Dict[Tuple[str, str], Substitute] = dict(
@@ -263,7 +273,7 @@ TABLE: Dict[Tuple[str, str], Substitute] = dict(
             for at in ("pathlib", "pathlib._local")
         ),
         *(((at, name), shown(at, name)) for at in _SHOWN for name in _SHOWN[at].split()),
-        *((("builtins", name), _group(name)) for name in ("ExceptionGroup", "BaseExceptionGroup")),
+        *((pair, _copying(*pair, *how)) for pair, how in _COPYING.items()),
         (("decimal", "DecimalTuple"), Class("decimal.DecimalTuple", news=takes_fields)),
         (("uuid", "UUID"), Class("uuid.UUID", call=_uuid, role=OF_TEXT | NEW_OF_NONE)),
     ]

@@ -11,8 +11,8 @@ NAMES = {
     "_codecs": "encode",
     "array": "array _array_reconstructor",
     "asyncio.exceptions": "IncompleteReadError LimitOverrunError",
-    "builtins": "BaseExceptionGroup ExceptionGroup bytes bytearray complex dict frozenset int list"
-    " range set slice tuple",
+    "builtins": "BaseExceptionGroup ExceptionGroup IndentationError SyntaxError TabError"
+    " UnicodeDecodeError bytes bytearray complex dict frozenset int list range set slice tuple",
     "collections": "ChainMap Counter OrderedDict UserDict UserList UserString defaultdict deque",
     "configparser": "Error NoSectionError DuplicateSectionError DuplicateOptionError NoOptionError"
     " InterpolationError InterpolationMissingOptionError InterpolationSyntaxError"
@@ -28,6 +28,7 @@ NAMES = {
     "pathlib._local": _PATHS,
     "pytz": "_UTC",
     "uuid": "UUID",
+    "xml.etree.ElementTree": "ParseError",
 }
 """Those of modules of which few names are dangerous."""
 PACKAGES = (

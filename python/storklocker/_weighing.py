@@ -20,6 +20,7 @@ MOST, DEEPEST = 1_000_000, 1_000
 """The most parts and levels of a value, as a tree: those that a key may have by default."""
 SHOWN = 14_000
 """The most bits of a number that is shown: somewhat less than CPython's 4,300 digits."""
+SHOWN_DIGITS = 4_000
 SCALARS = (
     type(None), bool, int, float, complex, str, bytes, bytearray, type(...), datetime.date,
     datetime.datetime, datetime.time, datetime.timedelta, datetime.timezone,
@@ -112,6 +113,11 @@ class Scales:
         if numpy is not None and isinstance(part, (numpy.ndarray, numpy.generic)):
             held: List[Any] = part.ravel().tolist() if part.dtype.hasobject else []
             return held
+        decimal: Any = sys.modules.get("decimal")
+        if decimal is not None and isinstance(part, decimal.Decimal):
+            if abs(part.adjusted()) > SHOWN_DIGITS:  # (`%d` writes them all)
+                raise Misused("a number that is shown has too many digits")
+            return [decimal.Decimal.__str__(part)]
         is_lazy = hasattr(kind, "__iter__") or hasattr(kind, "__getitem__")
         if is_lazy and not isinstance(part, _ROWS):
             raise Misused(f"a {kind.__name__} is given for a plain value")
