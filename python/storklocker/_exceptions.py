@@ -11,9 +11,13 @@ from __future__ import annotations
 import functools
 import pathlib
 import types
-from typing import Any, Dict, Tuple
+from typing import TYPE_CHECKING, Any, Dict, Tuple
 
 from ._answers import Misused, told
+from ._weighing import CONTAINERS, values
+
+if TYPE_CHECKING:
+    from ._substitutes import Reader
 
 LEVELS = 100
 """How many exceptions may lie within one another."""
@@ -82,6 +86,19 @@ def _judge_attribute(kind: type, members: Dict[str, Any], name: str, value: Any)
             raise Misused(f"the state of an exception sets {name!r:.80} to {told(value)}")
     elif callable(getattr(kind, name, None)):
         raise Misused(f"the state of an exception sets {name!r:.80}, a method of its class")
+
+
+def judge_hashed(reader: Reader, kind: Any, state: Any) -> None:
+    """Judges the state of an exception with a hash of its own, such as Django's, which hashes its
+    message, its code, and the values of its parameters.
+    """
+    if kind.__hash__ is BaseException.__hash__ or not isinstance(state, dict):
+        return
+    for name in ("message", "code", "params"):
+        value = dict.get(state, name)
+        for part in dict.values(value) if type(value) is dict else (value,):
+            if type(part) in CONTAINERS:
+                values(reader, part)
 
 
 def judge_error(levels: _Levels, error: Any) -> None:

@@ -23,7 +23,10 @@ def judge_of(kind: Any) -> Optional[Callable[[Any], bool]]:
     module = kind.__module__
     if type(module) is not str or issubclass(kind, BaseException):
         return None
-    return _refuse if module in _STATELESS else _KNOWN.get((module, kind.__qualname__))
+    if module in _STATELESS:
+        return _refuse
+    names = ((base.__module__, base.__qualname__) for base in kind.__mro__)
+    return next((_KNOWN[name] for name in names if name in _KNOWN), None)
 
 
 def known_state(kind: Any, state: Any) -> Any:
@@ -72,8 +75,24 @@ def _is_of_uuid(state: Any) -> bool:
     return is_known and 0 <= state["int"] < 1 << _BITS
 
 
+def _is_of_lists(state: Any) -> bool:
+    """Whether what Django takes for lists, whose items it copies, are lists."""
+    held = state.get("_data", {}) if type(state) is dict else None
+    return type(held) is dict and all(type(it) in (list, tuple) for it in held.values())
+
+
+def _is_of_cookie(state: Any) -> bool:
+    """Whether a cookie's parts, which Python shows to look for odd characters, are short."""
+    return type(state) is dict and all(
+        type(it) in (str, bool, float, type(None)) or type(it) is int and it.bit_length() <= _BITS
+        for it in state.values()
+    )
+
+
 _KNOWN: Dict[Tuple[str, str], Callable[[Any], bool]] = {
     ("collections", "UserString"): _is_of_text,
+    ("django.utils.datastructures", "MultiValueDict"): _is_of_lists,
+    ("http.cookies", "Morsel"): _is_of_cookie,
     ("uuid", "UUID"): _is_of_uuid,
 }
 
