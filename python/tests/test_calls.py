@@ -5,6 +5,7 @@ import io
 import json
 import os
 import pickle
+import pickletools
 import subprocess
 import time
 import unittest
@@ -47,6 +48,14 @@ def ran(data):
 
 
 class Calls(unittest.TestCase):
+    def test_instructions_that_lack_what_they_take(self):
+        """The walk ends there, and the calls before are told."""
+        for it in pickletools.opcodes:
+            for front in (b"", b"N", b"(", b"(N"):
+                data = b"cos\nsystem\n(S'x'\ntR0" + front + it.code.encode("latin-1")
+                with self.subTest(name=it.name, front=front):
+                    self.assertEqual(calls_in(data), {"os.system": ["os.system(\"x\")"]})
+
     setUp, put = test_scanning.Scanning.setUp, test_scanning.Scanning.put
     run_command = test_scanning.Scanning.run_command
 

@@ -19,6 +19,7 @@ from .names import named_today, pair_of
 from .report import LONGEST, Finding, shown
 from .severity import DANGER
 from .source import Source
+from .spelled import Stop
 
 LENGTH = 200
 """The most characters of a call."""
@@ -175,7 +176,9 @@ class Calls(Walk):
 
     def reduced(self, act: _Act, count: int) -> None:
         """An instruction that takes a function and its arguments, and perhaps named ones."""
-        function, *given = self._stack[len(self._stack) - count :]
+        if len(self._stack) < count:
+            raise Stop  # (no reader goes on)
+        function, *given = self._stack[-count:]
         act(self)
         words: List[Any] = []
         for star, it in zip(("*", "**"), given):
