@@ -22,7 +22,7 @@ MOST_WORDS = 13_000
 MOST_CLICKS = 2
 # A sentence of so many words stands in one document only.
 LONG_SENTENCE = 9
-# What docs/PROMISES.md says, shown.
+# What docs/THEOREM.md says in words, shown.
 SESSION = "examples/yes-and-no.txt"
 # The documents that don't count: a reader looks things up in them.
 NO_PAPERS = re.compile(r"docs/THEOREM\.md|CHANGELOG\.md|LICEN[CS]E.*")

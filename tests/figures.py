@@ -192,20 +192,40 @@ def old_contents() -> Iterator[Fault]:
         yield Fault("release/sbom.spdx.json", 0, line)
 
 
+# The definitions that the contract of `check` names, and those of other calls, as the list in
+# docs/THEOREM.md calls them.
+CHECK = {"pkcheck/Accepted", "pkcheck/Refused", "pkcheck/Answered", "pkmachine/Policies"}
+OTHER_CALLS = {
+    "a stream of pickles": {"pkcheck/RowOfPickles"},
+    "the imports before a refusal": {"pkcheck/WithImports"},
+    "a check with an observer": {"pkcheck/Heard"},
+    "a check within limits on costs": {"pkload/Costly", "pkload/Loading", "pkload/Tolls"},
+    "the optimizer": {"pkopt/Answer"},
+    "JSON": {"pkjson/Export"},
+}
+
+
 def wrong_closure() -> Iterator[Fault]:
     """Definitions that docs/THEOREM.md doesn't list as trusted, or lists and needn't."""
     name = "docs/THEOREM.md"
-    needed = closure_of(
-        {"pkcheck/Accepted", "pkcheck/Refused", "pkcheck/Answered", "pkmachine/Policies"}
-    )
-    part = text_of(name).partition("## What is trusted")[2].partition("\n## ")[0]
+    part = text_of(name).partition("## What is trusted")[2].partition("\n### ")[0]
+    of_check = closure_of(CHECK)
     told = {
         f"{crate}/{spec}"
         for crate, specs in re.findall(r"(?s)- in `(pk\w+)/specs`(.*?)[;.]\n", part)
         for spec in re.findall(r"`(\w+)`", specs)
     }
-    for spec in sorted(needed ^ told):
-        yield Fault(name, 0, f"{spec} is {'missing' if spec in needed else 'not cited'}")
+    listed = {"check": (of_check, told)}
+    lists = dict(re.findall(r"(?m)^- \*\*([^*]+)\*\*: (`pk\w+/[^-]*)", part))
+    for call, roots in OTHER_CALLS.items():
+        names = set(re.findall(r"`(pk\w+/\w+)`", lists.pop(call, "")))
+        listed[call] = (closure_of(roots) - of_check, names)
+    for call, (needed, told) in listed.items():
+        for spec in sorted(needed ^ told):
+            what = "missing" if spec in needed else "not cited"
+            yield Fault(name, 0, f"{call}: {spec} is {what}")
+    for call in lists:
+        yield Fault(name, 0, f"no definitions are known for {call}")
 
 
 def old_pictures() -> Iterator[Fault]:
