@@ -1,7 +1,11 @@
-"""Puts the extension module, which `make` compiles, into the package."""
+"""Puts the extension module, which `make` compiles, into the package; from a source distribution,
+also the program and its pages.
+"""
 
+import gzip
 import os
 import pathlib
+import platform
 import shutil
 import subprocess
 import sys
@@ -10,7 +14,13 @@ from setuptools import Extension, setup
 from setuptools.command.build_ext import build_ext
 
 HERE = pathlib.Path(__file__).resolve().parent
-ARCHIVE = HERE.parent / "crates" / "pkguard" / "out" / "libpkguard.a"
+SHARED = HERE / "share"
+MACHINE = platform.machine() if sys.platform == "linux" and sys.maxsize >> 32 else sys.platform
+SHIPPED = HERE / "checker" / f"libpkguard-{MACHINE}.a"
+"""The checker of a source distribution, which was proved and compiled for this processor."""
+PROGRAM = HERE / "checker" / f"pktool-{MACHINE}.gz"
+BUILT = HERE.parent / "crates" / "pkguard" / "out" / "libpkguard.a"
+"""The checker that a clone has proved and compiled."""
 
 
 def words():
@@ -18,13 +28,20 @@ def words():
     named = os.environ.get("STORKLOCKER_ARCHIVE")
     if named:
         return ["--archive", named]
-    if ARCHIVE.exists():
-        return ["--archive", str(ARCHIVE)]
+    for archive in (SHIPPED, BUILT):
+        if archive.exists():
+            return ["--archive", str(archive)]
+    if (HERE / "checker").exists():
+        raise SystemExit(
+            "storklocker: a source distribution has the checker for 64-bit Linux on x86-64 and"
+            f" arm64, and this is {platform.machine()} under {platform.system()}.\n"
+            "For others name a libpkguard.a in STORKLOCKER_ARCHIVE."
+        )
     if shutil.which("rt"):
         return []
     raise SystemExit(
-        f"storklocker: {ARCHIVE} isn't there, and no rt is on the path to prove and build it.\n"
-        "Install a released wheel, or name a libpkguard.a in STORKLOCKER_ARCHIVE."
+        f"storklocker: {BUILT} isn't there, and no rt is on the path to prove and build it.\n"
+        "Install a released file, or name a libpkguard.a in STORKLOCKER_ARCHIVE."
     )
 
 
@@ -32,15 +49,24 @@ class Make(build_ext):
     """Compiles with `make`, with the flags of the released wheels."""
 
     def build_extension(self, ext):
-        out = pathlib.Path(self.get_ext_fullpath(ext.name)).parent
-        command = [str(HERE / "make"), *words(), "--python", sys.executable]
-        command += ["--out", str(out.resolve())]
-        if subprocess.run(command).returncode != 0:
+        out = pathlib.Path(self.get_ext_fullpath(ext.name)).resolve().parent
+        command = ["sh", str(HERE / "make"), *words(), "--python", sys.executable]
+        if subprocess.run([*command, "--out", str(out)]).returncode != 0:
             raise SystemExit("storklocker: the extension module could not be made")
+        if PROGRAM.exists():
+            (out / "pktool").write_bytes(gzip.decompress(PROGRAM.read_bytes()))
+            (out / "pktool").chmod(0o755)
+
+
+def pages():
+    """The manual page and the completions, by the folders that they belong in."""
+    files = [it.relative_to(HERE) for it in sorted(SHARED.rglob("*")) if it.is_file()]
+    return [(str(it.parent), [str(it)]) for it in files]
 
 
 setup(
     ext_modules=[Extension("storklocker._storklocker", [], py_limited_api=True)],
     cmdclass={"build_ext": Make},
+    data_files=pages(),
     options={"bdist_wheel": {"py_limited_api": "cp38"}},
 )

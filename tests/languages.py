@@ -42,7 +42,8 @@ def programs() -> Iterator[Tuple[str, str]]:
 
 def unpacked(folder: Path) -> Path:
     """The library of release/ for this machine."""
-    archives = list((ROOT / "release").glob(f"storklocker-*-{platform.machine()}-linux.tar.gz"))
+    machine = platform.machine()
+    archives = list((ROOT / "release").glob(f"libstorklocker-*-{machine}-linux.tar.gz"))
     if not archives:
         print("skipped: release/ has no library for this machine; see --library")
         print("0 passed, 0 failed, 1 skipped")

@@ -1,7 +1,8 @@
 #!/usr/bin/env python3
-"""Tests what others put the package into, with the shipped wheel or the one that is named: an
+"""Tests what others put the package into, with the shipped files or those that are named: an
 environment with its program, manual page and completions, in which the tutorial needs nothing else,
-the hooks of pre-commit, the workflow and the Dockerfile of examples/ci. The last line counts.
+the source distribution, the hooks of pre-commit, the workflow and the Dockerfile of examples/ci.
+The last line counts.
 
 They run as far as they can be run here: each command of the workflow and of the Dockerfile, not
 the actions and the image that these name.
@@ -131,6 +132,48 @@ class Packages(unittest.TestCase):
         (wheel,) = wheels().glob(f"storklocker-*_{platform.machine()}.whl")
         for system in ("manylinux2014", "manylinux_2_17", "musllinux_1_1"):
             self.assertIn(f"{system}_{platform.machine()}", wheel.name)
+
+    def test_the_source_distribution_builds(self) -> None:
+        """With nothing but a C compiler, for CPython and PyPy."""
+        version = (ROOT / "VERSION").read_text().strip()
+        listed = ROOT / "examples" / "pickles" / "ordered-dict.pickle"
+        built = 0
+        for interpreter in ("/usr/bin/python3", "pypy3"):
+            bin_ = self.build(interpreter, wheels() / f"storklocker-{version}.tar.gz")
+            if bin_ is None:
+                continue
+            for words, status, said in (
+                (("--version",), 0, f"storklocker {version}"),
+                (("dis", listed), 0, "REDUCE"),
+                (("scan", self.files() / "bad.pkl"), 1, "os.system"),
+            ):
+                tried = ran(bin_ / "storklocker", *words, cwd="/")
+                self.assertEqual(tried.returncode, status, tried.stdout + tried.stderr)
+                self.assertIn(said, tried.stdout)
+            self.assertTrue((bin_.parent / "share/man/man1/storklocker.1").exists())
+            built += 1
+        if not built:
+            self.skipTest("no interpreter with venv, setuptools, wheel and Python.h")
+
+    def build(self, interpreter: str, source: Path) -> Optional[Path]:
+        """The folder of commands of an environment with the package, built from a source
+        distribution; None if the interpreter lacks what that takes.
+        """
+        folder, lent = (Path(tempfile.mkdtemp(dir=self.folder)) for _ in range(2))
+        found = ran("/usr/bin/python3", "-c", "import wheel; print(wheel.__path__[0])")
+        if found.returncode != 0 or not shutil.which("cc"):
+            return None
+        for it in Path(found.stdout.strip()).parent.glob("wheel*"):  # (it is found by its metadata)
+            shutil.copytree(it, lent / it.name)
+        needs = "import os, setuptools, sysconfig as it; os.stat(it.get_path('include') + '/Python.h')"
+        if shutil.which(interpreter) is None or ran(interpreter, "-m", "venv", folder).returncode:
+            return None
+        if ran(folder / "bin" / "python", "-c", needs).returncode != 0:
+            return None
+        words = ("install", "-q", "--no-index", "--no-build-isolation", "--no-cache-dir", source)
+        tried = ran(folder / "bin" / "pip", *words, env={"PYTHONPATH": str(lent)})
+        self.assertEqual(tried.returncode, 0, tried.stdout + tried.stderr)
+        return folder / "bin"
 
     def test_hooks(self) -> None:
         files, hooks = self.files(), parsed(".pre-commit-hooks.yaml")

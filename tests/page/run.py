@@ -36,7 +36,7 @@ import verdicts  # noqa: E402
 
 def shipped(folder: Path) -> Optional[Path]:
     """The module of release/, unpacked."""
-    archives = sorted((ROOT / "release").glob("storklocker-*-wasm.tar.gz"))
+    archives = sorted((ROOT / "release").glob("libstorklocker-*-wasm.tar.gz"))
     if not archives:
         return None
     subprocess.run(["tar", "-C", folder, "-xzf", archives[0]], check=True)

@@ -119,7 +119,7 @@ def write_corpus(path: Path, rows: List[Tuple[bytes, bytes]]) -> None:
 
 def unpacked(release: Path, target: Target, work: Path) -> Optional[Path]:
     """The folder of the shipped archive."""
-    found = sorted(release.glob(f"storklocker-*-{target.archive}.tar.gz"))
+    found = sorted(release.glob(f"libstorklocker-*-{target.archive}.tar.gz"))
     if not found:
         return None
     folder = work / found[0].name[: -len(".tar.gz")]
