@@ -38,6 +38,9 @@ _TRIES, _PAUSE = 200, 0.001
 _LOG = logging.getLogger("storklocker")
 _MODULE = re.compile(r"[^\W\d][\w-]*(\.[^\W\d][\w-]*)*")
 Pair = Tuple[str, str]
+Key = Tuple[str, ...]
+"""A module and a name; behind `getattr` perhaps an enum of whose members it is asked for."""
+_GETATTR: Pair = ("builtins", "getattr")
 
 
 class Seen(NamedTuple):
@@ -68,25 +71,31 @@ def is_name(module: Any, name: Any) -> bool:
     )
 
 
-def _line(pair: Pair, seen: Seen) -> str:
-    return json.dumps({"module": pair[0], "name": pair[1], **seen._asdict()}) + "\n"
+def _line(key: Key, seen: Seen) -> str:
+    return json.dumps({**dict(zip(("module", "name", "of"), key)), **seen._asdict()}) + "\n"
 
 
-def _records(text: str) -> Iterator[Tuple[Pair, Seen]]:
+def _records(text: str) -> Iterator[Tuple[Key, Seen]]:
     for line in text.splitlines():
         with contextlib.suppress(ValueError, KeyError, TypeError, RecursionError):
             held = json.loads(line)
-            pair = (held["module"], held["name"])
+            key = (held["module"], held["name"], *((held["of"],) if "of" in held else ()))
             numbers = [held[word] for word in ("times", "first", "last")]
-            if is_name(*pair) and all(type(it) is int and 0 <= it < 1 << 62 for it in numbers):
-                yield pair, Seen(str(held["key"])[:_LONGEST_KEY], *numbers)
+            is_fine = is_name(*key[:2]) and all(map(_is_dotted, key[2:]))
+            if is_fine and all(type(it) is int and 0 <= it < 1 << 62 for it in numbers):
+                yield key, Seen(str(held["key"])[:_LONGEST_KEY], *numbers)
 
 
-def read_log(text: str) -> Dict[Pair, Seen]:
+def _is_dotted(name: Any) -> bool:
+    module, _, own = name.rpartition(".")
+    return is_name(module, own)
+
+
+def read_log(text: str) -> Dict[Key, Seen]:
     """The names in the text of a file. Lines that are none of ours are passed over."""
-    found: Dict[Pair, Seen] = {}
-    for pair, seen in _records(text):
-        found[pair] = found[pair].and_(seen) if pair in found else seen
+    found: Dict[Key, Seen] = {}
+    for key, seen in _records(text):
+        found[key] = found[key].and_(seen) if key in found else seen
     return found
 
 
@@ -124,7 +133,7 @@ class Learner:
     def forget(self) -> None:
         """Starts from nothing, as in a process that was forked: the parent writes what it knows."""
         self._lock = threading.Lock()
-        self._known: Dict[Pair, Optional[Seen]] = {}
+        self._known: Dict[Key, Optional[Seen]] = {}
         self._due = 0.0
         self._has_failed = False
 
@@ -141,22 +150,30 @@ class Learner:
             self._hook(refusal)
 
     def _take(self, refusal: Refusal) -> None:
-        now, key, is_new = int(time.time()), _shown(refusal.context), False
-        is_old = self._fixes and _names.are_old(refusal._data)
-        for module, name in itertools.islice(refusal.missing, _OF_ONE):
-            if module is None or name is None or not is_name(module, name):
-                continue
-            pair, seen = (module, name), Seen(key, 1, now, now)
-            pair = _names.renamed(pair) if is_old else pair
-            before = self._known.get(pair)
-            if pair not in self._known:
+        now, what, is_new = int(time.time()), _shown(refusal.context), False
+        for key in itertools.islice(self._keys_of(refusal), _OF_ONE):
+            seen, before = Seen(what, 1, now, now), self._known.get(key)
+            if key not in self._known:
                 if len(self._known) >= MOST:
                     self._fail(f"more than {MOST:,} names are missing")
                     continue
                 is_new = True
-            self._known[pair] = seen if before is None else before.and_(seen)
+            self._known[key] = seen if before is None else before.and_(seen)
         if is_new or time.monotonic() >= self._due:
             self._write()
+
+    def _keys_of(self, refusal: Refusal) -> Iterator[Key]:
+        """The names that are missing, and the enums of whose members `getattr` is asked for."""
+        is_old = self._fixes and _names.are_old(refusal._data)
+        for module, name in refusal.missing:
+            if module is not None and name is not None and is_name(module, name):
+                yield _names.renamed((module, name)) if is_old else (module, name)
+        if _GETATTR[1].encode() in refusal._data:
+            from .scanning.members import Members  # few pickles ask for any
+
+            members = Members()
+            members.look_in(refusal._data)
+            yield from ((*_GETATTR, name) for name in members.enums)
 
     def write(self) -> None:
         """Writes what hasn't been written."""

@@ -29,6 +29,7 @@ class AllowList(_Pairs):
         AllowList([Order, Color, resize])
         AllowList({"collections": ["OrderedDict", "deque"], "datetime": ["datetime"]})
         AllowList.from_file("list.toml")
+        AllowList.shipped("torch", "pandas")
 
     It supports iteration in order, `in`, `len`, `|`, `==` and `hash`. It can be copied, pickled and
     shared by threads. Lookup takes logarithmic time, so a long list costs little.
@@ -135,14 +136,30 @@ class AllowList(_Pairs):
 
     @classmethod
     def from_file(cls, file: "Union[str, os.PathLike[str]]") -> "AllowList":
-        """Reads a list file. Raises ListFault if it is not one, and OSError if reading fails."""
+        """Reads a list file. Raises ListFault if it is not one, and OSError if reading fails. A text
+        such as "@torch,@pandas" names shipped lists; a file whose name begins so is "./@torch".
+        """
         name = os.fspath(file)
+        if isinstance(name, str) and name.startswith("@"):
+            return cls.shipped(*name.split(","))
         with open(name, "rb") as opened:
             text = opened.read()
         try:
             return cls._parsed(text, os.fsdecode(name))
         except ListFault as fault:
             raise ListFault(fault.fault, os.fsdecode(name), fault.line, fault.hint) from None
+
+    @classmethod
+    def shipped(cls, *names: str) -> "AllowList":
+        """The union of lists of `storklocker.lists`, such as "torch" and "pandas". Raises ValueError
+        for a name that none has.
+        """
+        from . import lists
+
+        made = cls([])
+        for found in (getattr(lists, lists.name_of(name)) for name in names):
+            made = made | found
+        return made
 
     def to_text(self) -> str:
         """The text of a list file that reads back as this list: sorted, and always the same.

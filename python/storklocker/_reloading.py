@@ -34,6 +34,8 @@ def guard_of(
         return kind(AllowList.from_file(file), **settings)
     if isinstance(reload, bool) or not isinstance(reload, (int, float)) or not reload >= 0:
         raise ValueError(f"reload must be a number of seconds or None, not {reload!r}")
+    if os.fsdecode(file).startswith("@"):  # (a shipped list stays as it is)
+        return kind(AllowList.from_file(file), **settings)
     name = os.path.abspath(os.fspath(file))
     look, text = _read(name)
     return ReloadingGuard(kind(AllowList.from_text(text), **settings), name, reload, look)

@@ -21,6 +21,7 @@ from __future__ import annotations
 
 import builtins
 import contextlib
+import enum
 import functools
 import importlib
 import operator
@@ -121,6 +122,11 @@ def _name_of(it: Any) -> Any:
     return it
 
 
+def _members_of(kind: type) -> Tuple[str, ...]:
+    """The names of the members of an enum; none of another class, whatever that has."""
+    return tuple(kind.__members__) if isinstance(kind, enum.EnumMeta) else ()
+
+
 def getattr(names: Mapping[Union[type, str], Optional[Iterable[str]]]) -> Substitute:
     """For `builtins.getattr`: these attributes of each class and of its instances, but not of
     subclasses. None stands for the members of an enum. A class may be given by its dotted name,
@@ -137,7 +143,7 @@ def getattr(names: Mapping[Union[type, str], Optional[Iterable[str]]]) -> Substi
         for named, given in said.items():
             try:
                 if _real(named) is kind:
-                    words += tuple(cast(Any, kind).__members__) if given is None else given
+                    words += _members_of(kind) if given is None else given
             except (ImportError, AttributeError) as error:
                 fault = error
         if fault is not None and not words:

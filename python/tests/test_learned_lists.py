@@ -2,6 +2,8 @@
 
 import collections
 import contextlib
+import datetime
+import enum
 import pickle
 import unittest
 
@@ -15,6 +17,41 @@ class Order:
 
     def __repr__(self):
         return "an order"
+
+
+class Status(enum.Enum):
+    """An enum, whose members are pickled as Python 3.11.0 to 3.11.3 do it."""
+
+    NEW = "new"
+    SENT = "sent"
+
+    def __reduce_ex__(self, protocol):
+        return (getattr, (type(self), self.name))
+
+
+class Level(enum.Enum):
+    """An enum, whose members are pickled by value, as other Pythons do it."""
+
+    LOW = 1
+
+    def __reduce_ex__(self, protocol):
+        return (type(self), (self.value,))
+
+
+GETATTR = b"cbuiltins\ngetattr\n"
+OF_STATUS = f"c{__name__}\nStatus\n".encode()
+OF_ORDER = f"c{__name__}\nOrder\n".encode()
+HOSTILE = {
+    "a private name": OF_ORDER + b"X\x08\0\0\0__init__\x86R.",
+    "called": OF_ORDER + b"X\x03\0\0\0mro\x86R)R.",
+    "asked for more": GETATTR + OF_ORDER + b"X\x03\0\0\0run\x86RX\x03\0\0\0mro\x86R.",
+    "of what objects are made": OF_ORDER + b"X\x03\0\0\0run\x86R0" + OF_ORDER + b")\x81.",
+    "a computed name": OF_ORDER + OF_STATUS + b"\x86R.",
+    "of a module": b"cos\npath\nX\x02\0\0\0os\x86R.",
+    "of what is known to do harm": b"cos\nsystem\nX\x03\0\0\0run\x86R.",
+    "of an object": OF_ORDER + b")RX\x03\0\0\0run\x86R.",
+}
+"""What is asked of `getattr` that no enum needs."""
 
 
 
@@ -106,7 +143,7 @@ class Lists(Learning):
                 files[-1].write_bytes(pickle.dumps(value, 4))
             data = its.whole(gadget)
             learned = AllowList.from_text(self.run_command("learn", *files)[1])
-            with self.assertRaises(storklocker.Refused):
+            with self.assertRaises((storklocker.Refused, storklocker.Misused)):
                 Guard(learned).loads(data)
             every = its.learned(*trusted)
             self.assertTrue(storklocker.check(data, every))
@@ -120,6 +157,47 @@ class Lists(Learning):
                 Guard(AllowList.from_text(allow.to_text())).loads(data)
             with storklocker.installed(Guard(allow)), self.assertRaises(storklocker.Unlisted):
                 EARLY(data)
+
+    def test_a_job_with_enums_needs_no_edits(self):
+        made = [
+            pickle.dumps({"id": number, "status": status, "more": more}, protocol)
+            for number, status in enumerate((*Status, Level.LOW))
+            for more in (datetime.date(2026, 1, 2), {1}, collections.deque([Status.NEW]))
+            for protocol in range(6)
+        ]
+        for number, data in enumerate(made):
+            (self.folder / f"{number}.pickle").write_bytes(data)
+        guard = NOTHING.learning(self.log)
+        for data in made:
+            guard.loads(data)
+        _learning._write_all()
+        for words in ([self.folder], ["--from-log", self.log]):
+            status, out, _ = self.run_command("learn", *words)
+            self.assertIn(f'"builtins.getattr" = "members of {__name__}.Status"', out)
+            learned = Guard(AllowList.from_text(out))
+            for data in made:
+                self.assertEqual(learned.loads(data), pickle.loads(data))
+            for word in ("__class__", "mro", "_member_map_"):
+                asked = word.encode()
+                data = b"\x80\x04" + GETATTR + OF_STATUS + b"\x8c" + bytes([len(asked)]) + asked
+                pickle.loads(data + b"\x86R.")
+                with self.assertRaises(storklocker.Misused):
+                    learned.loads(data + b"\x86R.")
+
+    def test_no_other_getattr_is_learned(self):
+        for name, body in HOSTILE.items():
+            data = b"\x80\x04" + GETATTR + body
+            (self.folder / "it").write_bytes(data)
+            status, out, _ = self.run_command("learn", self.folder / "it")
+            with self.subTest(name):
+                self.assertRegex(out, r'\n  # "getattr",  # .*Dangerous: It reaches any object')
+                self.assertNotIn("[substitutes]", out)
+                self.assertNotIn(("builtins", "getattr"), AllowList.from_text(out))
+        honest = pickle.dumps(Status.NEW, 4)
+        (self.folder / "it").write_bytes(honest + b"\x80\x04" + GETATTR + HOSTILE["called"])
+        out = self.run_command("learn", self.folder / "it")[1]
+        self.assertIn(f'= "members of {__name__}.Status"\n', out)
+        self.assertIn(f"# This isn't permitted: builtins.getattr({__name__}.Order", out)
 
     def test_lint_names_the_base_class(self):
         path = self.folder / "list.toml"

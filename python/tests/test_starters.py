@@ -65,6 +65,20 @@ class Starters(unittest.TestCase):
             for word in {pair[1] for pair in meant_in(getattr(lists, name)).substitutes}:
                 self.assertIn(word, head)
 
+    def test_they_have_names(self):
+        both = AllowList.shipped("torch", "pandas")
+        self.assertEqual(both, lists.TORCH_TENSORS | lists.PANDAS)
+        for word in ("@torch,@pandas", " @pandas , torch_tensors".strip()):
+            self.assertEqual(AllowList.from_file(word), both)
+        self.assertEqual(Guard.from_file("@torch,@pandas", reload=1).allow, both)
+        for name, word in zip(lists.__all__, lists.words()):
+            self.assertEqual(AllowList.shipped(word), getattr(lists, name))
+            self.assertEqual(AllowList.shipped(name), getattr(lists, name))
+        self.assertEqual(len(AllowList.shipped()), 0)
+        for wrong in ("nothing", "@torch, @", ""):
+            with self.assertRaisesRegex(ValueError, "is no shipped list: there are @celery, "):
+                AllowList.shipped(wrong)
+
     def test_they_go_together(self):
         own = {"builtins.getattr": storklocker.substitutes.getattr({"shop.Color": None})}
         every = AllowList([("builtins", "getattr")], substitutes=own)

@@ -18,6 +18,7 @@ import xml.etree.ElementTree as ET
 from pathlib import Path
 
 from common import needs
+from storklocker import AllowList, lists
 from storklocker.scanning.command import main
 from storklocker.scanning.report import VERSION, Finding, Report
 from storklocker.scanning.severity import KINDS, SEVERITIES
@@ -207,6 +208,25 @@ class Lists(unittest.TestCase):
         status, told = self.status("@nowhere")
         self.assertEqual(status, 2)
         self.assertIn("@nowhere is no shipped list: there are @celery, ", told)
+
+    def told(self, *words):
+        """The status of a command, and what it prints."""
+        out = io.StringIO()
+        with contextlib.redirect_stdout(out), contextlib.redirect_stderr(io.StringIO()):
+            return main(list(words)), out.getvalue()
+
+    def test_every_command_takes_shipped_lists(self):
+        both = AllowList.shipped("torch", "pandas")
+        status, out = self.told("list", "show", "@torch,@pandas")
+        self.assertEqual((status, AllowList.from_text(out)), (0, both))
+        self.assertRegex(out, "# .*tested with PyTorch(.*\n)*# .*tested with pandas")
+        self.assertEqual(self.told("list", "show"), (0, "\n".join(lists.words()) + "\n"))
+        for words in (("show", "@torch,@nowhere"), ("diff", "@torch", "@nowhere")):
+            self.assertEqual(self.told("list", *words), (2, ""))
+        self.assertEqual(self.told("list", "diff", "@torch", "@torch-tensors"), (0, ""))
+        self.assertIn("+ pandas._libs.missing.NA\n",
+                      self.told("list", "diff", "@torch", "@torch,@pandas")[1])
+        self.assertIn("\n0 dangerous, 0 warnings, 0 not judged\n", self.told("lint", "@pandas")[1])
 
 
 if __name__ == "__main__":

@@ -1,4 +1,5 @@
-"""Ready-made allow lists. Combine them with `|`: `lists.STANDARD_TYPES | lists.DATETIME`.
+"""Ready-made allow lists. `AllowList.shipped("torch", "pandas")` is the union of two, as is
+`lists.TORCH_TENSORS | lists.PANDAS`.
 
     STANDARD_TYPES   values of builtins, array, decimal, fractions, ipaddress and uuid
     DATETIME         datetimes, dates, times and fixed time zones
@@ -13,6 +14,8 @@
     PANDAS           frames, series, indexes, arrays and scalars of pandas
     SCIKIT_LEARN     fitted estimators of scikit-learn
     TORCH_TENSORS    state dicts of PyTorch
+
+A command takes them as `@torch`, `@sklearn`, `@standard-types`.
 
 Each is a TOML file in this folder, which names the versions that it was made and tested with. A
 list permits what these libraries write. It doesn't cover what the objects do when they are used.
@@ -57,14 +60,39 @@ STANDARD_TYPES: AllowList
 TORCH_TENSORS: AllowList
 UUID: AllowList
 
+_SHORT = {"SKLEARN": "SCIKIT_LEARN", "TORCH": "TORCH_TENSORS"}
+"""The names by which libraries are known, where a list has another."""
+
 
 def __getattr__(name: str) -> AllowList:
     """Reads a list on first use."""
     if name not in __all__:
         raise AttributeError(f"module {__name__!r} has no attribute {name!r}")
-    made = AllowList.from_file(Path(__file__).with_name(f"{name.lower()}.toml"))
+    made = AllowList.from_file(file_of(name))
     globals()[name] = made
     return made
+
+
+def name_of(word: str) -> str:
+    """The name here of a list that is called `torch`, `@torch`, `torch-nn` or `TORCH_NN`. Raises
+    ValueError if there is none.
+    """
+    name = word.strip().lstrip("@").replace("-", "_").upper()
+    name = _SHORT.get(name, name)
+    if name not in __all__:
+        raise ValueError(f"{word} is no shipped list: there are {', '.join(words())}")
+    return name
+
+
+def words() -> List[str]:
+    """The lists as a command takes them."""
+    short = {name: word for word, name in _SHORT.items()}
+    return [f"@{short.get(name, name).lower().replace('_', '-')}" for name in __all__]
+
+
+def file_of(name: str) -> Path:
+    """The file of a list, by its name here."""
+    return Path(__file__).with_name(f"{name.lower()}.toml")
 
 
 def __dir__() -> List[str]:

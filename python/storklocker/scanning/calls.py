@@ -112,6 +112,17 @@ def written(value: Any) -> str:
     return text if not todo and len(text) <= LENGTH else f"{text[: LENGTH - 3]}..."
 
 
+def is_import(value: Any) -> bool:
+    """Whether a value is an import, and nothing that one has made."""
+    return type(value) is _Value and bool(value.name) and not value.brackets
+
+
+def is_call_of(value: Any, name: str) -> bool:
+    """Whether a value is what the import of this name answers."""
+    is_made = type(value) is _Value and value.brackets == "()"
+    return is_made and is_import(value.front) and value.front.name == name
+
+
 class Calls(Walk):
     """Follows a pickle, and calls `tell` with each import that is called or given to a call, and
     that call.

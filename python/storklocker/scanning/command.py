@@ -20,7 +20,7 @@ from .dangers import import_findings, list_findings, table_of
 from .files import Files, names_from
 from .judging import Question
 from .lists import add_commands, list_of, union_of
-from .options import GUARDED, LIST, LISTS, PATH, add_descending, add_options
+from .options import GUARDED, LISTS, PATH, add_descending, add_options
 from .report import Finding, Report, shown
 from .scan import Means, scan
 from .severity import DANGER, REFUSED, UNKNOWN, UNRECOGNIZED, WARNING
@@ -161,7 +161,7 @@ def _add_learn(commands: "argparse._SubParsersAction[argparse.ArgumentParser]") 
 
 def _add_lint(commands: "argparse._SubParsersAction[argparse.ArgumentParser]") -> None:
     it = commands.add_parser("lint", help="lists the dangerous and the unjudged names in a list")
-    it.add_argument("list", metavar="LIST", help=LIST)
+    it.add_argument("list", metavar="LIST", help=LISTS)
     it.add_argument(
         "--fail-on",
         choices=(DANGER, UNKNOWN),
@@ -283,15 +283,17 @@ def _learn(asked: argparse.Namespace) -> int:
         learned.add_log(path)
     if asked.paths:
         with _files_of(asked) as files:
-            learned.add(scan(files, Question(), progress=sys.stderr))
+            question = Question(members=learned.members)
+            learned.add(scan(files, question, progress=sys.stderr))
     for line in learned.lines():
         print(line)
     for report in learned.left_out:
         print(f"# left out: {shown(report.path)}: {shown(report.why)}")
-    found = import_findings(learned.pairs)
+    is_wild = GETATTR in learned.pairs and not learned.enums
+    found = import_findings(it for it in learned.pairs if it != GETATTR or is_wild)
     for line in _lint_lines([finding for finding in found if finding.severity != UNKNOWN]):
         print(f"# {line}")
-    if GETATTR in learned.pairs:
+    if is_wild:
         print(f"# {_GETATTR}")
     is_whole = not learned.left_out and not (asked.paths and files.left_out)
     return YES if is_whole else FAULT

@@ -30,6 +30,7 @@ from .words import Word
 
 if TYPE_CHECKING:
     from .._pairs import Names
+    from .members import Members
 
 _SHORT = LONGEST
 """The most bytes of all names of a pickle whose texts are kept."""
@@ -51,6 +52,8 @@ class Question(NamedTuple):
     """The table of a team's own dangers."""
     with_unrecognized: bool = False
     """Whether a file that no reading knows is a finding."""
+    members: Optional["Members"] = None
+    """What takes what pickles ask `getattr` for, if that is asked."""
 
 
 def prepare() -> None:
@@ -126,18 +129,20 @@ def lone_report(path: str, data: bytes, question: Question) -> Optional[Report]:
     findings = list(told.findings)
     if imports and question.allow is not None:
         report = _foreseen(report, [(source, 1)], question.allow, findings)
-    findings = _with_calls(findings, source, size, Budget(size))
+    findings = _with_calls(findings, source, size, Budget(size), question)
     return judged(report, findings) if findings else report
 
 
 def _with_calls(
-    findings: List[Finding], source: Source, end: int, budget: Budget
+    findings: List[Finding], source: Source, end: int, budget: Budget, question: Question
 ) -> List[Finding]:
     """The findings on pickles up to a place, with the calls of dangerous names."""
     if all(it.severity != DANGER for it in findings):
         return findings
     from .calls import with_calls  # most scans have no need of it
 
+    if question.members is not None:
+        question.members.look(source, 0, end)
     return with_calls(findings, source, end, budget)
 
 
@@ -286,7 +291,7 @@ def _judged(piece: Piece, row: Row, question: Question, place: Place) -> Report:
     if status is Word.ACCEPTED and row.names and allow is not None:
         held = [(source, max(row.pickles, 1)) for source in row.sources]
         report = _foreseen(report, held, allow, findings)
-    findings = _with_calls(findings, piece.source, row.taken, place.budget)
+    findings = _with_calls(findings, piece.source, row.taken, place.budget, question)
     return judged(_raw(report, row.raw, findings) if row.raw else report, findings)
 
 

@@ -9,6 +9,7 @@ from .._learning import LARGEST, Seen, read_log
 from .._names import today
 from .._writing import quoted
 from .dangers import danger_of, judged
+from .members import GETATTR, Members
 from .report import Report, shown
 from .words import Word
 
@@ -26,6 +27,10 @@ class Learned:
         self.seen: Dict[Pair, Seen] = {}
         """Each pair of a log with how often it was asked for."""
         self.left_out: List[Report] = []
+        self.members = Members()
+        """What these files ask `getattr` for."""
+        self._enums: Dict[str, None] = {}
+        """What the log has of that."""
 
     def add(self, reports: Iterable[Report]) -> None:
         """Adds the imports of files. Leaves out unreadable files and unknown imports."""
@@ -42,8 +47,11 @@ class Learned:
         """Adds the names of a file that a guard's `learning` has written."""
         with open(path, "rb") as opened:
             text = opened.read(2 * LARGEST).decode("utf-8", "replace")
-        for named, seen in read_log(text).items():
-            pair = today(named)  # (of a log of an earlier version)
+        for (module, name, *enums), seen in read_log(text).items():
+            pair = today((module, name))  # (of a log of an earlier version)
+            if enums:
+                self._enums[enums[0]] = None
+                continue
             self.seen[pair] = self.seen[pair].and_(seen) if pair in self.seen else seen
             self.pairs.setdefault(pair, [])
 
@@ -66,9 +74,25 @@ class Learned:
                 yield _UNJUDGED
                 yield from (self._line(module, name) for name in unknown)
             yield "]"
+        yield from self._substitutes()
+
+    @property
+    def enums(self) -> List[str]:
+        """The enums of whose members `getattr` is asked for."""
+        return sorted({*self.members.enums, *self._enums})
+
+    def _substitutes(self) -> Iterator[str]:
+        """The section that says what a guard loads in place of `getattr`."""
+        if self.enums:
+            yield ""
+            yield "[substitutes]"
+            yield f'"{GETATTR}" = "{"; ".join(f"members of {name}" for name in self.enums)}"'
+            yield from (f"# This isn't permitted: {call}" for call in self.members.others)
 
     def _line(self, module: str, name: str) -> str:
         why, needed = danger_of((module, name)), self._needed_by((module, name))
+        if self.enums and f"{module}.{name}" == GETATTR:
+            why = ""  # (it has a substitute)
         line = f"{quoted(name)},  # {needed}"
         return f"  # {line}. {why}" if why else f"  {line}"
 

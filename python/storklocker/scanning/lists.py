@@ -1,4 +1,4 @@
-"""The commands `storklocker list`: what differs between two lists, and names for a list."""
+"""The commands `storklocker list`: lists as they are, what differs between two, and more names."""
 
 from __future__ import annotations
 
@@ -8,7 +8,7 @@ import operator
 import re
 import sys
 from pathlib import Path
-from typing import Any, Dict, Iterable, Iterator, List, Tuple
+from typing import Dict, Iterable, Iterator, List, Tuple
 
 from .. import lists as shipped
 from .._answers import ListFault
@@ -18,6 +18,7 @@ from .._meant import EVERYTHING, Meant, require
 from .._meant import of as meant_in
 from .._writing import dotted, quoted, replace, row_of
 from .dangers import danger_of
+from .options import LISTS
 from .report import shown
 
 Pair = Tuple[str, str]
@@ -30,11 +31,14 @@ _IMPORTS = re.compile(r"(?m)^[ \t]*\[[ \t]*imports[ \t]*\][^\n]*\n")
 
 def add_commands(commands: "argparse._SubParsersAction[argparse.ArgumentParser]") -> None:
     """Adds the commands to a parser."""
-    within = commands.add_parser("list", help="compares lists, and adds names to one")
+    within = commands.add_parser("list", help="shows and compares lists, and adds names to one")
     its = within.add_subparsers(required=True, metavar="COMMAND")
+    show = its.add_parser("show", help="prints lists as one list file")
+    show.add_argument("lists", nargs="*", metavar="LIST", help=LISTS)
+    show.set_defaults(run=_show)
     diff = its.add_parser("diff", help="shows what differs between two lists; status 1 if they do")
-    diff.add_argument("old", metavar="OLD", help="a list file")
-    diff.add_argument("new", metavar="NEW", help="a list file")
+    diff.add_argument("old", metavar="OLD", help=LISTS)
+    diff.add_argument("new", metavar="NEW", help=LISTS)
     diff.set_defaults(run=_diff)
     add = its.add_parser("add", help="adds names to a list file, whose comments stay")
     add.add_argument("list", metavar="LIST", help="the list file; a new one if there is none")
@@ -48,37 +52,37 @@ def add_commands(commands: "argparse._SubParsersAction[argparse.ArgumentParser]"
 
 
 def list_of(path: str) -> AllowList:
-    """The list of a file. Raises OSError with the place of a fault."""
+    """The list of a file, or of names of shipped lists. Raises OSError with the place of a fault."""
     try:
         return AllowList.from_file(path)
     except ListFault as error:
         raise OSError(str(error)) from None
     except ValueError as error:
-        raise OSError(f"{path}: {error}") from None
+        raise OSError(str(error) if path.startswith("@") else f"{path}: {error}") from None
 
 
 def union_of(given: Iterable[str]) -> AllowList:
     """The union of these lists, which a guard would take: each is a file, or names of shipped
     lists, such as `@numpy`.
     """
-    found: List[AllowList] = []
-    for word in given:
-        found += map(_shipped, word.split(",")) if word.startswith("@") else [list_of(word)]
     try:
-        made = functools.reduce(operator.or_, found)
+        made = functools.reduce(operator.or_, map(list_of, given))
         require(made)
     except ValueError as error:  # two substitutes for a name, or a name that permits everything
         raise OSError(f"{', '.join(given)}: {error}") from None
     return made
 
 
-def _shipped(word: str) -> AllowList:
-    name = word.strip().lstrip("@").replace("-", "_").upper()
-    if name not in shipped.__all__:
-        known = ", ".join(f"@{it.lower()}" for it in shipped.__all__)
-        raise OSError(f"{word} is no shipped list: there are {known}")
-    found: AllowList = getattr(shipped, name)
-    return found
+def _show(asked: argparse.Namespace) -> int:
+    if not asked.lists:
+        print("\n".join(shipped.words()))
+        return SAME
+    text = union_of(asked.lists).to_text()
+    for word in (word for it in asked.lists if it.startswith("@") for word in it.split(",")):
+        own = shipped.file_of(shipped.name_of(word)).read_text(encoding="utf-8")
+        print(own.partition("version =")[0], end="")
+    print(text, end="")
+    return SAME
 
 
 def _diff(asked: argparse.Namespace) -> int:

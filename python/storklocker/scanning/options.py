@@ -10,8 +10,7 @@ from .summary import FAIL_ON
 
 PATH = "a file, a folder, or - for standard input"
 _URL = f"{PATH}; or a URL of either that fsspec opens"
-LIST = "the list file of permitted names"
-LISTS = f"{LIST}, or @NAME,@NAME for shipped lists; of several the union counts"
+LISTS = "the list file of permitted names, or @NAME,@NAME for shipped lists; the union counts"
 GUARDED = "what is undecided doesn't count: a guard with this list loads the files"
 
 
