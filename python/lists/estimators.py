@@ -1,11 +1,16 @@
 """Fits an estimator of scikit-learn, whichever it is, to little data."""
 
+import contextlib
+import importlib
 import inspect
 
 import numpy
-from sklearn.experimental import enable_halving_search_cv, enable_iterative_imputer  # noqa: F401
 from sklearn.linear_model import LogisticRegression, Ridge
 from sklearn.preprocessing import StandardScaler
+
+for _name in ("halving_search_cv", "hist_gradient_boosting", "iterative_imputer"):
+    with contextlib.suppress(ImportError):  # (some versions lack one)
+        importlib.import_module(f"sklearn.experimental.enable_{_name}")
 
 ROWS, COLUMNS = 40, 3
 _RANDOM = numpy.random.RandomState(0)

@@ -49,8 +49,10 @@ def _responses():
     from django.template import engines
     from django.template.response import SimpleTemplateResponse
 
-    response = http.HttpResponse(b"text", headers={"ETag": "1"})
-    response.set_cookie("name", "value", max_age=5, expires=datetime.datetime(2026, 1, 2))
+    response = http.HttpResponse(b"text")
+    response["ETag"] = "1"
+    response.set_cookie("name", "value", max_age=5)
+    response.set_cookie("other", "value", expires=datetime.datetime(2026, 1, 2))
     yield from (response, http.JsonResponse({"a": 1}), http.HttpResponseRedirect("/a"))
     for name in ("NotFound", "BadRequest", "Forbidden", "Gone", "ServerError"):
         yield getattr(http, f"HttpResponse{name}")("why")

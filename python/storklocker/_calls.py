@@ -13,7 +13,8 @@ from ._substitute import (
     BECOMES_REAL, EMPTY, IS_JUDGED, NEW_OF_NONE, OF_NONE, OF_TEXT, OF_TEXTS, Class, Remembering,
     Substitute,
 )
-from ._weighing import CONTAINERS, keys_of, values
+from ._substituted import TIMES
+from ._weighing import CONTAINERS, SCALARS, keys_of, values
 
 if TYPE_CHECKING:
     from ._substitutes import Reader
@@ -203,6 +204,20 @@ def _path(name: str) -> Callable[..., Any]:
     return judged
 
 
+def _of_time(name: str) -> Callable[..., Any]:
+    """A class of datetime. Before Python 3.10 it takes a number of decimal for a whole one, and has
+    all its digits computed.
+    """
+    def judged(reader: Reader, *given: Any) -> Any:
+        import datetime
+
+        if any(not isinstance(it, datetime.tzinfo) and type(it) not in SCALARS for it in given):
+            raise wrong(name)
+        return vars(datetime)[name](*given)
+
+    return judged
+
+
 def shown(module: str, name: str) -> Remembering:
     """A function that shows its arguments, or looks through them: only values that aren't large."""
     def judged(reader: Reader, *given: Any) -> Any:
@@ -248,6 +263,7 @@ _COPYING: Dict[Tuple[str, str], Tuple[int, Tuple[type, ...]]] = {
     ("builtins", "IndentationError"): (2, (list, tuple)),
     ("builtins", "SyntaxError"): (2, (list, tuple)),
     ("builtins", "TabError"): (2, (list, tuple)),
+    ("builtins", "_IncompleteInputError"): (2, (list, tuple)),
     ("builtins", "UnicodeDecodeError"): (5, (bytes, bytearray)),
     ("xml.etree.ElementTree", "ParseError"): (2, (list, tuple)),
 }
@@ -274,6 +290,7 @@ TABLE: Dict[Tuple[str, str], Substitute] = dict(
         ),
         *(((at, name), shown(at, name)) for at in _SHOWN for name in _SHOWN[at].split()),
         *((pair, _copying(*pair, *how)) for pair, how in _COPYING.items()),
+        *(row("datetime", name, _of_time(name)) for name in TIMES.split()),
         (("decimal", "DecimalTuple"), Class("decimal.DecimalTuple", news=takes_fields)),
         (("uuid", "UUID"), Class("uuid.UUID", call=_uuid, role=OF_TEXT | NEW_OF_NONE)),
     ]

@@ -1,5 +1,6 @@
 """The names that are loaded through substitutes under all lists, without these."""
 
+import sys
 from bisect import bisect_left
 
 TYPE_CHECKING = False
@@ -7,18 +8,21 @@ if TYPE_CHECKING:
     from typing import Any, Iterator, Tuple
 
 _PATHS = "PurePath PurePosixPath PureWindowsPath Path PosixPath WindowsPath"
+TIMES = "date datetime time" if sys.version_info < (3, 10) else ""
 NAMES = {
     "_codecs": "encode",
     "array": "array _array_reconstructor",
     "asyncio.exceptions": "IncompleteReadError LimitOverrunError",
     "builtins": "BaseExceptionGroup ExceptionGroup IndentationError SyntaxError TabError"
-    " UnicodeDecodeError bytes bytearray complex dict frozenset int list range set slice tuple",
+    " UnicodeDecodeError _IncompleteInputError bytes bytearray complex dict frozenset int list"
+    " range set slice tuple",
     "collections": "ChainMap Counter OrderedDict UserDict UserList UserString defaultdict deque",
     "configparser": "Error NoSectionError DuplicateSectionError DuplicateOptionError NoOptionError"
     " InterpolationError InterpolationMissingOptionError InterpolationSyntaxError"
     " InterpolationDepthError ParsingError MissingSectionHeaderError MultilineContinuationError"
     " UnnamedSectionDisabledError InvalidWriteError",
     "copyreg": "_reconstructor",
+    "datetime": TIMES,
     "decimal": "Decimal DecimalTuple",
     "fractions": "Fraction",
     "http.cookies": "Morsel SimpleCookie",

@@ -75,10 +75,11 @@ def called_in(root, pair):
 
 def run(name, tried, seconds, only):
     """Tries the names of a list that weren't tried, and returns what was found."""
-    load = honest.loader(name, Guard(shapes.widened(getattr(lists, name))))
     data = honest.pickles(name)
+    allow = shapes.of_here(getattr(lists, name), data)
+    load = honest.loader(name, Guard(shapes.widened(allow)))
     held = [root for root in map(trees.parsed_or_none, data) if root is not None]
-    pairs = [pair for pair in getattr(lists, name) if pair not in tried and is_here(pair)]
+    pairs = [pair for pair in allow if pair not in tried and is_here(pair)]
     tried.update(pairs)
     warm(load, [*data, *(case for pair in pairs for case in few_of(pair))])
     found = []

@@ -30,12 +30,12 @@ BATCH = 250
 
 def run(name, asked):
     """Tries pickles under a list. Returns those accepted and loaded, and what was found."""
-    allow, end = shapes.widened(getattr(lists, name)), asked.first + asked.pickles
-    load = honest.loader(name, Guard(allow))
-    pairs = [pair for pair in allow if is_here(pair)]
-    held = honest.pickles(name, asked.few)
+    held, end = honest.pickles(name, asked.few), asked.first + asked.pickles
     if not held:  # (its library isn't here: no load gets far)
         return 0, 0, []
+    allow = shapes.widened(shapes.of_here(getattr(lists, name), held))
+    load = honest.loader(name, Guard(allow))
+    pairs = [pair for pair in allow if is_here(pair)]
     for data in held:  # (has everything imported that a load needs)
         with contextlib.suppress(TypeError):  # (what some exceptions raise, under `pickle` too)
             load(data)

@@ -1,5 +1,6 @@
 """What honest programs pickle, by ready-made list, and what loads it."""
 
+import contextlib
 import io
 import pickle
 import sys
@@ -45,7 +46,9 @@ def _estimators():
     from sklearn.utils import all_estimators
 
     for name, kind in all_estimators():
-        yield next(iter(estimators.fitted(name, kind)))
+        # (another version of scikit-learn takes other arguments)
+        with contextlib.suppress(TypeError, ValueError, AttributeError):
+            yield next(iter(estimators.fitted(name, kind)))
 
 
 _MORE = {"DJANGO": _django, "CELERY": _celery, "SCIKIT_LEARN": _estimators,
