@@ -42,8 +42,9 @@ static PyObject *told(struct uses *u, PyObject *data, size_t start, int *what) {
                                     : PyList_New(0);
     if (pieces == NULL || (*what == OBJECTS && u->are_real))
         return pieces;
+    int number = kind_of(u->fault) == MADE ? -1 : (int)name_of(u->fault);
     return Py_BuildValue(
-        "NOini", pieces, is == DONE ? Py_True : Py_False, (int)name_of(u->fault),
+        "NOini", pieces, is == DONE ? Py_True : Py_False, number,
         u->fault != ABSENT ? (Py_ssize_t)place_of(u->fault) : -1, *what);
 }
 

@@ -98,7 +98,7 @@ static int are_texts(const struct uses *u, size_t index) {
 /* The objects from an index on become a tuple, in which only classes stay what they are. */
 static int make_tuple(struct uses *u, size_t index, size_t below) {
     size_t count = u->size - index < FULL ? u->size - index : FULL;
-    slot made = SLOT(ROW, are_texts(u, index) ? count | TEXTS : count, 0), mask = 0;
+    slot made = SLOT(ROW, are_texts(u, index) ? count | TEXTS : count, 0), mask = 0, has = 0;
     int is = DONE;
     for (size_t k = index; k < u->size && is == DONE; k++) {
         slot s = u->stack[k];
@@ -109,9 +109,10 @@ static int make_tuple(struct uses *u, size_t index, size_t below) {
         else
             is = use(u, s);
         mask |= is_passed ? MASK(1u << (k - index)) : 0;
+        has |= kind_of(s) == MADE ? ANSWERS_IN : 0;
     }
     u->size = below;
-    return is == DONE ? push(u, made | mask) : is;
+    return is == DONE ? push(u, made | mask | (kind_of(made) == ROW ? SLOT(0, has, 0) : 0)) : is;
 }
 
 /* Puts the keys and values from an index on into a dict. That of a wrapper's state has a class. */
@@ -139,12 +140,12 @@ static int make_dict(struct uses *u, size_t index, size_t below) {
     return is == DONE ? push(u, made) : is;
 }
 
-/* Notes a call, and pushes what it makes. */
-static int push_made(struct uses *u, unsigned how, int is_wrapper) {
+/* Notes a call, and pushes what it makes, which gets the number of the call for a place. */
+static int push_made(struct uses *u, unsigned how, slot made) {
     struct notes *notes = &u->changes;
     if (!note_call(notes, (uint8_t)how))
         return FAILED;
-    return push(u, is_wrapper ? WRAPPER : SLOT(MADE, 0, u->kept->calls + notes->count - 1));
+    return push(u, made | SLOT(0, 0, u->kept->calls + notes->count - 1));
 }
 
 /* An object gets a state or items. So may what a call of this pickle has made, but a state only
@@ -173,23 +174,39 @@ static int is_free(unsigned role, slot words, uint8_t code) {
     if (code == 0x81)
         return count == 0 && role & NEW_OF_NONE;
     int is_of_texts = name_of(words) & TEXTS && role & (count == 1 ? OF_TEXT | OF_TEXTS : OF_TEXTS);
-    return (count == 0 && role & OF_NONE) || (count == 1 && role & OF_ONE) || is_of_texts;
+    int is_one = count == 1 && !(name_of(words) & ANSWERS_IN);
+    return (count == 0 && role & OF_NONE) || (is_one && role & OF_ONE) || is_of_texts;
+}
+
+/* Whether a pickle may call an object. Of what its calls have made these are only joblib's wrapper,
+   and the answers of names of which the list says that they answer functions. */
+static int is_callable(struct uses *u, slot called) {
+    if (kind_of(called) == MADE && name_of(called) == 0)
+        u->fault = SLOT(MADE, 0, u->at);
+    return u->fault == ABSENT;
+}
+
+/* What a call of an object makes. */
+static slot answer_of(const struct uses *u, slot called) {
+    int is_meant = kind_of(called) != NAME && name_of(called) == MEANT;
+    return SLOT(MADE, is_meant ? MEANT : role_of(u, called) & ANSWERS ? ANSWERING : 0, 0);
 }
 
 /* Calls an object with arguments, or makes an object of a class with them. */
 static int call(struct uses *u, slot called, slot words, uint8_t code) {
     unsigned role = role_of(u, called), how = kind_of(called) == NAME && code != 'R' ? IS_NEW : 0;
-    int is_new = code != 'R';
+    int is_new = code != 'R', is_by_id = called == BY_AN_ID && !is_new;
     int is_known = kind_of(called) == GIVEN || kind_of(called) == NAME;
     int is_wrapper = is_new ? (role & WRAPS) != 0 : kind_of(words) == WRAPPER;
-    int is = mask_of(words) & ~(is_new ? 0 : role >> TAKES) ? use(u, words) : DONE;
-    if (kind_of(words) == NAME || kind_of(words) == DICT)
+    int is = !is_callable(u, called) ? LOST
+        : mask_of(words) & ~(is_new ? 0 : role >> TAKES) ? use(u, words) : DONE;
+    if (is == DONE && (kind_of(words) == NAME || kind_of(words) == DICT))
         is = use(u, words);
     if (is == DONE && kind_of(called) != NAME)
         is = use(u, called);
-    how |= !is_known || role & IS_JUDGED ? OF_JUDGED : 0;
-    u->is_named |= kind_of(called) == NAME && !is_free(role, words, code);
-    return is == DONE ? push_made(u, how, is_wrapper) : is;
+    how |= (!is_known || role & IS_JUDGED ? OF_JUDGED : 0) | (is_by_id ? IS_NEW : 0);
+    u->is_named |= is_by_id || (kind_of(called) == NAME && !is_free(role, words, code));
+    return is == DONE ? push_made(u, how, is_wrapper ? WRAPPER : answer_of(u, called)) : is;
 }
 
 /* Follows an instruction that makes, calls or changes an object, and takes what lies from an index
@@ -269,58 +286,6 @@ static int put(struct uses *u, size_t last) {
     return DONE;
 }
 
-/* Asks what is imported, given the instructions that push the module and the name; -1 after an
-   error. */
-static long ask_number(struct uses *u, size_t module, size_t first, size_t name, size_t second) {
-    PyObject *asked = PyObject_CallFunction(
-        u->number_of, "y#y#", (const char *)u->bytes + module, (Py_ssize_t)first,
-        (const char *)u->bytes + name, (Py_ssize_t)second);
-    long said = asked != NULL ? PyLong_AsLong(asked) : -1;
-    Py_XDECREF(asked);
-    return said;
-}
-
-/* The same, as it was said before, where the instructions follow one another as picklers write
-   them: so that these bytes are of no other names. */
-static long number_of(struct uses *u, size_t module, size_t first, size_t name, size_t second) {
-    size_t end = module + first, between = name != module ? name - end : 0;
-    if (u->numbers == NULL || between > 1 || (between == 1 && u->bytes[end] != 0x94))
-        return ask_number(u, module, first, name, second);
-    PyObject *key = PyBytes_FromStringAndSize(
-        (const char *)u->bytes + module, (Py_ssize_t)(name + second - module));
-    PyObject *known = key != NULL ? PyDict_GetItemWithError(u->numbers, key) : NULL;
-    long said = known != NULL ? PyLong_AsLong(known) : -1;
-    if (known == NULL && !PyErr_Occurred()) {
-        said = ask_number(u, module, first, name, second);
-        if (PyDict_Size(u->numbers) >= REMEMBERED)
-            PyDict_Clear(u->numbers);
-        PyObject *number = said >= 0 ? PyLong_FromLong(said) : NULL;
-        if (number == NULL || PyDict_SetItem(u->numbers, key, number) < 0)
-            said = -1;
-        Py_XDECREF(number);
-    }
-    Py_XDECREF(key);
-    return said;
-}
-
-/* Pushes what is imported by the names that two instructions push, or one. */
-static int import(struct uses *u, size_t module, size_t name) {
-    if (module >= u->length || name >= u->length)
-        return LOST;
-    size_t first = length_of(u->bytes + module, u->length - module);
-    size_t second = length_of(u->bytes + name, u->length - name);
-    if (first > LONGEST || second > LONGEST)
-        return push(u, GIVEN); /* nothing that is listed */
-    long said = number_of(u, module, first, name, second);
-    if (said < 0)
-        return FAILED;
-    if (said % MOST == 0)
-        return push(u, said == 0 ? GIVEN : JUDGED);
-    u->kept->roles[said % MOST] = (uint32_t)(said / MOST);
-    u->is_named |= !(u->are_real && u->kept->roles[said % MOST] & IS_FREE);
-    return push(u, SLOT(NAME, said % MOST, u->at));
-}
-
 /* Follows an instruction that moves objects, or pushes a name. */
 static int moved(struct uses *u, uint8_t code, size_t mark) {
     slot name, module;
@@ -337,11 +302,11 @@ static int moved(struct uses *u, uint8_t code, size_t mark) {
         u->stack[u->size - 1] |= kind_of(u->stack[u->size - 1]) == NAME ? MASK(1) : 0;
         return share(u, u->stack[u->size - 1]) == DONE ? push(u, u->stack[u->size - 1]) : LOST;
     case 'c':
-        return import(u, u->at, u->at);
+        return imported(u, u->at, u->at);
     case 0x93:
         name = pop(u), module = pop(u);
         return kind_of(name) == TEXT && kind_of(module) == TEXT
-            ? import(u, place_of(module), place_of(name)) : LOST;
+            ? imported(u, place_of(module), place_of(name)) : LOST;
     }
     return get(u);
 }
@@ -354,7 +319,7 @@ static inline slot text(const struct uses *u, uint8_t code) {
 static int followed_one(struct uses *u, uint8_t code, size_t last) {
     uint8_t effect = effects[code];
     if (effect == 0)
-        return push(u, is_given(code) ? GIVEN : code == ')' ? SLOT(ROW, TEXTS, 0) : OTHER);
+        return push(u, is_given(code) ? BY_AN_ID : code == ')' ? SLOT(ROW, TEXTS, 0) : OTHER);
     if (effect == IS_TEXT)
         return push(u, text(u, code));
     if (effect == IS_PUT)
@@ -367,19 +332,20 @@ static int followed_one(struct uses *u, uint8_t code, size_t last) {
         return made(u, code, index, below);
     if (effect & MOVES)
         return moved(u, code, below);
+    slot called = code == 'o' && index < u->size ? u->stack[index] : GIVEN;
     unsigned how = OF_JUDGED;
-    if (code == 'o' && index < u->size && kind_of(u->stack[index]) == NAME) {
-        index++; /* the name that OBJ calls isn't to become real */
+    if (kind_of(called) == NAME || called == BY_AN_ID) {
+        index += kind_of(called) == NAME; /* the name that OBJ calls isn't to become real */
         how |= IS_NEW;
         u->is_named = 1;
     }
-    int is = use_from(u, index, below);
+    int is = is_callable(u, called) ? use_from(u, index, below) : LOST;
     is = is == DONE && effect & STAYS && !are_there(u, 1) ? LOST : is;
     if (is == DONE && (code == 'a' || code == 'e' || code == 0x90))
         is = change(u, u->stack[u->size - 1], HAS_ITEMS);
     if (is == DONE && (code == 'i' || code == 'o'))
-        return push_made(u, how, 0);
-    return is == DONE && !(effect & KEEPS) ? push(u, is_given(code) ? GIVEN : OTHER) : is;
+        return push_made(u, how, answer_of(u, called));
+    return is == DONE && !(effect & KEEPS) ? push(u, is_given(code) ? BY_AN_ID : OTHER) : is;
 }
 
 int followed_all(struct uses *u) {

@@ -9,7 +9,10 @@
    each; for a name it is 1 if it can't become real; a dict, and what a call has MADE, has its
    number for a place. GIVEN is what was there before the load, JUDGED a class of which each object
    is judged when it is made. A TEXT has 1 for a name if it is SHORT; a ROW is a tuple without
-   classes: it has the number of its parts, at most FULL, and TEXTS if they all are such texts. */
+   classes: it has the number of its parts, at most FULL, TEXTS if they all are such texts, and
+   ANSWERS_IN if some were MADE.
+   GIVEN, JUDGED and MADE have for a name what it is: given BY_ID; MEANT by the list to answer
+   functions, or made by what is; ANSWERING, what a substitute of the list has made. */
 typedef uint64_t slot;
 enum { ABSENT, MARK, OTHER, TEXT, ROW, GIVEN, MADE, JUDGED, NAME, TUPLE, DICT, WRAPPER };
 #define SLOT(kind, name, place) ((slot)(kind) | (slot)(name) << 4 | (slot)(place) << 24)
@@ -18,15 +21,18 @@ enum { ABSENT, MARK, OTHER, TEXT, ROW, GIVEN, MADE, JUDGED, NAME, TUPLE, DICT, W
 #define LONGEST 4096     /* no listed name is longer */
 #define REMEMBERED 4096  /* the most names whose numbers are */
 #define SHORT 100        /* the bytes of an instruction with a text that takes no time to parse */
-enum { FULL = 15, TEXTS = 16 };
+enum { FULL = 15, TEXTS = 16, ANSWERS_IN = 32 };
+enum { BY_ID = 1, ANSWERING, MEANT };
+#define BY_AN_ID SLOT(GIVEN, BY_ID, 0)
 
 /* What a name is: one that becomes the real object where it is a value; a class that some names
    take as an argument; joblib's wrapper; one whose objects are judged. The bits from TAKES on are
    the arguments that it takes. A substitute does what the real object does when it is called with
-   NONE, with ONE, with a short TEXT, with such TEXTS, or makes a NEW object with nothing. */
+   NONE, with ONE, with a short TEXT, with such TEXTS, or makes a NEW object with nothing. What a
+   name that ANSWERS has made may be called. */
 enum { BECOMES_REAL = 1, IS_PASSED = 2, WRAPS = 4, IS_JUDGED = 8, TAKES = 4 };
 enum { OF_NONE = 1 << 12, OF_ONE = 2 << 12, OF_TEXT = 4 << 12, OF_TEXTS = 8 << 12,
-       NEW_OF_NONE = 16 << 12, IS_FREE = 31 << 12 };
+       NEW_OF_NONE = 16 << 12, IS_FREE = 31 << 12, ANSWERS = 32 << 12 };
 
 /* What the pickles of one reader have in common. */
 struct kept {
@@ -96,6 +102,9 @@ static inline int push(struct uses *u, slot s) {
 /* Follows usual instructions from a place on, but not the last of the pickle, as long as there is
    room for what they push. Returns where they end. `last`: the last one that isn't a PUT. */
 size_t usual_run(struct uses *u, size_t at, size_t *last);
+
+/* Pushes what is imported by the names that two instructions push, or one. */
+int imported(struct uses *u, size_t module, size_t name);
 
 /* Follows the pickle as long as a reader gets on, and notes what changes up to STOP. */
 int followed_all(struct uses *u);

@@ -43,7 +43,7 @@ static inline int is_got(struct uses *u, size_t number) {
 /* Calls a name without a substitute with plain arguments. */
 static inline int is_called(struct uses *u, size_t at) {
     struct notes *notes = &u->changes;
-    if (u->size < 2 || !are_plain(u, u->size - 1) || kind_of(u->stack[u->size - 2]) != GIVEN
+    if (u->size < 2 || !are_plain(u, u->size - 1) || u->stack[u->size - 2] != GIVEN
         || notes->size == notes->room || notes->count == notes->places || at - notes->last > 127)
         return 0;
     note(notes, at);
@@ -63,12 +63,14 @@ static inline int is_dict(struct uses *u) {
 
 static inline int is_row(struct uses *u, size_t count) {
     size_t index = u->size - count;
-    unsigned are_short = TEXTS;
+    unsigned are_short = TEXTS, has = 0;
     if (u->size < count || !are_plain(u, index))
         return 0;
-    for (size_t k = index; k < u->size; k++)
+    for (size_t k = index; k < u->size; k++) {
         are_short &= kind_of(u->stack[k]) == TEXT ? name_of(u->stack[k]) * TEXTS : 0;
-    u->stack[index] = SLOT(ROW, count | are_short, 0);
+        has |= kind_of(u->stack[k]) == MADE ? ANSWERS_IN : 0;
+    }
+    u->stack[index] = SLOT(ROW, count | are_short | has, 0);
     u->size = index + 1;
     return 1;
 }

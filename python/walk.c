@@ -124,9 +124,12 @@ static int is_call(uint8_t code) {
     return code == 'R' || code == 0x81 || code == 0x92 || code == 'i' || code == 'o';
 }
 
-/* How an instruction is written that makes an object of what stands for a class. */
+/* How an instruction is written that makes an object of what stands for a class, or calls what an
+   id gave. */
 static const char *new_of(uint8_t code) {
-    return code == 0x81 ? "]\x87Q" : code == 0x92 ? "\x87\x88]\x87Q" : "tN]\x87Q";
+    return code == 'R' ? "}\x87Q"
+        : code == 0x81 ? "]\x87Q"
+        : code == 0x92 ? "\x87\x88]\x87Q" : "tN]\x87Q";
 }
 
 /* Writes the instructions between two places. A real object comes before what changes there. */

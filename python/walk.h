@@ -27,17 +27,19 @@ PyObject *followed(PyObject *module, PyObject *args);
    a function that says of each import, given the instructions that push its module and its name,
    or twice the one that has both: 0, or a number below 1024 plus 1024 times the name's role; and
    whether BUILD may take what the pickle hasn't made. The number is 0 where only what the name
-   makes is judged. Returns what the reader is given in place of the pickle; whether it got to STOP;
-   the number of a name that is a value and can't be real, or 0 of what can't be changed, and its
-   place, or -1; and what a reader has to judge: 0 nothing, 1 objects, 2 what names stand for.
+   makes is judged, or may be called. Returns what the reader is given in place of the pickle;
+   whether it got to STOP; the number of a name that is a value and can't be real, 0 of what can't
+   be changed, or -1 of what can't be called, and its place, or -1; and what a reader has to judge:
+   0 nothing, 1 objects, 2 what names stand for.
 
    The reader is given the whole instructions up to STOP, also those that it can't get to: BUILD as
    TUPLE2 BINPERSID, BINPERSID as TUPLE1 BINPERSID, no frames, where a value becomes the real
    object, behind the instruction that pushes it, NONE NONE TUPLE3 BINPERSID, and behind a call
    whose object is judged or changed, NONE BININT1 TUPLE3 BINPERSID. NEWOBJ of a name that has a
    substitute is EMPTY_LIST TUPLE3 BINPERSID, OBJ of one the same behind TUPLE NONE, and NEWOBJ_EX
-   behind TUPLE3 NEWTRUE. These are pieces: bytes, and the begin and end of what counts of them.
-   Long ones are the bytes of the pickle. */
+   behind TUPLE3 NEWTRUE. REDUCE of what an id gave is EMPTY_DICT TUPLE3 BINPERSID. These are
+   pieces: bytes, and the begin and end of what counts of them. Long ones are the bytes of the
+   pickle. */
 PyObject *begin_uses(PyObject *module, PyObject *args);
 PyObject *uses(PyObject *module, PyObject *args);
 

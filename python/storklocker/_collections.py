@@ -3,9 +3,12 @@
 from __future__ import annotations
 
 import collections
+import functools
+import types
 from typing import TYPE_CHECKING, Any, Dict, Tuple
 
 from ._calls import plain, takes_text, wrong
+from ._objects import KINDS
 from ._substitute import BECOMES_REAL, EMPTY, OF_ONE, Class, Remembering, Substitute
 from ._weighing import keys_of
 
@@ -38,8 +41,14 @@ def _ordered(reader: Reader, *given: Any) -> Any:
     return collections.OrderedDict(*_pairs(reader, "OrderedDict", given))
 
 
+_MAKERS = (*KINDS, types.MethodType, functools.partial, type(None))
+"""The classes of what makes defaults. Another object may be called by whoever asks for a key, as a
+signature of Celery, which runs a task.
+"""
+
+
 def _defaults(reader: Reader, *given: Any) -> Any:
-    if given and given[0] is not None and not callable(given[0]):
+    if given and not isinstance(given[0], _MAKERS):
         raise wrong("defaultdict")
     return collections.defaultdict(*given[:1], *_pairs(reader, "defaultdict", given[1:]))
 

@@ -258,7 +258,7 @@ class Guard(Loads):
         if self._unpickler is None:
             from ._unpickler import kind_of
 
-            self._unpickler = kind_of(self, len(self._allow) > 0)
+            self._unpickler = kind_of(self, len(self._allow) > 0 or self._enforce)
         return self._unpickler
 
     @staticmethod

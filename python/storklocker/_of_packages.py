@@ -151,29 +151,13 @@ def _model(reader: Reader, *given: Any) -> Any:
 
 
 def _signature(reader: Reader, *given: Any) -> Any:
-    """A signature of Celery, which goes through its tasks. A pickle that calls it would run one."""
+    """A signature of Celery, which goes through its tasks."""
     import celery.canvas
 
     if not given or type(given[0]) not in (dict, str):
         raise wrong("signature")
     values(reader, given)
-    made = celery.canvas.signature(*given)
-    kind: Any = type(made)
-    reader.disguised.append((made, kind))
-    made.__class__ = _uncalled(kind)
-    return made
-
-
-@functools.lru_cache(maxsize=64)
-def _uncalled(kind: Any) -> Any:
-    """A subclass whose objects refuse to be called. It stands for the class until the pickle is
-    loaded.
-    """
-    def refuse(self: Any, *given: Any, **named: Any) -> Any:
-        raise Misused(f"a {kind.__name__} that a call has given is called")
-
-    own = {"__slots__": (), "__module__": __name__, "__call__": refuse}
-    return type(kind.__name__, (kind,), own)
+    return celery.canvas.signature(*given)
 
 
 def _raised(reader: Reader, *given: Any) -> Any:

@@ -16,11 +16,13 @@ some functions take as an argument; joblib's wrapper of arrays; what makes objec
 
 
 OF_NONE, OF_ONE, OF_TEXT, OF_TEXTS, NEW_OF_NONE = (1 << 12 + k for k in range(5))
-"""More roles: what does as the real object does when it is called with nothing, with one argument,
-with a short text, or with such texts, or makes a new object with nothing.
+"""More roles: what does as the real object does when it is called with nothing, with one argument
+that no call has made, with a short text, or with such texts, or makes a new object with nothing.
 """
 EMPTY = OF_NONE | NEW_OF_NONE
 """The role of a class of values that are empty by default."""
+ANSWERS = 1 << 17
+"""The role of what answers functions, which a pickle may call."""
 
 
 def takes(*places: int) -> int:

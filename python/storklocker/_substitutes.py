@@ -13,6 +13,7 @@ from __future__ import annotations
 
 import pickle
 import sys
+import types
 import weakref
 from typing import (
     Any,
@@ -34,7 +35,7 @@ from . import (
 from ._answers import Misused, told
 from ._guard import _later
 from ._lists import AllowList
-from ._objects import found
+from ._objects import KINDS, found
 from ._plain import loads as plain_loads
 from ._states import build, judge_made
 from ._substitute import Substitute
@@ -52,6 +53,7 @@ MOST_FREE, STEPS_FREE = 1 << 26, 100_000
 _DEFAULTS = {"encoding": "ASCII", "errors": "strict", "buffers": None}
 """What a reader takes as if it were given nothing, only slower."""
 _UNFOLLOWED = "the pickle has instructions that no pickler writes"
+_FUNCTIONS = (*KINDS, types.MethodType)
 _IS_LENT = pickle.Unpickler is not getattr(pickle, "_Unpickler", None)
 """Whether the reader takes bytes that are lent: that in C does, that in Python doesn't."""
 
@@ -112,6 +114,14 @@ def declared(allow: AllowList) -> Dict[Pair, Substitute]:
     return {**{_names.today(pair): said[pair] for pair in said}, **said}
 
 
+def meant(allow: AllowList) -> FrozenSet[Pair]:
+    """The names that a list says to be meant, by the names that Python 3 has."""
+    if allow._meant is None:
+        return frozenset()
+    said = allow._meant.dangerous
+    return said.union(map(_names.today, said))
+
+
 class Reader(pickle.Unpickler):
     """Loads pickles that are accepted and respelled."""
 
@@ -127,7 +137,7 @@ class Reader(pickle.Unpickler):
         super().__init__(self._feed, fix_imports=False, **named)
         self.own = declared(allow)
         """The substitutes that the list declares."""
-        self._uses: Uses = uses or _later("_uses").Uses(self.own, self.wrappers)
+        self._uses: Uses = uses or _later("_uses").Uses(self.own, self.wrappers, meant(allow))
         self.unbuilt: Dict[int, Any] = {}
         """Objects that a substitute made, by id, and whose state the pickle has yet to set."""
         self.types: Dict[int, Any] = {}
@@ -212,6 +222,8 @@ class Reader(pickle.Unpickler):
             return self.persistent(asked[0])
         elif type(asked[2]) is list:
             return self._new(asked[0], asked[1])
+        elif type(asked[2]) is dict:
+            return self.called(asked[0], asked[1])
         elif asked[2] is not None:
             judge_made(self, asked)
         elif isinstance(asked[0], Substitute):
@@ -225,7 +237,7 @@ class Reader(pickle.Unpickler):
         if given is None:
             kind, *given = kind
             if given or not isinstance(kind, (Substitute, type)):
-                return kind(*given)
+                return kind(*given) if isinstance(kind, Substitute) else self.called(kind, given)
             given = ()
         elif given is True:
             kind, given, words = kind
@@ -237,6 +249,14 @@ class Reader(pickle.Unpickler):
             return kind.new(self, *given)
         maker: Any = kind
         return maker.__new__(maker, *given)
+
+    def called(self, called: Any, given: Any) -> Any:
+        """What a call makes of what a persistent id has given: a class or a function, and no other
+        object, whose class may have it called too.
+        """
+        if not isinstance(called, _FUNCTIONS):
+            raise Misused(f"the pickle calls {told(called)}, which a persistent id has given")
+        return called(*given)
 
     def copied_memo(self) -> Dict[int, Any]:
         """A copy of the memo."""
@@ -263,7 +283,7 @@ def begin(guard: Any) -> None:
     """Has a guard find out by itself whether a pickle needs a reader of these, from the second
     pickle on.
     """
-    if not declared(guard._allow):
+    if not (declared(guard._allow) or meant(guard._allow)):
         is_quick = guard._old_strings == "unknown" and not guard._takes_any
         _later("_uses").begin(guard, _later("_judging").JUDGES if is_quick else None)
 
@@ -276,7 +296,7 @@ def loads(
     """
     if named == _DEFAULTS:
         named = {}
-    uses: Uses = _later("_uses").Uses(declared(allow), frozenset())
+    uses: Uses = _later("_uses").Uses(declared(allow), frozenset(), meant(allow))
     uses.takes_any = how.takes_any
     if told is None or how.takes_any:
         pieces = uses.respelled(data, 0, how.is_old)

@@ -16,7 +16,7 @@ from ._answers import Misused
 from ._guard import Guard, _loads
 from ._storklocker import begin_judging, begin_uses, uses
 from ._objects import found
-from ._substitute import IS_JUDGED, IS_WRAPPER, Substitute
+from ._substitute import ANSWERS, IS_JUDGED, IS_WRAPPER, Substitute
 from ._substitutes import Piece, substitute_of
 
 Pair = Tuple[str, str]
@@ -62,12 +62,15 @@ _ROOM = _MOST // 2
 class Uses:
     """Follows the pickles that one reader loads."""
 
-    __slots__ = ("is_whole", "judges", "takes_any", "_own", "_kept", "_numbers", "_is_old")
+    __slots__ = (
+        "is_whole", "judges", "takes_any", "_own", "_meant", "_kept", "_numbers", "_is_old"
+    )
 
     def __init__(
         self,
         own: Mapping[Pair, Substitute],
         wrappers: FrozenSet[Pair],
+        meant: FrozenSet[Pair],
         is_shared: bool = True,
     ) -> None:
         self.is_whole = True
@@ -80,8 +83,9 @@ class Uses:
         if own or wrappers:
             self._own = dict.fromkeys(wrappers, IS_WRAPPER)
             self._own.update((pair, own[pair].role) for pair in own)
+        self._meant = meant
         self._kept = begin_uses()
-        is_shared = is_shared and not self._own and len(_SHARED.of) < _ROOM
+        is_shared = is_shared and not self._own and not meant and len(_SHARED.of) < _ROOM
         self._numbers = _SHARED if is_shared else _Numbers()
         self._is_old = False
 
@@ -103,6 +107,11 @@ class Uses:
                 f"at byte {place:,} an object gets a state or items that the pickle hasn't made, or"
                 " that has a state"
             )
+        if place >= 0 and number < 0:
+            raise Misused(
+                f"at byte {place:,} the pickle calls what a call of its own has made: only what"
+                " [substitutes] of its list names may give it functions"
+            )
         if place >= 0:
             pair = next(pair for pair, its in self._numbers.of.items() if its == number)
             raise Misused(
@@ -116,7 +125,11 @@ class Uses:
         names; 0 if that has no substitute.
         """
         pair, role = _asked(module, name, self._is_old)
-        return self._numbers.number(pair, self._own.get(pair, role))
+        return self._told(pair, self._own.get(pair, role))
+
+    def _told(self, pair: Pair, role: Optional[int]) -> int:
+        """The number and the role of a pair, and whether the list means it to answer functions."""
+        return self._numbers.number(pair, role) + (ANSWERS * _MOST if pair in self._meant else 0)
 
 
 def begin(guard: Guard, judges: Any) -> None:

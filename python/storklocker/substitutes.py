@@ -39,7 +39,7 @@ from typing import (
 )
 
 from ._answers import Misused, told
-from ._substitute import Remembering, Substitute
+from ._substitute import ANSWERS, Remembering, Substitute
 
 if TYPE_CHECKING:
     from ._guard import Guard
@@ -53,7 +53,7 @@ class _Declared(Substitute):
     __slots__ = ("_made",)
 
     def __init__(self, call: Callable[..., Any], maker: Callable[..., Any], *given: Any) -> None:
-        super().__init__(maker.__name__, call)
+        super().__init__(maker.__name__, call, ANSWERS)
         self._made = (maker, given)
 
     def __reduce__(self) -> Tuple[Any, ...]:

@@ -79,8 +79,10 @@ REAL = b"NN\x87Q"
 """What has the reader put a real object in place of a name."""
 JUDGED = re.compile(b"NK[\1-\7]\x87Q")
 """What has the reader judge what a call has made."""
-MADE = {b"\x87\x88]\x87Q": b"\x92", b"tN]\x87Q": b"o", b"]\x87Q": b"\x81"}
-"""What has the reader make an object of what stands for a class, and in place of what."""
+MADE = {b"\x87\x88]\x87Q": b"\x92", b"tN]\x87Q": b"o", b"]\x87Q": b"\x81", b"}\x87Q": b"R"}
+"""What has the reader make an object of what stands for a class, or call what a persistent id gave,
+and in place of what.
+"""
 NEW = {b"b": b"\x86Q", b"Q": b"\x85Q", b"\x95": b""}
 WIDTHS = {
     pickletools.TAKEN_FROM_ARGUMENT1: 1,

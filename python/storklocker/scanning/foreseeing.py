@@ -25,7 +25,7 @@ from .._storklocker import walked
 from .._of_packages import PACKAGES
 from .._states import HAS_ITEMS, HAS_STATE
 from .._substitute import Class, Substitute, Value
-from .._substitutes import TABLE, Reader, _for_object
+from .._substitutes import TABLE, Reader, _for_object, meant
 from .._types import Kind
 from .._uses import Uses, named_by
 from .dangers import is_in_shipped_list
@@ -159,7 +159,7 @@ class _ForeseenUses(Uses):
     __slots__ = ("_reader",)
 
     def __init__(self, reader: Foreseer) -> None:
-        super().__init__(reader.own, WRAPPERS, is_shared=False)
+        super().__init__(reader.own, WRAPPERS, meant(reader.allow), is_shared=False)
         self._reader, self.takes_any = reader, reader.is_any
 
     def _number_of(self, module: bytes, name: bytes) -> int:
@@ -167,7 +167,7 @@ class _ForeseenUses(Uses):
         own = self._own.get(pair)
         substitute = self._reader.substitute_for(pair)
         role = None if substitute is None else substitute.role
-        return self._numbers.number(pair, role if own is None else own)
+        return self._told(pair, role if own is None else own)
 
 
 class Foreseer(Reader):
@@ -177,6 +177,7 @@ class Foreseer(Reader):
         super().__init__(allow, encoding=encoding, buffers=itertools.repeat(UNKNOWN))
         self.is_old = is_old
         """Whether its names are those of Python 2."""
+        self.allow = allow
         self.is_any = allow.build == "any" and not has_substitutes(allow)
         """Whether BUILD may take what the pickle hasn't made."""
         self._uses = _ForeseenUses(self)
@@ -249,6 +250,9 @@ class Foreseer(Reader):
     def persistent(self, number: Any) -> Any:
         is_storage = type(number) is tuple and len(number) in (5, 6) and number[0] == "storage"
         return Storage(number[4]) if is_storage and type(number[4]) is int else UNKNOWN
+
+    def called(self, called: Any, given: Any) -> Any:
+        return self.put_off("it calls what a persistent id gives")
 
     def knows(self, given: Any) -> bool:
         """Whether all of these values is what a guard's reader would have here."""
