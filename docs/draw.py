@@ -1,11 +1,19 @@
 #!/usr/bin/env python3
-"""Draws the pictures of docs/ARCHITECTURE.md: crates.svg from crates.txt, and pickle.svg.
+"""Draws the pictures of the documents: crates.svg from crates.txt, pickle.svg, and scan.svg, which
+shows what a terminal shows. The last needs the Python package.
 
 tests/documents.py compares them with what this draws.
 """
 
+import os
+import pty
+import re
+import subprocess
+import sys
+import tempfile
+import zipfile
 from pathlib import Path
-from typing import Dict, Iterator, List, NamedTuple, Sequence, Set, Tuple
+from typing import Dict, Iterator, List, Mapping, NamedTuple, Sequence, Set, Tuple
 from xml.sax import saxutils
 
 DOCS = Path(__file__).resolve().parent
@@ -18,6 +26,10 @@ path { stroke: #667; fill: none; marker-end: url(#tip) }"""
 TIP = """<marker id="tip" viewBox="0 0 8 8" refX="8" refY="4" markerWidth="7" markerHeight="7"
  orient="auto"><polygon points="0,0 8,4 0,8" fill="#667"/></marker>"""
 WIDE, HIGH, ACROSS, DOWN = 132, 58, 150, 96
+TERMINAL = "text { font: 13px monospace; fill: #ddd; white-space: pre }"
+BACKGROUND = "fill: #1d2329; stroke: none"
+# The codes by which `scan` sets colours, and how a terminal shows them.
+COLOURS = {"1;31": "fill: #ff6b68; font-weight: bold"}
 ANSWERS = ["yes: the bytes taken, the imports in order", "no: the offset, the reason, the pair"]
 
 
@@ -54,15 +66,22 @@ def arrow(*places: Tuple[int, int]) -> str:
     return f'<path d="M{" L".join(f"{left},{top}" for left, top in places)}"/>'
 
 
-def picture(title: str, width: int, height: int, parts: Sequence[str]) -> str:
+def picture(
+    title: str,
+    width: int,
+    height: int,
+    parts: Sequence[str],
+    style: str = STYLE,
+    background: str = "fill: white; stroke: none",
+) -> str:
     lines = [
         f'<svg xmlns="http://www.w3.org/2000/svg" role="img" width="{width}" height="{height}">',
         f"<title>{title}</title>",
-        f"<style>{STYLE}</style>",
-        f"<defs>{TIP}</defs>",
-        f'<rect width="{width}" height="{height}" style="fill: white; stroke: none"/>',
+        f"<style>{style}</style>",
+        f"<defs>{TIP}</defs>" if style == STYLE else "",
+        f'<rect width="{width}" height="{height}" style="{background}"/>',
     ]
-    return "\n".join([*lines, *parts, "</svg>", ""])
+    return "\n".join([*filter(None, lines), *parts, "</svg>", ""])
 
 
 def uses() -> Dict[str, List[str]]:
@@ -139,11 +158,66 @@ def pickle_picture() -> str:
     return picture("A pickle on its way through the checker", 750, 298, labels + arrows + drawn)
 
 
-def pictures() -> Dict[Path, str]:
+def shown(words: Sequence[str], folder: Path, environment: Mapping[str, str]) -> str:
+    """What a command writes to a terminal."""
+    here, there = pty.openpty()
+    started = subprocess.Popen(words, cwd=folder, env=environment, stdout=there, stderr=there)
+    os.close(there)
+    output = b""
+    try:
+        while True:
+            part = os.read(here, 1 << 16)
+            if not part:
+                break
+            output += part
+    except OSError:  # so Linux ends what a closed terminal gives
+        pass
+    finally:
+        os.close(here)
+        started.wait()
+    return output.decode().replace("\r\n", "\n")
+
+
+def terminal_picture(environment: Mapping[str, str]) -> str:
+    """A scan of a hostile model on a terminal."""
+    python = environment.get("PYTHON", sys.executable)
+    path = [os.path.abspath(it) for it in environment.get("PYTHONPATH", "").split(os.pathsep) if it]
+    named = {**environment, "TERM": "xterm", "NO_COLOR": "", "PYTHONPATH": os.pathsep.join(path)}
+    with tempfile.TemporaryDirectory() as folder:
+        models = Path(folder, "models")
+        models.mkdir()
+        with zipfile.ZipFile(models / "model.pt", "w") as model:
+            model.writestr("model/data.pkl", b"cos\nsystem\n(Vecho gone\ntR.")
+        words = [python, "-m", "storklocker", "scan", "models"]
+        lines = ["$ storklocker scan models", *shown(words, Path(folder), named).splitlines()]
+    drawn = [
+        f'<text x="14" y="{26 + 18 * number}">{painted(line)}</text>'
+        for number, line in enumerate(lines)
+    ]
+    wide = 28 + 8 * max(len(re.sub("\x1b\\[[0-9;]*m", "", line)) for line in lines)
+    title = "A scan of a hostile model, on a terminal"
+    return picture(title, wide, 22 + 18 * len(lines), drawn, TERMINAL, BACKGROUND)
+
+
+def painted(line: str) -> str:
+    """A line with the codes of its colours turned into styles."""
+    pieces = re.split("\x1b\\[([0-9;]*)m", line)
+    drawn = [saxutils.escape(pieces[0])]
+    for code, words in zip(pieces[1::2], pieces[2::2]):
+        written = saxutils.escape(words)
+        style = COLOURS.get(code)
+        drawn.append(f'<tspan style="{style}">{written}</tspan>' if style else written)
+    return "".join(drawn)
+
+
+def pictures(environment: Mapping[str, str], has_package: bool = True) -> Dict[Path, str]:
     """The files, and what is in them."""
-    return {DOCS / "crates.svg": crates_picture(), DOCS / "pickle.svg": pickle_picture()}
+    drawn = {DOCS / "crates.svg": crates_picture(), DOCS / "pickle.svg": pickle_picture()}
+    if has_package:
+        drawn[DOCS / "scan.svg"] = terminal_picture(environment)
+    return drawn
 
 
 if __name__ == "__main__":
-    for file, drawing in pictures().items():
+    for file, drawing in pictures(os.environ).items():
         file.write_text(drawing, encoding="utf-8")

@@ -6,6 +6,7 @@ import re
 import subprocess
 from typing import Callable, Dict, Iterator, List, NamedTuple, Set
 
+import worked
 from papers import FILES, ROOT, Document, Fault, found_in, text_of
 
 
@@ -35,7 +36,7 @@ WORDS = "one two three four five six seven eight nine ten eleven twelve".split()
 def wrong_counts(document: Document) -> Iterator[Fault]:
     """Counts that differ from the repository's. `more than 100` is right if there are more."""
     number = "[0-9][0-9,]*|" + "|".join(WORDS)
-    pattern = rf"(?i)\b(more than )?\b({number})\s+({'|'.join(COUNTS)})\b"
+    pattern = rf"(?i)\b(more\s+than\s+)?\b({number})\s+({'|'.join(COUNTS)})\b"
     for line, match in found_in(document, pattern):
         word = match[2].lower()
         told = WORDS.index(word) + 1 if word in WORDS else int(word.replace(",", ""))
@@ -143,7 +144,7 @@ def number_in(text: str) -> float:
 def wrong_figures() -> Iterator[Fault]:
     """Numbers of documents that differ from the sources', or that one of the two no longer has."""
     for figure in FIGURES:
-        told = re.findall(figure.told, text_of(figure.document))
+        told = re.findall(figure.told, re.sub(r"\s+", " ", text_of(figure.document)))
         actual = re.search(figure.actual, text_of(figure.source))
         numbers = {number_in(it) for it in told + ([actual[1]] if actual else [])}
         if len(numbers) != 1 or not told or not actual:
@@ -234,7 +235,7 @@ def old_pictures() -> Iterator[Fault]:
     assert spec and spec.loader
     draw = importlib.util.module_from_spec(spec)
     spec.loader.exec_module(draw)
-    for file, drawing in draw.pictures().items():
+    for file, drawing in draw.pictures(worked.environment(), worked.has_package()).items():
         if not file.exists() or file.read_text(encoding="utf-8") != drawing:
             yield Fault(f"docs/{file.name}", 0, "isn't current: run docs/draw.py")
 

@@ -23,7 +23,7 @@ import venv
 from pathlib import Path
 from typing import Any, Dict, Optional
 
-from worked import ROOT, blocks_of, commands_of, session_of
+from worked import DONE, blocks_of, commands_of, session_of
 
 HOSTILE = b"cos\nsystem\n(Vtouch /nowhere/at-all\ntR."
 HARMLESS = b"\x80\x04K\x01."
@@ -102,10 +102,10 @@ class Packages(unittest.TestCase):
             for _, command, printed in commands_of(block) if block.language == "console" else ():
                 said = ran(tools / "sh", "-c", command, **named)
                 self.assertEqual((said.stdout + said.stderr).rstrip("\n"), printed, command)
-        session = session_of([it for it in blocks if it.language == "pycon"])
+        sessions = [it for it in blocks if it.language == "pycon"]
         python = self.environment / "bin" / "python"
-        said = ran(python, ROOT / "tests" / "worked.py", input=session, **named)
-        self.assertEqual(said.stdout + said.stderr, "")
+        said = ran(python, ROOT / "tests" / "worked.py", input=session_of(sessions), **named)
+        self.assertEqual(said.stdout + said.stderr, f"{DONE}\n" * len(sessions))
 
     def test_pages_are_installed(self) -> None:
         share = self.environment / "share"

@@ -1,7 +1,7 @@
 """Runs the examples of a document, and compares their output with the document.
 
-They run in one folder, which is like the top of the repository: first the commands of all `console`
-blocks, in order, then all `pycon` blocks as one session. So what one writes, the next can read.
+They run in order, in one folder, which is like the top of the repository: the commands of `console`
+blocks each in a shell, all `pycon` blocks in one session. So what one writes, the next can read.
 PKTOOL names the program, otherwise it is the launcher; PYTHON an interpreter with the package. The
 package is the one that was built here, or else the one that is installed.
 """
@@ -10,6 +10,7 @@ import ast
 import contextlib
 import doctest
 import itertools
+import json
 import os
 import shlex
 import shutil
@@ -17,11 +18,14 @@ import signal
 import subprocess
 import sys
 import tempfile
+import threading
 from pathlib import Path
-from typing import Dict, Iterator, List, NamedTuple, Tuple
+from typing import Any, Dict, Iterator, List, NamedTuple, Optional, Tuple
 
 ROOT = Path(__file__).resolve().parent.parent
 SECONDS = 120
+# The line by which a session says that a block has ended.
+DONE = "done"
 # With its folder: the examples find this module's own `python3` first, which runs it.
 PYTHON = shutil.which(os.environ.get("PYTHON", sys.executable)) or sys.executable
 
@@ -102,9 +106,9 @@ def top() -> Iterator[Path]:
         yield folder
 
 
-def run(command: List[str], folder: Path, given: str = "") -> str:
-    """The output of a command in a folder."""
-    started = subprocess.Popen(
+def started(command: List[str], folder: Path) -> "subprocess.Popen[str]":
+    """A command that runs in a folder."""
+    return subprocess.Popen(
         command,
         cwd=folder,
         env={**environment(), "PATH": f"{folder / 'bin'}:{os.environ['PATH']}"},
@@ -115,12 +119,21 @@ def run(command: List[str], folder: Path, given: str = "") -> str:
         errors="replace",
         start_new_session=True,
     )
+
+
+def stop(process: "subprocess.Popen[str]") -> None:
+    """Ends a command with all its children."""
+    os.killpg(process.pid, signal.SIGKILL)
+
+
+def run(command: List[str], folder: Path) -> str:
+    """The output of a command in a folder."""
+    process = started(command, folder)
     try:
-        return started.communicate(given, timeout=SECONDS)[0].rstrip("\n")
+        return process.communicate("", timeout=SECONDS)[0].rstrip("\n")
     except subprocess.TimeoutExpired:
-        # with all its children
-        os.killpg(started.pid, signal.SIGKILL)
-        started.communicate()
+        stop(process)
+        process.communicate()
         return f"no answer within {SECONDS} seconds"
 
 
@@ -133,26 +146,68 @@ def faults_of_shell(block: Block, folder: Path) -> Iterator[Tuple[int, str]]:
 
 
 def session_of(blocks: List[Block]) -> str:
-    """One session with all Python blocks, with the line numbers of the document."""
-    lines: List[str] = []
-    for block in blocks:
-        lines += [""] * (block.line - 1 - len(lines)) + block.text.splitlines()
-    return "\n".join(lines) + "\n"
+    """What a session reads: a line for each block, which keeps the line numbers of the document."""
+    texts = ("\n" * (block.line - 1) + block.text for block in blocks)
+    return "".join(json.dumps(text) + "\n" for text in texts)
 
 
 def run_session() -> int:
-    """Runs the session on standard input. This is the process of the examples."""
-    test = doctest.DocTestParser().get_doctest(sys.stdin.read(), {}, "document", None, 0)
+    """Runs the blocks on standard input, in one session. This is the process of the examples."""
     flags = doctest.NORMALIZE_WHITESPACE | doctest.REPORT_NDIFF
-    return doctest.DocTestRunner(verbose=False, optionflags=flags).run(test).failed
+    names: Dict[str, Any] = {}
+    failed = 0
+    for line in sys.stdin:
+        test = doctest.DocTestParser().get_doctest(json.loads(line), names, "document", None, 0)
+        runner = doctest.DocTestRunner(verbose=False, optionflags=flags)
+        failed += runner.run(test, clear_globs=False).failed
+        names = test.globs
+        print(DONE, flush=True)
+    return failed
 
 
-def faults_of_python(blocks: List[Block], folder: Path) -> Iterator[Tuple[int, str]]:
-    """The report of a session of a document's examples."""
-    if blocks:
-        told = run([PYTHON, os.path.abspath(__file__)], folder, session_of(blocks))
+class Session:
+    """One session of Python, which runs the blocks of a document. The first block begins it."""
+
+    def __init__(self, folder: Path) -> None:
+        self._folder = folder
+        self._process: Optional["subprocess.Popen[str]"] = None
+
+    def __enter__(self) -> "Session":
+        return self
+
+    def __exit__(self, *_: Any) -> None:
+        if self._process is None:
+            return
+        try:
+            self._process.communicate(timeout=SECONDS)
+        except subprocess.TimeoutExpired:
+            stop(self._process)
+            self._process.communicate()
+
+    def faults_of(self, block: Block) -> Iterator[Tuple[int, str]]:
+        """The report on the examples of a block."""
+        if self._process is None:
+            self._process = started([PYTHON, os.path.abspath(__file__)], self._folder)
+        asked, answer = self._process.stdin, self._process.stdout
+        assert asked and answer
+        clock = threading.Timer(SECONDS, stop, [self._process])
+        clock.start()
+        told = ""
+        try:
+            asked.write(session_of([block]))
+            asked.flush()
+            for line in answer:
+                if line == DONE + "\n":
+                    break
+                told += line
+            else:
+                told += "the session has ended"
+        except BrokenPipeError:
+            told = "the session has ended"
+        finally:
+            clock.cancel()
         if told:
-            yield blocks[0].line, told
+            yield block.line, told
 
 
 def faults_of_program(block: Block) -> Iterator[Tuple[int, str]]:
@@ -165,8 +220,8 @@ def faults_of_program(block: Block) -> Iterator[Tuple[int, str]]:
 
 def faults_of_session(text: str) -> List[Tuple[int, str]]:
     """What is wrong with a file that is one session of Python."""
-    with top() as folder:
-        return list(faults_of_python([Block("pycon", 1, text)], folder))
+    with top() as folder, Session(folder) as session:
+        return list(session.faults_of(Block("pycon", 1, text)))
 
 
 def needs_package(block: Block) -> bool:
@@ -183,14 +238,14 @@ def examples(text: str, with_package: bool) -> Tuple[int, List[Tuple[int, str]]]
     if not with_package:  # what comes after a block that needs it may need what that writes
         blocks = list(itertools.takewhile(lambda it: not needs_package(it), blocks))
     faults: List[Tuple[int, str]] = []
-    with top() as folder:
+    with top() as folder, Session(folder) as session:
         for block in blocks:
             if block.language == "console":
                 faults += faults_of_shell(block, folder)
             elif block.language == "python":
                 faults += faults_of_program(block)
-        sessions = [it for it in blocks if it.language == "pycon"]
-        faults += faults_of_python(sessions, folder)
+            else:
+                faults += session.faults_of(block)
     return len(blocks), faults
 
 

@@ -164,15 +164,15 @@ class Learner:
 
     def _keys_of(self, refusal: Refusal) -> Iterator[Key]:
         """The names that are missing, and the enums of whose members `getattr` is asked for."""
-        is_old = self._fixes and _names.are_old(refusal._data)
+        is_old = self._fixes and _names.are_old(refusal.data)
         for module, name in refusal.missing:
             if module is not None and name is not None and is_name(module, name):
                 yield _names.renamed((module, name)) if is_old else (module, name)
-        if _GETATTR[1].encode() in refusal._data:
+        if _GETATTR[1].encode() in refusal.data:
             from .scanning.members import Members  # few pickles ask for any
 
             members = Members()
-            members.look_in(refusal._data)
+            members.look_in(refusal.data)
             yield from ((*_GETATTR, name) for name in members.enums)
 
     def write(self) -> None:

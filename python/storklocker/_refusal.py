@@ -17,27 +17,35 @@ CONTEXT: contextvars.ContextVar[Any] = contextvars.ContextVar(
 class Refusal:
     """The argument of `on_refusal`. It can be pickled.
 
-    verdict: the answer of the checker. It is an acceptance if more bytes followed the pickle.
-    size: the number of bytes of the pickle that were read.
-    sha256: the SHA-256 of these bytes, in hexadecimal; computed on first access.
+        def keep(refusal):              # to look at it, or to send it again under another list
+            log.warning("%s: %s", refusal.context, refusal.verdict)
+            Path("refused", refusal.sha256).write_bytes(refusal.data)
+
+        guard = storklocker.Guard(allow, on_refusal=keep)
+
+    verdict: the verdict of the checker. It accepts the pickle if more bytes followed it.
+    data: the bytes of the pickle that were read; a pickled `Refusal` leaves them out.
+    size: the number of these bytes.
+    sha256: their SHA-256, in hexadecimal; computed on first access.
     missing: `missing` of the verdict.
     context: the value of `context` around the call.
     enforced: False if the pickle is loaded in spite of the refusal.
-    misused: what the pickle does with a listed name as no pickler does, if the load of an accepted
-        pickle was stopped for that, by `Misused`; otherwise an empty text.
+    misused: how the pickle misuses a listed name, if `Misused` stopped the load of an accepted
+        pickle; otherwise an empty text.
     """
 
-    __slots__ = ("verdict", "size", "context", "enforced", "misused", "_data", "_sha256")
+    __slots__ = ("verdict", "data", "size", "context", "enforced", "misused", "_sha256")
 
     def __init__(
         self, verdict: Verdict, data: bytes, context: Any, enforced: bool, misused: str = ""
     ) -> None:
         self.verdict = verdict
+        self.data = data
         self.size = len(data)
         self.context = context
         self.enforced = enforced
         self.misused = misused
-        self._data, self._sha256 = data, ""
+        self._sha256 = ""
 
     @property
     def sha256(self) -> str:
@@ -45,7 +53,7 @@ class Refusal:
         if not self._sha256:
             import hashlib
 
-            self._sha256 = hashlib.sha256(self._data).hexdigest()
+            self._sha256 = hashlib.sha256(self.data).hexdigest()
         return self._sha256
 
     @property

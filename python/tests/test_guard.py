@@ -234,9 +234,11 @@ class Told(unittest.TestCase):
         )
         self.assertEqual((bool(second.verdict), second.size, second.context), (True, 4, None))
         self.assertEqual(third.size, len(HOSTILE))
+        self.assertEqual([it.data for it in told], [HOSTILE, b"N.N.", HOSTILE])
         self.assertEqual(len(first.sha256), 64)
         self.assertTrue(first.enforced)
         again = pickle.loads(pickle.dumps(first))
+        self.assertEqual((again.data, again.size), (b"", first.size))
         self.assertEqual(
             (repr(again), again.sha256, again.missing), (repr(first), first.sha256, first.missing)
         )
