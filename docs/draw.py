@@ -13,19 +13,41 @@ import sys
 import tempfile
 import zipfile
 from pathlib import Path
-from typing import Dict, Iterator, List, Mapping, NamedTuple, Sequence, Set, Tuple
+from typing import Dict, Iterator, List, Mapping, NamedTuple, Sequence, Set, Tuple, Union
 from xml.sax import saxutils
 
 DOCS = Path(__file__).resolve().parent
 STYLE = """text { font: 13px sans-serif; fill: #333 }
 .title { font-weight: bold }
-.small { font-size: 11px; fill: #666 }
+.small { font-size: 11px; fill: #555 }
+.ported { font-size: 11px; font-style: italic; fill: #777 }
 rect { fill: #f4f6f8; stroke: #9aa5b1 }
 .proved { fill: #e3f1ea; stroke: #2a7f62 }
 path { stroke: #667; fill: none; marker-end: url(#tip) }"""
 TIP = """<marker id="tip" viewBox="0 0 8 8" refX="8" refY="4" markerWidth="7" markerHeight="7"
  orient="auto"><polygon points="0,0 8,4 0,8" fill="#667"/></marker>"""
-WIDE, HIGH, ACROSS, DOWN = 132, 58, 150, 96
+WIDE, TALL, GAP, DOWN = 172, 88, 24, 132
+# Where an arrow passes a row, between its boxes.
+LANE = 10
+PURPOSES = {
+    "pkops": ["one instruction, its bytes,", "and the reasons"],
+    "pkread": ["instructions and frames", "from any source"],
+    "pkbase": ["containers"],
+    "pkstack": ["the stack of marks", "and items"],
+    "pklist": ["list files, and arrays", "of pairs"],
+    "pkimport": ["imports and their texts"],
+    "pkmachine": ["what holds in every run"],
+    "pkcheck": ["the check: yes or no"],
+    "pkopt": ["the optimizer"],
+    "pkload": ["what loading costs"],
+    "pkguard": ["the library for C"],
+    "pkjson": ["plain data as JSON"],
+    "pkargs": ["the command line"],
+    "pkprint": ["answers as lines"],
+    "pkpage": ["dis in memory,", "for the page"],
+    "pktool": ["the program: alone", "touches files"],
+    "pkrows": ["tests across crates,", "by tables of rows"],
+}
 TERMINAL = "text { font: 13px monospace; fill: #ddd; white-space: pre }"
 BACKGROUND = "fill: #1d2329; stroke: none"
 # The codes by which `scan` sets colours, and how a terminal shows them.
@@ -43,7 +65,7 @@ class Box(NamedTuple):
 
     @property
     def height(self) -> int:
-        return max(HIGH - 16, 28 + 15 * len(self.lines))
+        return 28 + 15 * len(self.lines)
 
     @property
     def middle(self) -> int:
@@ -55,7 +77,8 @@ class Box(NamedTuple):
         yield f'<rect{kind} x="{self.left}" y="{self.top}" {size} rx="5"/>'
         yield text(self.left + 9, self.top + 19, self.title, "title")
         for number, line in enumerate(self.lines, 1):
-            yield text(self.left + 9, self.top + 20 + 15 * number, line, "small")
+            kind = "ported" if line.startswith("+ ") else "small"
+            yield text(self.left + 9, self.top + 20 + 15 * number, line, kind)
 
 
 def text(left: int, top: int, words: str, kind: str = "small") -> str:
@@ -97,39 +120,124 @@ def reached(crates: Dict[str, List[str]], name: str) -> Set[str]:
     return {below for it in own for below in (it, *reached(crates, it))}
 
 
-def crates_picture() -> str:
-    """The crates, each above those that it uses; an arrow leads to the ones nearest to it."""
-    crates = uses()
+def nearest(crates: Dict[str, List[str]], name: str) -> List[str]:
+    """The crates that a crate uses, without those that one of them uses too."""
+    below = reached(crates, name)
+    return sorted(below - {far for it in below for far in reached(crates, it)})
+
+
+class Lane(NamedTuple):
+    """Where the arrow between two crates passes the row of a level."""
+
+    level: int
+    upper: str
+    lower: str
+
+
+Slot = Union[str, Lane]
+
+
+def slots_of(crates: Dict[str, List[str]]) -> List[List[Slot]]:
+    """The rows, the lowest first: the crates, each above those that it uses, and the lanes."""
     levels: Dict[str, int] = {}
     for name in sorted(crates, key=lambda it: len(reached(crates, it))):
         levels[name] = 1 + max((levels[it] for it in reached(crates, name)), default=-1)
-    most = max(levels.values())
-    rows = [[it for it in crates if levels[it] == level] for level in range(most + 1)]
-    width = 20 + ACROSS * max(len(row) for row in rows)
-    boxes: Dict[str, Box] = {}
-    for level, row in enumerate(rows):
-        margin = (width - ACROSS * len(row) + ACROSS - WIDE) // 2
-        top = 14 + DOWN * (len(rows) - 1 - level)
-        for place, name in enumerate(row):
-            ported = [it for it in crates[name] if it not in crates and it != "staticlib"]
-            lines = [" ".join(ported[:2]), " ".join(ported[2:])][: (len(ported) + 1) // 2]
-            boxes[name] = Box(margin + ACROSS * place, top, name, lines)
+    rows: List[List[Slot]] = [[] for _ in range(max(levels.values()) + 1)]
+    for name, level in levels.items():
+        rows[level].append(name)
+    for name, level in levels.items():
+        for other in nearest(crates, name):
+            for between in range(levels[other] + 1, level):
+                rows[between].append(Lane(between, name, other))
+    return rows
+
+
+def neighbours(crates: Dict[str, List[str]], rows: List[List[Slot]]) -> Dict[Slot, List[Slot]]:
+    """What each slot is joined to in the row below it."""
+    joined: Dict[Slot, List[Slot]] = {}
+    for row in rows:
+        for slot in row:
+            if isinstance(slot, Lane):
+                below = Lane(slot.level - 1, slot.upper, slot.lower)
+                joined[slot] = [below if below in rows[slot.level - 1] else slot.lower]
+            else:
+                level = rows.index(row)
+                lanes = [Lane(level - 1, slot, other) for other in nearest(crates, slot)]
+                joined[slot] = [
+                    lane if level and lane in rows[level - 1] else lane.lower for lane in lanes
+                ]
+    return joined
+
+
+def middles_of(rows: List[List[Slot]], width: int) -> Dict[Slot, int]:
+    """The middle of each slot, its row in the middle of the picture."""
+    middles: Dict[Slot, int] = {}
+    for row in rows:
+        sizes = [WIDE if isinstance(slot, str) else LANE for slot in row]
+        left = (width - sum(sizes) - GAP * (len(row) - 1)) // 2
+        for slot, size in zip(row, sizes):
+            middles[slot] = left + size // 2
+            left += size + GAP
+    return middles
+
+
+def width_of(row: List[Slot]) -> int:
+    return sum((WIDE if isinstance(slot, str) else LANE) + GAP for slot in row)
+
+
+def sorted_rows(
+    rows: List[List[Slot]], joined: Dict[Slot, List[Slot]], width: int
+) -> Dict[Slot, int]:
+    """The middles, after each row was sorted by what it is joined to, above and below."""
+    above: Dict[Slot, List[Slot]] = {}
+    for slot, others in joined.items():
+        for other in others:
+            above.setdefault(other, []).append(slot)
+    middles = middles_of(rows, width)
+    for turn in range(8):
+        ties = above if turn % 2 else joined
+        for row in rows[::-1] if turn % 2 else rows:
+
+            def centre(slot: Slot, ties: Dict[Slot, List[Slot]] = ties) -> float:
+                near = ties.get(slot, [])
+                return sum(middles[it] for it in near) / len(near) if near else middles[slot]
+
+            row.sort(key=centre)
+            middles = middles_of(rows, width)
+    return middles
+
+
+def crates_picture() -> str:
+    """The crates, each above those that it uses; an arrow leads to the ones nearest to it, beside
+    the boxes of the rows that it passes.
+    """
+    crates = uses()
+    rows = slots_of(crates)
+    joined = neighbours(crates, rows)
+    width = max(map(width_of, rows)) + 20
+    middles = sorted_rows(rows, joined, width)
+    tops = {slot: 14 + DOWN * (len(rows) - 1 - at) for at, row in enumerate(rows) for slot in row}
     parts: List[str] = []
-    for name, box in boxes.items():
-        below = reached(crates, name)
-        for other in sorted(below - {far for it in below for far in reached(crates, it)}):
-            parts.append(
-                arrow((box.middle, box.top + box.height), (boxes[other].middle, boxes[other].top))
-            )
+    for name in crates:
+        ported = [it for it in crates[name] if it not in crates and it != "staticlib"]
+        lines = PURPOSES[name] + [f"+ {' '.join(it)}" for it in (ported[:2], ported[2:]) if it]
+        box = Box(middles[name] - WIDE // 2, tops[name], name, lines)
+        for slot in joined[name]:
+            places = [(box.middle, box.top + box.height), (box.middle, box.top + TALL)]
+            while isinstance(slot, Lane):
+                places += [(middles[slot], tops[slot]), (middles[slot], tops[slot] + TALL)]
+                slot = joined[slot][0]
+            parts.append(arrow(*places, (middles[slot], tops[slot])))
         parts += box.drawn()
-    title = "The crates, each above those that it uses; in small letters the ported ones"
+    parts.append(text(20, DOWN * len(rows) - 14, "All are proved. In italics: ported libraries."))
+    title = "The crates, each above those that it uses"
     return picture(title, width, DOWN * len(rows), parts)
 
 
 def pickle_picture() -> str:
     """The way of the bytes of a pickle to an answer."""
     boxes = [
-        Box(14, 30, "Source", ["a file, a pipe, a slice", "at_hand, pull, pass"], width=150),
+        Box(14, 30, "Source", ["a file, a pipe, bytes", "at_hand, pull, pass"], width=150),
         Box(204, 30, "Reader", ["layout, contents, limits", "lend, next_head"], width=150),
         Box(394, 30, "Frames", ["counts the bytes of", "the open frame"], width=150),
         Box(584, 30, "Machine", ["what is known of stack", "and memo in every run"], width=150),
@@ -137,7 +245,7 @@ def pickle_picture() -> str:
         Box(584, 128, "Policy", ["the listed pairs, or any"], width=150),
         Box(14, 226, "pktool", ["check, dis, imports,", "optimize, json"], width=150),
         Box(204, 226, "libstorklocker", ["a status for C,", "a verdict for Python"], width=150),
-        Box(394, 226, "Guard", ["pickle.loads, of the", "very bytes checked"], False, 150),
+        Box(394, 226, "Guard", ["pickle.loads, of one", "immutable copy"], False, 150),
         Box(584, 226, "scan, adapters", ["files and services", "that hold pickles"], False, 150),
     ]
     arrows = [

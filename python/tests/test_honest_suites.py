@@ -1,10 +1,9 @@
 """CPython's own tests, without a guard and under one that is installed, in the same interpreter:
-what passes without it passes with it, but for the tests that docs/EVERYWHERE.md names.
+what passes without it passes with it, but for those that are named here.
 """
 
 import json
 import os
-import re
 import subprocess
 import sys
 import tempfile
@@ -13,7 +12,6 @@ from pathlib import Path
 
 import common
 
-DOCUMENT = common.ROOT / "docs" / "EVERYWHERE.md"
 PROGRAM = Path(__file__).with_name("honest_suites.py")
 HANGS = 1200
 """The seconds that only a hang takes."""
@@ -30,12 +28,17 @@ PROCESSES = (
     *("=WithManagerTestMyManager", "=WithManagerTestRemoteManager", "=TestSimpleQueue"),
 )
 """Those that send pickles."""
-
-
-def differing():
-    """The names of the tests that the document says differ."""
-    text = DOCUMENT.read_text(encoding="utf-8")
-    return set(re.findall(r"`(test_\w+)`", text.partition("## What stays as before")[2]))
+DIFFERING = frozenset(
+    """
+    test_bad_ext_code test_bad_ext_inverted_registry test_bad_mark test_bad_stack
+    test_badly_escaped_string test_find_class test_global_ext1 test_global_ext2 test_global_ext4
+    test_have_gc test_immutable test_large_binstring test_load_global test_load_stack_global
+    test_maxint64 test_misc_get test_negative_put test_priming_unpickler_memo test_proto
+    test_protocol0_is_ascii_only test_return_correct_type test_truncated_data test_unicode
+    test_unpickler
+    """.split()
+)
+"""Those that fail under a guard: they load what it refuses, or look at what it replaces."""
 
 
 def found(how, folder, names):
@@ -70,10 +73,9 @@ class Suites(unittest.TestCase):
                         for name, word in before.items()
                         if word in ("passed", "skipped") and after.get(name) != word
                     }
-                    listed = differing()
                     self.assertEqual(
                         {name: said for name, said in wrong.items()
-                         if name.rpartition(".")[2] not in listed},
+                         if name.rpartition(".")[2] not in DIFFERING},
                         {},
                     )
 
