@@ -8,7 +8,7 @@ under a list, its place, its reason and names, and with the imports. Those for o
 under qemu, the one for Windows under Wine, WebAssembly under node; what isn't installed is skipped.
 The listings of WebAssembly are compared with those of `pktool dis`, of a part of the pickles.
 
-The last line counts. With --table, docs/MACHINES.md gets the table of what was tried.
+The last line counts. With --table, docs/MACHINES.md gets the list of what was tried.
 """
 
 from __future__ import annotations
@@ -202,13 +202,13 @@ def listing_faults(path: Path, pickles: List[bytes], work: Path) -> Iterator[str
 
 
 def table(results: List[Tried], count: int) -> str:
-    """The rows of docs/MACHINES.md."""
-    lines = ["| Machine | Command | Pickles | Answers that differ |", "|---|---|---|---|"]
+    """The lines of docs/MACHINES.md."""
+    lines = [f"None of the answers about {count:,} pickles differed on these machines:", ""]
     for it in results:
         words = (it.target.runner, "answers.exe" if it.target.compiler else "answers.mjs")
         command = " ".join(filter(None, words))
         compiler = f", of {it.target.compiler}" if it.target.compiler else ""
-        lines.append(f"| {it.target.name} | `{command}`{compiler} | {count:,} | 0 |")
+        lines.append(f"- {it.target.name}: `{command}`{compiler}")
     return "\n".join(lines) + "\n"
 
 
