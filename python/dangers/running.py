@@ -253,6 +253,18 @@ def standing():
             sys.stdout, sys.stderr, sys.excepthook, sys.getrecursionlimit(), Probe.calls)
 
 
+def returns(call, value):
+    """Makes a call in its time. Returns whether it returns."""
+    signal.setitimer(signal.ITIMER_REAL, SECONDS)
+    try:
+        made = call(value)
+        if hasattr(made, "__next__"):
+            next(made)
+    finally:
+        signal.setitimer(signal.ITIMER_REAL, 0)
+    return True
+
+
 def tried(it):
     """What calling the object of a name does; an empty text if nothing happens."""
     before, files, done = standing(), harm.seen(Path()), 0
@@ -261,20 +273,14 @@ def tried(it):
         for value in values():
             if is_state and isinstance(value, Probe):
                 continue  # (a method may call any attribute: its name is judged by itself)
-            signal.setitimer(signal.ITIMER_REAL, SECONDS)
             WATCH.is_on = True
             try:
-                made = call(value)
-                done += 1
-                if hasattr(made, "__next__"):
-                    next(made)
+                done += returns(call, value)
             except (SystemExit, KeyboardInterrupt) as error:
                 return f"it raises {type(error).__name__}"
-            except BaseException:  # (most take other arguments)
+            except BaseException:  # (most take other arguments, or take too long)
                 pass
             finally:
-                signal.setitimer(signal.ITIMER_REAL, 0)
-                made = None
                 WATCH.is_on = False
             if WATCH.seen:
                 return WATCH.seen

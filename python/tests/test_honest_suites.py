@@ -22,8 +22,10 @@ SUITES = (
     *("-PyPicklerTests", "-DumpPickle_CLoadPickle", "-CDumpPickle_LoadPickle"),
     *("test_shelve", "test_copy", "test_enum"),
 )
+FORK = "test_multiprocessing_fork"
 PROCESSES = (
-    "test_multiprocessing_fork",
+    *((f"{FORK}.test_{it}" for it in ("processes", "manager", "misc"))
+      if sys.version_info >= (3, 12) else (FORK,)),
     *("=WithProcessesTestQueue", "=WithProcessesTestConnection", "=TestPicklingConnections"),
     *("=WithManagerTestMyManager", "=WithManagerTestRemoteManager", "=TestSimpleQueue"),
 )
@@ -80,9 +82,9 @@ class Suites(unittest.TestCase):
                     )
 
     def test_readers(self):
-        self.compare(SUITES, 800)
+        self.compare(SUITES, 700)
 
-    @common.needs("semaphores", "module:test.test_multiprocessing_fork")
+    @common.needs("semaphores", f"module:test.{FORK}")
     def test_processes(self):
         self.compare(PROCESSES, 20)
 

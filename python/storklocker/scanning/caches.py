@@ -41,14 +41,15 @@ def _is_inside(source: Source, budget: Budget) -> bool:
     imports nothing that isn't seen from there.
     """
     front, at = source.read(0, TIME), 0
-    while at < TIME and front[0] != _GLOBAL:
+    while at < TIME and front[at] != _GLOBAL:
         length = LENGTHS.get(front[at], -1)
         if length < 0:
             return False
         at += 1 + length
     whole, inner = (imports_at(source, it, budget) for it in (0, TIME))
-    if front[0] == _GLOBAL:
+    if at < TIME:  # (it begins within the line of a module)
         is_harm = any(map(is_harmful_pair, inner.names)) or not inner.names
+        is_harm |= at > 0 and not inner.verdict
         return not is_harm and all(_is_end_of(it, whole.names) for it in inner.names)
     is_behind = whole.verdict.taken == TIME
     return at == TIME and (is_behind or inner.names.keys() <= whole.names.keys())

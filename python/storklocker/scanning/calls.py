@@ -14,6 +14,7 @@ from typing import Any, Callable, Dict, Iterable, List, Sequence, Tuple
 
 from .._writing import quoted
 from .budget import LOOKED_AT, Budget
+from .dangers import known
 from .lenient import ANY, OTHER, Names, Walk
 from .names import named_today, pair_of
 from .report import LONGEST, Finding, shown
@@ -283,6 +284,52 @@ _WITH: Dict[str, Tuple[Callable[..., object], Any]] = {
 """Instructions by what they do besides what `Walk` does for them."""
 
 Calls.acts = _acts()
+
+
+class Naming(Calls):
+    """Follows pickles for the names that they import. What a call makes is a part of one only if
+    what is called may answer a text.
+    """
+
+    def __init__(self, source: Source, at: int) -> None:
+        super().__init__(source, at, Walk.most, lambda name, call: None)
+
+    def again(self) -> Tuple[bool, bool]:
+        self._front = self.source.read(self.at, 2)
+        return super().again()
+
+    def from_stack(self) -> None:
+        self._stack[-2:] = [it if _is_text(it) else OTHER for it in self._stack[-2:]]
+        super().from_stack()
+
+    def _called(self, function: Any, words: List[Any]) -> None:
+        is_value = type(function) is _Value and not (function.name or function.may_be_text)
+        if is_value or type(function) is str:
+            raise Stop  # (it can't be called)
+        super()._called(function, words)
+
+
+Naming.acts = {
+    code: Naming.from_stack if act is Calls.from_stack else act for code, act in Calls.acts.items()
+}
+_SCALAR = "numpy.core.multiarray.scalar"
+
+
+def _is_text(value: Any) -> bool:
+    """Whether a value may be a text."""
+    if type(value) is not _Value:
+        return type(value) is str or value is ANY
+    if type(value.front) is not _Value:
+        return False  # (what is imported is a class or a function)
+    if value.name == _SCALAR:  # (of an object it answers that)
+        given = value.items[0].items if _is_spread(value.items) else value.items[1:2]
+        return any(map(_is_text, given))
+    return value.name in known().texts
+
+
+def _is_spread(items: List[Any]) -> bool:
+    """Whether the arguments of a call aren't known to be a tuple."""
+    return len(items) == 1 and type(items[0]) is _Value and items[0].front == "*"
 
 
 def with_calls(

@@ -18,6 +18,8 @@ from .digests import sha256_of, with_sha256
 from .joblib_files import WRAPPER_NAMES, without_arrays
 from .listing import listing
 from .lone import Lone
+from .kept import NOTHING as KEEPS_NOTHING
+from .kept import told_of_kept
 from .names import pair_of
 from .readings import (
     Beside, Nothing, Piece, Place, Together, Unread, all_asked, examine, is_text, nothing
@@ -268,6 +270,8 @@ def _judged(piece: Piece, row: Row, question: Question, place: Place) -> Report:
     elif no is not None:
         status = Word.REFUSED
     findings += _cut_findings(row)
+    if row.kept != KEEPS_NOTHING:
+        status, why = told_of_kept(row.kept, status, why, allow, findings)
     more = len(row.names) - len(imports)
     why += f"; {more:,} names more than a report has room for" if more and row.is_complete else ""
     if row.costly is not None:

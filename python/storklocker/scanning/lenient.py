@@ -98,6 +98,11 @@ class Walk(Spelled):
             return False, True
         return True, True
 
+    def again(self) -> Tuple[bool, bool]:
+        """Follows the next pickle, as an Unpickler does that keeps its memo."""
+        self._stack, self._below, self._frame = [], [], -1
+        return self.through()
+
     def _run(self) -> None:
         """Follows it up to STOP."""
         acts, most = self.acts, self.most

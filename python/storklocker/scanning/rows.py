@@ -14,6 +14,8 @@ from .._reasons import Reason
 from .budget import LOOKED_AT, STEP, Budget, TooMuch
 from .costs import COUNTED, KINDS, LIMITS, Exceeded, exceeded, exceeded_in_row, with_costs
 from .dangers import may_be_imported
+from .kept import NOTHING as KEEPS_NOTHING
+from .kept import kept_in
 from .names import NOTHING, WIDEST, Imports, imports_within, limits_under
 from .names import named_today, refused_with
 from .reaching import READERS_STOP, reached
@@ -62,6 +64,7 @@ class Row:
     sources: the bytes with these pickles, one behind another; of joblib's files also those of
         arrays of objects.
     raw: why arrays that stand between the instructions could not be left out.
+    kept: what one Unpickler imports that loads them all. It is among the names.
     """
 
     is_complete, is_reached, is_cut, is_misread = True, False, False, False
@@ -71,7 +74,7 @@ class Row:
     number = pickles = taken = imports = stop = 0
     refused: Tuple[bytes, int] = (b"", 0)
     too_much: Optional[TooMuch] = None
-    raw = ""
+    raw, kept = "", KEEPS_NOTHING
     _uncosted: Tuple[int, int] = (0, 0)  # the offset and index from which on to look
     _try_at = _ONE_BY_ONE
 
@@ -85,6 +88,7 @@ class Row:
         try:
             while self._is_more() and self._is_next_accepted():
                 pass
+            self._look_at_kept()
         except TooMuch as error:
             self.too_much = error
         self._find_costly()
@@ -175,6 +179,17 @@ class Row:
         if found is not None:
             self.costly, behind, index = found
             self.costly_at, self.costly_number = at + behind, number + index
+
+    def _look_at_kept(self) -> None:
+        """Looks at what one Unpickler imports that loads all, unless that is one, or there is no
+        name that could be another.
+        """
+        is_refused = self.refusal is not None
+        if self.pickles + is_refused > 1 and (self.names or is_refused):
+            end = self._source.size if is_refused else self.taken
+            limits = self.limits(end)
+            self.kept = kept_in(self._source, end, self.names, limits, self._budget)
+            self.names.update(dict.fromkeys(self.kept.names))
 
     def _goes_on_behind(self, found: Imports) -> bool:
         """Whether all readers end in a text, with one of several objects and no import."""

@@ -1,0 +1,113 @@
+"""What pickles that follow one another import, if one Unpickler loads them all.
+
+It keeps its memo for the next pickle, where `pickle.load` begins anew. What a pickle fetches from
+the memo may then be another text, and the name that it is a part of another name. A row that was
+written with `pickle.dump` is nonsense to such a reader: so only what is dangerous is told.
+"""
+
+from __future__ import annotations
+
+from typing import TYPE_CHECKING, Dict, Iterable, List, NamedTuple, Optional, Tuple
+
+from .._checking import check_row
+from .._limits import Limits
+from .._lists import AllowList
+from .._reasons import Reason
+from .budget import LOOKED_AT, STEP, Budget
+from .costs import permitting
+from .dangers import judged, may_be_imported
+from .names import named_today, pair_of
+from .reaching import READERS_STOP
+from .report import Finding, dotted, shown
+from .severity import DANGER
+from .source import Source
+from .words import Word
+
+if TYPE_CHECKING:
+    from .._pairs import Names
+
+_OLD = b"\x80\0"
+"""How a pickle begins whose names are those of Python 2."""
+
+
+class Kept(NamedTuple):
+    """What one Unpickler does that loads the whole row.
+
+    names: what it imports beside what the others import, as far as that is dangerous.
+    is_complete: whether these are all.
+    """
+
+    names: List[Names]
+    is_complete: bool = True
+
+
+NOTHING = Kept([])
+
+
+def kept_in(
+    source: Source, size: int, names: Iterable[Names], limits: Limits, budget: Budget
+) -> Kept:
+    """What it imports in the first bytes, so many, of pickles that import these names if the memo
+    of each is its own.
+    """
+    own, found = dict.fromkeys(names), {}  # type: Dict[Names, None], Dict[Names, None]
+    data, is_complete = source.read(0, size), True
+    while True:
+        budget.spend(STEP + size // LOOKED_AT)
+        verdict = check_row(
+            data, permitting((*own, *found)), one_unpickler=True, limits=limits, build="any",
+            fix_imports=False,
+        )
+        pair = verdict.pair if verdict.reason is Reason.ImportOffList else None
+        if pair is None or not may_be_imported(*pair):
+            break  # (it reads them all, or ends with an error)
+        found[pair[0].encode(), pair[1].encode()] = None
+    if not (verdict or pair or verdict.reason in READERS_STOP):
+        is_complete = _follow(source, size, found, budget)
+    told = [it for it in found if not _are_in(own, it) and _counts(it)]
+    return Kept(told, is_complete)
+
+
+def _follow(source: Source, size: int, found: Dict[Names, None], budget: Budget) -> bool:
+    """Adds what the most lenient reader imports. Returns whether it was followed to its end."""
+    from .calls import Naming  # few files are looked at so
+
+    walk, is_ended = Naming(source, 0), True
+    while is_ended and walk.at < size:
+        at = walk.at
+        is_ended, is_complete = walk.again()
+        budget.spend(STEP + (walk.at - at) // LOOKED_AT)
+        if not is_complete:
+            return False
+    budget.spend(walk.steps)
+    found.update(walk.names)
+    return True
+
+
+def _are_in(own: Dict[Names, None], names: Names) -> bool:
+    """Whether they are among these, perhaps under the name that they had in Python 2."""
+    return names in own or any(it in own for it in named_today([names], _OLD))
+
+
+def _counts(names: Names) -> bool:
+    """Whether such an import is told."""
+    module, name = pair_of(names)
+    if module is None or name is None:
+        return True
+    row = judged(module, name)
+    return row is not None and row.severity == DANGER
+
+
+def told_of_kept(
+    kept: Kept, status: Word, why: str, allow: Optional[AllowList], findings: List[Finding]
+) -> Tuple[Word, str]:
+    """The word and the line of a row of which one Unpickler reads something else. Adds findings."""
+    name = shown(dotted(pair_of(kept.names[0]))) if kept.names else "what isn't known"
+    said = f"one Unpickler that loads all pickles imports {name}, and others don't"
+    findings.append(Finding("differing-readings", said))
+    if allow is None or status is Word.REFUSED:
+        return status, why
+    if kept.is_complete and all(map(allow._permits, kept.names)):
+        return status, why
+    findings.append(Finding("refused", said))
+    return Word.REFUSED, f"no: {said}"
