@@ -6,6 +6,7 @@ writes a column for each tree of a stage.
 
 from __future__ import annotations
 
+import functools
 import sys
 from typing import TYPE_CHECKING, Any, Callable, Dict, List, NamedTuple, Tuple
 
@@ -39,8 +40,17 @@ class _Part(NamedTuple):
     def columns(self) -> int:
         """How many columns the estimator has seen: it takes no other data."""
         numpy: Any = sys.modules["numpy"]
-        found = self.state.get("n_features_in_")
+        found = self.state.get("n_features_" if _compares() else "n_features_in_")
         return whole(found.item() if isinstance(found, numpy.integer) else found, 0, _MOST)
+
+
+@functools.lru_cache(maxsize=1)
+def _compares() -> bool:
+    """Whether this is a version of scikit-learn that compares data with an estimator's arrays: only
+    those of trees say how many columns they have seen.
+    """
+    version = sys.modules["sklearn"].__version__
+    return tuple(map(int, version.split(".")[:2])) < (0, 24)
 
 
 def state_of(reader: Reader, estimator: Any, state: Any) -> Any:
@@ -65,8 +75,8 @@ def _ends(part: _Part) -> Any:
 
 def _as_wide(part: _Part) -> Any:
     """Rows of as many columns."""
-    if part.value is None:
-        return None
+    if part.value is None or _compares():
+        return part.value
     shape = getattr(part.value, "shape", None)
     if type(shape) is not tuple or id(part.value) in part.reader.unbuilt:
         raise part.wrong()
@@ -117,7 +127,8 @@ def _histograms(part: _Part) -> List[List[Any]]:
         return made
     count = part.columns()
     marks = _held(part.state.get("_bin_mapper"), "is_categorical_")
-    marks = array_of(part.reader, marks, "bu", (count,)) != 0
+    if not _compares():  # (which knows no categories)
+        marks = array_of(part.reader, marks, "bu", (count,)) != 0
     for it in (it for row in made for it in row):
         if f"{type(it).__module__}.{type(it).__name__}" != PREDICTOR:
             raise part.wrong()
@@ -125,7 +136,7 @@ def _histograms(part: _Part) -> List[List[Any]]:
         inner = inner[inner["is_leaf"] == 0]
         if (inner["feature_idx"] >= count).any():
             raise part.wrong()
-        if not marks[inner["feature_idx"][inner["is_categorical"] != 0]].all():
+        if not _compares() and not marks[inner["feature_idx"][inner["is_categorical"] != 0]].all():
             raise part.wrong()
     return made
 
@@ -143,6 +154,8 @@ def check_predictor(reader: Reader, predictor: Any) -> None:
         raise Misused("the nodes of a tree are of no known kind")
     inner = nodes["is_leaf"] == 0
     check_children(reader, inner, nodes["left"].astype("i8"), nodes["right"].astype("i8"))
+    if "is_categorical" not in wanted.PREDICTOR_RECORD_DTYPE.names:  # (before 0.24)
+        return
     sets = nodes["bitset_idx"][inner & (nodes["is_categorical"] != 0)]
     for name in ("binned_left_cat_bitsets", "raw_left_cat_bitsets"):
         held = array_of(reader, own.get(name), "u", (None, 8))

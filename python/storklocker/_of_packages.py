@@ -12,7 +12,7 @@ import sys
 import types
 from typing import TYPE_CHECKING, Any, Callable, Dict, Optional, Tuple
 
-from . import _of_pandas, _of_sklearn
+from . import _of_blocks, _of_pandas, _of_sklearn
 from ._answers import Misused
 from ._calls import row, shown, takes_fields, takes_row, takes_text, wrong
 from ._items import SHOWING, judging
@@ -242,6 +242,7 @@ _STORAGES = "BFloat16 Bool Byte Char ComplexDouble ComplexFloat Double Float Hal
 TABLE: Dict[Tuple[str, str], Substitute] = {
     **_of_sklearn.TABLE,
     **_of_pandas.TABLE,
+    **_of_blocks.TABLE,
     **dict(
         [
             row("django.db.models.base", "model_unpickle", _model),

@@ -1,9 +1,10 @@
-"""Compiled code of pandas: blocks that fill a frame, indexes of arrays, and values of numbers."""
+"""Compiled code of pandas: indexes of arrays, and values of numbers."""
 
 from __future__ import annotations
 
 import datetime
 import itertools
+import re
 import sys
 from typing import TYPE_CHECKING, Any, Callable, Dict, Tuple
 
@@ -13,7 +14,7 @@ from ._calls import row as plain_row
 from ._calls import wrong
 from ._library import uncached
 from ._of_sklearn import whole
-from ._substitute import Class, Substitute
+from ._substitute import Substitute
 from ._weighing import SCALARS, Scales, keys_of
 
 if TYPE_CHECKING:
@@ -29,12 +30,12 @@ MOST_KEPT, LONGEST_KEPT = 1000, 200
 """How many types that pickles have made pandas may keep, and the longest name of one."""
 
 
-def _forgetting(judged: Callable[..., Any]) -> Callable[..., Any]:
+def forgetting(judged: Callable[..., Any]) -> Callable[..., Any]:
     """Has pandas forget the types that it would keep until the process ends, if they are many."""
     def called(reader: Reader, *given: Any) -> Any:
         types: Any = sys.modules.get("pandas.core.dtypes.dtypes")
         kinds = (types.PeriodDtype, types.IntervalDtype) if types else ()
-        held = [(kind._cache_dtypes, len(kind._cache_dtypes)) for kind in kinds]
+        held = [(kept, len(kept)) for kept in map(_kept_by, kinds)]
         try:
             return judged(reader, *given)
         finally:
@@ -47,8 +48,15 @@ def _forgetting(judged: Callable[..., Any]) -> Callable[..., Any]:
     return called
 
 
+def _kept_by(kind: Any) -> Dict[Any, Any]:
+    """What a class of types keeps; before pandas 1.3 it has another name."""
+    name = "_cache_dtypes" if hasattr(kind, "_cache_dtypes") else "_cache"
+    kept: Dict[Any, Any] = getattr(kind, name)
+    return kept
+
+
 def row(module: str, name: str, judged: Callable[..., Any]) -> Tuple[Any, Substitute]:
-    return plain_row(module, name, _forgetting(judged))
+    return plain_row(module, name, forgetting(judged))
 
 
 def is_array(reader: Reader, it: Any) -> bool:
@@ -89,7 +97,7 @@ def _index_words(reader: Reader, given: Tuple[Any, ...]) -> Tuple[Any, Dict[str,
         raise wrong("_new_Index")
     if not (freq is None or _is_offset(freq)):
         raise wrong("_new_Index")
-    if "data" in words and not (is_array(reader, words["data"]) or _is_index(words["data"])):
+    if "data" in words and not (is_array(reader, words["data"]) or is_index(words["data"])):
         raise wrong("_new_Index")
     if "name" in words:
         _is_label(reader, words["name"])
@@ -98,7 +106,7 @@ def _index_words(reader: Reader, given: Tuple[Any, ...]) -> Tuple[Any, Dict[str,
     return kind, dict(words)
 
 
-def _is_index(it: Any) -> bool:
+def is_index(it: Any) -> bool:
     import pandas
 
     return isinstance(it, pandas.Index)
@@ -115,7 +123,7 @@ def _check_levels(reader: Reader, words: Dict[str, Any]) -> None:
         own: Any = code
         if not isinstance(own, numpy.ndarray) or own.dtype.kind != "i" or own.ndim != 1:
             raise wrong("_new_Index")
-        if not _is_index(level) or len(own) != len(codes[0]) or id(own) in reader.unbuilt:
+        if not is_index(level) or len(own) != len(codes[0]) or id(own) in reader.unbuilt:
             raise wrong("_new_Index")
         reader.pay(own.nbytes)
         if len(own) and (own.min() < -1 or own.max() >= len(level)):
@@ -138,77 +146,11 @@ def _intervals(reader: Reader, *given: Any) -> Any:
     from pandas.core.indexes import interval
 
     kind, words = _index_words(reader, given)
-    if not all(_is_index(words.get(word)) for word in ("left", "right")):
+    if not all(is_index(words.get(word)) for word in ("left", "right")):
         raise wrong("_new_IntervalIndex")
     if type(words.get("closed", "")) is not str or set(words) - {"left", "right", "closed", "name"}:
         raise wrong("_new_IntervalIndex")
     return interval._new_IntervalIndex(kind, words)
-
-
-def _placed(given: Any) -> range:
-    """Places of the columns of a block, as a slice says them."""
-    if type(given) is not slice:
-        raise wrong("_unpickle_block")
-    start, stop, step = given.start, given.stop, 1 if given.step is None else given.step
-    if whole(step, -_MOST, _MOST) == 0:
-        raise wrong("_unpickle_block")
-    return range(whole(start, 0, _MOST), whole(stop, -1, _MOST), step)
-
-
-def _check_places(reader: Reader, places: Any, count: int) -> None:
-    """Whether these are as many places of columns, none twice."""
-    import numpy
-
-    if type(places) is not numpy.ndarray:
-        placed = _placed(places)
-        if len(placed) != count or count and min(placed[0], placed[-1]) < 0:
-            raise wrong("_unpickle_block")
-        return
-    is_one = places.dtype.kind == "i" and places.shape == (count,)
-    is_one = is_one and id(places) not in reader.unbuilt
-    if not is_one or len(numpy.unique(places)) != count or count and places.min() < 0:
-        raise wrong("_unpickle_block")
-
-
-def _block(reader: Reader, *given: Any) -> Any:
-    """A block: a value for each of its places."""
-    from pandas._libs import internals
-
-    if len(given) != 3 or not is_array(reader, given[0]) or whole(given[2], 1, 2) != given[2]:
-        raise wrong("_unpickle_block")
-    values, ndim = given[0], given[2]
-    own = getattr(values, "ndim", 1)
-    if own > ndim:
-        raise wrong("_unpickle_block")
-    if ndim == 2:
-        _check_places(reader, given[1], len(values) if own == 2 else 1)
-    else:
-        _check_places(reader, given[1], len(values))
-    return internals._unpickle_block(*given)
-
-
-def _manager(reader: Reader, *given: Any) -> Any:
-    """A frame: blocks whose places are those of all its columns."""
-    import numpy
-    from pandas.core.internals import Block
-    from pandas.core.internals.managers import BlockManager
-
-    if len(given) != 2 or type(given[0]) is not tuple or type(given[1]) is not list:
-        raise wrong("BlockManager")
-    blocks, axes = given
-    if len(axes) != 2 or not all(map(_is_index, axes)):
-        raise wrong("BlockManager")
-    if not all(isinstance(it, Block) for it in blocks):
-        raise wrong("BlockManager")
-    count, height = len(axes[0]), len(axes[1])
-    if any(it.ndim != 2 or it.shape[1] != height for it in blocks):
-        raise wrong("BlockManager")
-    places = [numpy.asarray(it.mgr_locs.as_array) for it in blocks]
-    both = numpy.sort(numpy.concatenate(places)) if places else numpy.arange(0)
-    reader.pay(16 * len(both))
-    if len(both) != count or (both != numpy.arange(count)).any():
-        raise Misused("the blocks of a frame don't fill it")
-    return BlockManager(blocks, axes)
 
 
 def _array(reader: Reader, *given: Any) -> Any:
@@ -277,14 +219,18 @@ def _are_scalars(*given: Any) -> bool:
     return len(given) < 3 and all(type(it) in SCALARS for it in given)
 
 
+def _is_periods(given: Any) -> bool:
+    """Whether this is a frequency, or since pandas 2.2 the name of the type with it."""
+    return _is_offset(given) or type(given) is str and _PERIODS.fullmatch(given) is not None
+
+
+_PERIODS = re.compile(r"period\[[-\w]{1,40}\]", re.ASCII)
 _TSLIBS = "pandas._libs.tslibs"
 TABLE: Dict[Tuple[str, str], Substitute] = dict(
     [
         row("pandas.core.indexes.base", "_new_Index", _index),
         row("pandas.core.indexes.datetimes", "_new_DatetimeIndex", _times),
         row("pandas.core.indexes.interval", "_new_IntervalIndex", _intervals),
-        row("pandas._libs.internals", "_unpickle_block", _block),
-        row("pandas.core.internals.managers", "BlockManager", _manager),
         row("pandas._libs.arrays", "__pyx_unpickle_NDArrayBacked", _array),
         row("pandas._libs.sparse", "IntIndex", _sparse),
         _value("pandas._libs.interval", "Interval", _is_interval),
@@ -293,11 +239,11 @@ TABLE: Dict[Tuple[str, str], Substitute] = dict(
         _value(f"{_TSLIBS}.offsets", "MonthEnd", _whole((-_I8 - 1, _I8), (0, 1))),
         _value(f"{_TSLIBS}.period", "Period", _is_period),
         _value(f"{_TSLIBS}.timedeltas", "_timedelta_unpickle", _whole((-_I8 - 1, _I8), (0, 14))),
+        _value(f"{_TSLIBS}.timedeltas", "Timedelta", _whole((-_I8 - 1, _I8))),
+        _value(f"{_TSLIBS}.timestamps", "Timestamp", _is_timestamp),
         _value(f"{_TSLIBS}.timestamps", "_unpickle_timestamp", _is_timestamp),
         _value("pandas.core.dtypes.dtypes", "PeriodDtype", lambda *given: (
-            len(given) == 1 and _is_offset(given[0]))),
-        (("pandas.core.internals.managers", "SingleBlockManager"),
-         Class("pandas.core.internals.managers.SingleBlockManager")),
+            len(given) == 1 and _is_periods(given[0]))),
     ]
 )
 
@@ -324,25 +270,6 @@ def array_state(reader: Reader, array: Any, state: Any) -> Any:
         if held[0].min() < -1 or held[0].max() >= len(kinds[0].categories):
             raise Misused("a code of an array of pandas is of no category")
     return (*state[:2], uncached(state[2]))
-
-
-def manager_state(reader: Reader, state: Any) -> Any:
-    """The state of a series: one block, as long as its index."""
-    row: Any = state[3] if type(state) is tuple and len(state) == 4 else None
-    inner = row.get("0.14.1") if type(row) is dict else None
-    if type(inner) is not dict or set(inner) != {"axes", "blocks"}:
-        raise Misused("the state of a series is of no known kind")
-    axes, blocks = inner["axes"], inner["blocks"]
-    if type(axes) is not list or type(blocks) is not list or len(axes) != 1 or len(blocks) != 1:
-        raise Misused("the state of a series is of no known kind")
-    block = blocks[0]
-    if not _is_index(axes[0]) or type(block) is not dict or set(block) != {"values", "mgr_locs"}:
-        raise Misused("the state of a series is of no known kind")
-    if not is_array(reader, block["values"]) or len(block["values"]) != len(axes[0]):
-        raise Misused("the state of a series is of no known kind")
-    _check_places(reader, block["mgr_locs"], len(axes[0]))
-    made = {"axes": list(axes), "blocks": [dict(block)]}
-    return (*state[:3], {"0.14.1": made})
 
 
 def check_masked(reader: Reader, array: Any) -> None:
@@ -382,6 +309,8 @@ def frame_state(reader: Reader, frame: Any, state: Any) -> Any:
     if type(state) is not dict:
         raise Misused("the state of a frame is no dict")
     judge_attributes(frame, state.items(), False)
+    if any(id(it) in reader.unbuilt for it in state.values()):
+        raise Misused("the state of a frame has a part without its own")
     known = ("_mgr", "_typ", "_metadata", "attrs", "_flags", *type(frame)._metadata)
     for name in state:
         if name not in known and hasattr(type(getattr(type(frame), str(name), None)), "__set__"):

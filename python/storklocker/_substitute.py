@@ -97,6 +97,9 @@ class _Within(Substitute):
         super().__init__(of.name, of._call, of.role)
         self._of, self._reader = of, reader
 
+    def new(self, reader: Any, *given: Any) -> Any:
+        return self._of.new(reader, *given)
+
     def real(self) -> Any:
         return self._of.real()
 
