@@ -180,13 +180,14 @@ class RowVerdict(Verdict):
 class Refused(pickle.UnpicklingError):
     """A pickle was refused, and none of it was loaded.
 
-    `str` gives the program's line, with names cut after 64 bytes, and a hint if there is one. It is
-    built only on demand. `verdict`, `at`, `reason`, `number` and `pair` have the full data.
+    `str` gives the program's line, with names cut after 64 bytes, what was being loaded, and a
+    hint. It is built only on demand. `verdict`, `at`, `reason`, `number` and `pair` have the full
+    data.
     """
 
     if TYPE_CHECKING:  # without an `__init__` of its own the exception is faster to raise
 
-        def __init__(self, verdict: Verdict, hint: str = "") -> None: ...
+        def __init__(self, verdict: Verdict, hint: str = "", origin: str = "") -> None: ...
 
     @property
     def verdict(self) -> Verdict:
@@ -198,10 +199,22 @@ class Refused(pickle.UnpicklingError):
     def hint(self) -> str:
         """What to do about it, or an empty string."""
         hint: str = self.args[1] if len(self.args) > 1 else ""
-        return hint
+        if hint or self.pair is None:
+            return hint
+        from ._name_hints import hint_of
+
+        return hint_of(self.pair)
+
+    @property
+    def origin(self) -> str:
+        """What was being loaded, from `storklocker.context`, or an empty string."""
+        origin: str = self.args[2] if len(self.args) > 2 else ""
+        return origin
 
     def __str__(self) -> str:
-        return self.verdict.line(SHOWN) + (f" ({self.hint})" if self.hint else "")
+        origin = f"while loading {self.origin}" if self.origin else ""
+        more = "; ".join(filter(None, (origin, self.hint)))
+        return self.verdict.line(SHOWN) + (f" ({more})" if more else "")
 
     def __repr__(self) -> str:
         return f"{type(self).__name__}({str(self)!r})"
@@ -235,12 +248,13 @@ class MoreBytes(Refused):
 
     if TYPE_CHECKING:
 
-        def __init__(self, verdict: Verdict, length: int) -> None: ...
+        def __init__(self, verdict: Verdict, length: int, origin: str = "") -> None: ...
 
     hint = ""
 
     def __str__(self) -> str:
-        return f"the pickle ends after {self.taken} of {self.length} bytes"
+        origin = f" (while loading {self.origin})" if self.origin else ""
+        return f"the pickle ends after {self.taken} of {self.length} bytes{origin}"
 
     @property
     def length(self) -> int:

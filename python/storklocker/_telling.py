@@ -8,6 +8,7 @@ from . import _names
 from ._answers import Misused, MoreBytes, Refused, Verdict
 from ._hints import hint_of
 from ._lists import STANDARD, within
+from ._name_hints import origin_of
 from ._refusal import CONTEXT, Refusal
 
 if TYPE_CHECKING:
@@ -18,14 +19,17 @@ def told(guard: Guard, verdict: Verdict, data: bytes, length: int, start: int) -
     """Reports a refusal, and returns its exception. `length` is the number of bytes of the input if
     `data` is only its front, `start` what the verdict counts its first byte as.
     """
+    context = CONTEXT.get()
     if guard._on_refusal is not None:
-        guard._on_refusal(Refusal(verdict, data, CONTEXT.get(), guard._enforce))
+        guard._on_refusal(Refusal(verdict, data, context, guard._enforce))
+    origin = origin_of(context)
     if verdict.accepted:
-        return MoreBytes(verdict, length or len(data))
+        return MoreBytes(verdict, length or len(data), origin)
     if verdict.pair is not None:
         hint = _names.hint_of(verdict.pair, guard._allow, guard._fix_imports)
-        return Refused(verdict, hint)
-    return Refused(verdict, _hint_for(guard, verdict, data, start))
+    else:
+        hint = _hint_for(guard, verdict, data, start)
+    return Refused(verdict, hint, origin)
 
 
 def _hint_for(guard: Guard, verdict: Verdict, data: bytes, start: int) -> str:

@@ -118,6 +118,11 @@ class Agreement(unittest.TestCase):
         self.assertGreater(min(answers.values()), 100)
 
 
+class Unshown:
+    def __repr__(self):
+        raise RuntimeError
+
+
 class Loads(unittest.TestCase):
     def test_a_listed_pickle_is_loaded(self):
         accepted = [data for data in SEEDS if storklocker.check(data, BY_PAIRS)]
@@ -136,8 +141,34 @@ class Loads(unittest.TestCase):
         self.assertIs(refused.reason, storklocker.Reason.ImportOffList)
         self.assertEqual(refused.pair, ("os", "system"))
         self.assertIsInstance(refused, pickle.UnpicklingError)
-        self.assertEqual(str(refused), 'no at 0: ImportOffList("os","system")')
+        why = "Dangerous: It runs a command. Don't list it"
+        self.assertEqual((refused.hint, refused.origin), (why, ""))
+        self.assertEqual(str(refused), f'no at 0: ImportOffList("os","system") ({why})')
         self.assertEqual(str(pickle.loads(pickle.dumps(refused))), str(refused))
+
+    def test_a_refusal_names_what_is_loaded_and_the_line_to_add(self):
+        guard = storklocker.Guard(storklocker.AllowList([]))
+        for data, line in (
+            (b"cshop.models\nOrder\n.", "shop.models.Order"),
+            (b"\x8c\x04shop\x8c\x09Order.New\x93.", "shop:Order.New"),
+        ):
+            with guard.context({"key": "a\nb"}), self.assertRaises(storklocker.Refused) as raised:
+                guard.loads(data)
+            hint = f"to permit it: storklocker list add LIST {line}"
+            self.assertEqual(raised.exception.hint, hint)
+            self.assertIn("(while loading {'key': 'a\\nb'}; to permit it: ", str(raised.exception))
+            again = pickle.loads(pickle.dumps(raised.exception))
+            self.assertEqual(str(again), str(raised.exception))
+        # A name that a stranger has chosen, and a context that can't be shown or is long.
+        for data in (b"cshop\n\x1b[2Jx\n.", b"cshop\n" + b"x" * 100 + b"\n."):
+            with self.assertRaises(storklocker.Refused) as raised:
+                guard.loads(data)
+            self.assertEqual(raised.exception.hint, "")
+        for context in (Unshown(), "x" * 1000):
+            with guard.context(context), self.assertRaises(storklocker.MoreBytes) as raised:
+                guard.loads(b"N.N.")
+            self.assertRegex(str(raised.exception), r"^the pickle ends after 2 of 4 bytes \(while ")
+            self.assertLess(len(str(raised.exception)), 140)
 
     def test_bytes_behind_stop_are_told(self):
         with self.assertRaises(storklocker.MoreBytes) as raised:

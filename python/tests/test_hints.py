@@ -44,7 +44,7 @@ HINTS = [
     (base64.b64encode(pickle.dumps([1], 4)), None, "base64"),
     (b"PK\x03\x04", None, "storklocker scan"),
 ]
-NONE = [b"cos\nsystem\n.", b"N", b"\x80\x09.", b"NN.", b"\x80\x04X\x02\0\0\0\xff\xff."]
+NONE = [b"N", b"\x80\x09.", b"NN.", b"\x80\x04X\x02\0\0\0\xff\xff."]
 
 
 class Hints(unittest.TestCase):
