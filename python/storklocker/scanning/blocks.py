@@ -6,6 +6,7 @@ them.
 
 from __future__ import annotations
 
+import bisect
 import itertools
 import re
 from typing import (
@@ -23,24 +24,30 @@ from .values import Values
 if TYPE_CHECKING:
     from .._pairs import Names
 
-_WORD = rb"[A-Za-z_][\w.]{0,99}"
+_WORD, _WORD_SIZE = rb"[A-Za-z_][\w.]{0,99}", 100
 _SHOWN = re.compile(
     rb"[ci](%b)\n(%b)\n|\x8c(.)(%b)\x94?\x8c(.)(%b)\x94?\x93" % ((_WORD,) * 4), re.DOTALL
 )
-_BEGINNINGS = tuple(
-    re.compile(begun, re.DOTALL)
-    for begun in (
-        rb"\x80(?=[\0-\x05])",
-        rb"\((?=[dl]p?[0-9]*\n)",
-        rb"c(?=%b\n%b\n)" % (_WORD, _WORD),
-        rb"i(?=%b\n%b\n)" % (_WORD, _WORD),
-        rb"\x8c(?=.%b\x94?\x8c.%b\x94?\x93)" % (_WORD, _WORD),
-    )
+PROTO, _EMPTY = re.compile(rb"\x80(?=[\0-\x05])"), re.compile(rb"\((?=[dl]p?[0-9]*\n)")
+"""PROTO, and the front of a dict or a list of protocol 0."""
+_IMPORTS = (
+    (
+        re.compile(rb"[ci](?=%b\n%b\n)" % (_WORD, _WORD)),
+        re.compile(rb"\n(?=%b\n)" % _WORD),
+        _WORD_SIZE + 1,
+        _WORD_SIZE + 1,
+    ),
+    (
+        re.compile(rb"\x8c(?=.%b\x94?\x8c.%b\x94?\x93)" % (_WORD, _WORD), re.DOTALL),
+        re.compile(rb"\x93"),
+        2 * (_WORD_SIZE + 3),
+        0,
+    ),
 )
-"""PROTO, the front of a dict or a list of protocol 0, or an import, which may begin anywhere in a
-word. A pattern each, because the search for a first byte is fast.
+"""An import, which may begin anywhere in a word; what each has behind its first word or at its end,
+which few bytes are, while each letter of a text may be such a beginning; and how many bytes it has
+in front of that and behind it.
 """
-PROTO = _BEGINNINGS[0]
 _CODE = 0x80
 _NULS = tuple(re.compile(code + rb"(?=([A-Za-z_]\w{0,30})[.\0])") for code in (b"c", b"i"))
 _WITH_NUL, _NAME = re.compile(rb"(%b)\0" % _WORD), re.compile(rb"%b\n" % _WORD)
@@ -54,8 +61,10 @@ FIRST = 1 << 12
 _SEARCHED_AT = 16
 """For so many bytes in one step the patterns are looked for."""
 _STEP = 1 << 16
-_FAULTS = 8
-"""So many values of a block that aren't whole are passed over."""
+_WALKED, _LEAST, _TIMES = 1 << 18, 16, 3
+"""So many bytes of a block are walked through for what isn't a whole value, each for this many at
+the least; and how often whole values are looked for.
+"""
 _BEFORE, _AFTER = re.compile(rb"[\x8cX\x8dUT]"), 64
 """What pushes a text whose length may lie in the value behind it; and more bytes than such a
 length and the first word take.
@@ -80,51 +89,67 @@ class Block:
         self.start, self.data, self.values = start, data, values
         self._is_hiding = is_hiding
         self._harmless: Dict["Names", bool] = {}
-        found = [it.start() for begun in _BEGINNINGS for it in begun.finditer(data)]
+        found = [it.start() for it in PROTO.finditer(data)]
+        found += [it.start() for it in _EMPTY.finditer(data)]
+        found += _imports_shown(data)
         found += _imports_with_nul(data)
         self._begun = sorted(at for at in found if at < _STEP)
         self.plain: Dict[int, int] = {}
         self._groups: List[Tuple[Sequence[_Part], int]] = []
         self._taken: Set[int] = set()
+        self._quiet = self._passed_over = 0
+        self._walks = _WALKED
 
     def look_ahead(self, known: Iterable[_Part]) -> None:
-        """Finds the plain values, but for those in front of the end or in parts that are known."""
-        found, faults, parts, start = [], 0, iter(known), self.start
+        """Finds the plain values, but for those in front of the end or in parts that are known; and
+        those into which what is left of an older one runs, which is refused.
+        """
+        found = self._whole(self._begun, known, self.end - self.start)
+        for _ in range(_TIMES):
+            refused = list(self.values.batches.left_of(found, self._taken_of))
+            if not refused:
+                break
+            found = self._whole([it for part in refused for it in self._inside(part)])
+
+    def _inside(self, part: _Part) -> List[int]:
+        begun = self._begun
+        return begun[bisect.bisect(begun, part[0]) : bisect.bisect_left(begun, part[1])]
+
+    def _whole(
+        self, places: Iterable[int], known: Iterable[_Part] = (), end: int = 0
+    ) -> List[_Part]:
+        """The values with STOP that begin at these places, in front of one another."""
+        found: List[_Part] = []
+        parts, start = iter(known), self.start
         part = next(parts, _NONE)
-        end = self.end - start
-        for at in self._begun:
+        for at in places:
             while part[0] - start <= at:
                 end, part = max(end, part[1] - start), next(parts, _NONE)
             if at < end or self.data[at] != _CODE:
                 continue
             behind, is_whole = walked(self.data, at)
-            if is_whole:
+            if is_whole and behind - at <= FIRST:
                 end = behind
-                if end - at <= FIRST and end <= part[0] - start and CLAIM.match(self.data, at):
+                if end <= part[0] - start and CLAIM.match(self.data, at):
                     found.append((at, end))
-            else:
-                faults += 1
-            if faults > _FAULTS:
+                continue
+            self._walks -= _LEAST + behind - at
+            if self._walks < 0:
                 break
-        self._judge(found)
-
-    def _judge(self, found: List[_Part]) -> None:
-        """Keeps those that are plain values."""
-        for _ in self.values.batches.left_of(found, self._taken_of):
-            pass  # it is looked at when the search gets to it
+        return found
 
     def _taken_of(self, those: Sequence[_Part]) -> int:
         count, imports = self.values.quiet_of([self.data[at:end] for at, end in those])
         if count:
-            its = those[:count]
+            its = [(self.start + at, self.start + end) for at, end in those[:count]]
             self._groups.append((its, imports))
-            self.plain.update((self.start + at, self.start + end) for at, end in its)
+            self.plain.update(its)
         return count
 
     def take(self, at: int) -> None:
         """Takes a plain value."""
-        self._taken.add(at - self.start)
-        self.end = self.plain[at]
+        self._taken.add(at)
+        self.end = self._quiet = self.plain[at]
 
     def count(self) -> None:
         """Counts the plain values that were taken."""
@@ -134,7 +159,7 @@ class Block:
                 self.values.count(len(its), sum(end - at for at, end in its), imports)
                 continue
             for at, end in its:
-                self.values.taken(self.data[at:end])
+                self.values.taken(self.data[at - self.start : end - self.start])
 
     def places(
         self, trails: Trails, budget: Budget, is_free: bool
@@ -145,26 +170,34 @@ class Block:
         is_free: whether no part is known, so that plain values are taken here while there is no
             trail.
         """
-        is_all, start, quiet = trails.is_any, self.start, 0
-        found = self._places(is_all)
-        while found:
-            budget.spend(6 * len(found))
+        is_all = trails.is_any
+        left = [] if is_all or not is_free else sorted(self.plain)
+        found = self._places(is_all, bool(left))
+        while True:
+            budget.spend(6 * (len(found) + len(left)))
             for last in found:
-                at, is_text = start + last[0], last[1]
-                if not is_text and at < quiet and self._is_harmless(last[0]):
-                    continue
-                is_plain = not is_text and at in self.plain
-                if is_plain and is_free and not trails.is_any and at >= self.end:
-                    self.take(at)
-                else:
-                    yield at, is_text
-                if is_plain and last[0] in self._taken:
-                    quiet = self.plain[at]
+                at, is_text = last
+                yield from self._passed(at, left)
+                if is_text or at >= self._quiet or not self._is_harmless(at - self.start):
+                    yield last
                 if not is_all and trails.is_any:
                     break
             else:
+                yield from self._passed(self.start + _STEP, left)
                 return
-            found, is_all = [it for it in self._places(True) if it > last], True
+            found, is_all, left = [it for it in self._places(True, False) if it > last], True, []
+
+    def _passed(self, limit: int, left: List[int]) -> Iterator[Tuple[int, bool]]:
+        """Takes the plain values in front of a place that are left, but for those that begin in
+        front of the end, which are told.
+        """
+        first = self._passed_over
+        self._passed_over = last = bisect.bisect_left(left, limit, first)
+        begun = bisect.bisect_left(left, self.end, first, last)
+        yield from ((at, False) for at in left[first:begun])
+        if begun < last:
+            self._taken.update(left[begun:last])
+            self.end = self._quiet = self.plain[left[last - 1]]
 
     def _is_harmless(self, at: int) -> bool:
         """Whether an import that is shown there is known to do no harm."""
@@ -175,10 +208,14 @@ class Block:
             self._harmless[shown] = not is_harmful_pair(shown)
         return self._harmless[shown]
 
-    def _places(self, is_all: bool) -> List[Tuple[int, bool]]:
+    def _places(self, is_all: bool, are_passed: bool) -> List[Tuple[int, bool]]:
+        """The places of the block: with texts that are in plain values, and without the places of
+        these values.
+        """
+        start, plain = self.start, self.plain if are_passed else {}
         texts = texts_in(self.data if is_all or not self.plain else self._outside())
-        places = [(at, False) for at in self._begun]
-        places += [(at, True) for at in texts if at < _STEP]
+        places = [(start + at, False) for at in self._begun if start + at not in plain]
+        places += [(start + at, True) for at in texts if at < _STEP]
         places.sort()
         return places
 
@@ -219,6 +256,16 @@ def shown_in(data: bytes, at: int) -> Optional["Names"]:
     if by_lines is not None:
         return by_lines, name
     return (module, own) if len(module) == size[0] and len(own) == behind[0] else None
+
+
+def _imports_shown(block: bytes) -> Set[int]:
+    """Where imports stand in a block that show what they import."""
+    found: Set[int] = set()
+    for begun, ends, before, behind in _IMPORTS:
+        parts = [(max(0, it.start() - before), it.end() + behind) for it in ends.finditer(block)]
+        for start, end in joined_parts(parts):
+            found.update(it.start() for it in begun.finditer(block, start, end))
+    return found
 
 
 def is_harmful_pair(names: "Names") -> bool:

@@ -94,6 +94,8 @@ class Lone:
         while ends:
             found = check_row(data[: ends[-1]], listed, limits=self._limits)
             count = min(found.pickles, len(ends) - (not found))
+            if not len(listed):  # (so that those that are accepted import nothing)
+                return count, 0
             if found and not has_looked:
                 count, has_looked = self._first_found(values[:count]), True
             if found and count == len(ends):
