@@ -8,8 +8,9 @@ from typing import TYPE_CHECKING, Iterable
 from .._reasons import Reason
 from .blocks import is_harmful_pair
 from .budget import Budget
+from .lenient import followed_from
 from .marks import TIME
-from .names import NOTHING, WIDEST, imports_within, verdict_at
+from .names import NOTHING, WIDEST, imports_within, named_today, verdict_at
 from .readings import Found, Place
 from .source import BLOCK, Source
 from .spelled import LENGTHS
@@ -46,13 +47,16 @@ def _is_inside(source: Source, budget: Budget) -> bool:
         if length < 0:
             return False
         at += 1 + length
-    whole, inner = (imports_at(source, it, budget) for it in (0, TIME))
+    whole = imports_at(source, 0, budget)
     if at < TIME:  # (it begins within the line of a module)
-        is_harm = any(map(is_harmful_pair, inner.names)) or not inner.names
-        is_harm |= at > 0 and not inner.verdict
-        return not is_harm and all(_is_end_of(it, whole.names) for it in inner.names)
+        found = followed_from(source, TIME)
+        budget.spend(found.steps)
+        is_harm = any(map(is_harmful_pair, found.names)) or not found.names
+        is_known = found.is_complete and not is_harm
+        return is_known and all(_is_end_of(it, whole.names) for it in found.names)
+    inner = dict.fromkeys(named_today(imports_at(source, TIME, budget).names, front))
     is_behind = whole.verdict.taken == TIME
-    return at == TIME and (is_behind or inner.names.keys() <= whole.names.keys())
+    return at == TIME and (is_behind or inner.keys() <= whole.names.keys())
 
 
 def _is_end_of(names: Names, others: Iterable[Names]) -> bool:

@@ -141,8 +141,10 @@ def _with_calls(
     """The findings on pickles up to a place, with the calls of dangerous names."""
     if all(it.severity != DANGER for it in findings):
         return findings
-    from .calls import with_calls  # most scans have no need of it
+    from .calls import with_calls  # most scans have no need of these
+    from .enums import without_members
 
+    findings = without_members(findings, source, end, budget)
     if question.members is not None:
         question.members.look(source, 0, end)
     return with_calls(findings, source, end, budget)

@@ -6,7 +6,7 @@ import functools
 from typing import Dict, Iterator, List, NamedTuple, Optional, Set, Tuple
 
 HARMLESS = "harmless"
-_SAME, _ALIAS, _LEADS, _TEXT = "same", "alias", "leads", "text"
+_SAME, _ALIAS, _LEADS, _TEXT, _ENUM = "same", "alias", "leads", "text", "enum"
 _HEAD, _WORDS = 1000, 32
 """The most characters and words of a name in which a pattern is looked for."""
 
@@ -26,12 +26,13 @@ class Known:
     """The judged names. A look-up takes time linear in the length of the name.
 
     rows: the judgement of each name, and of each pattern such as `os.*`.
-    texts: the harmless names that may answer a text.
+    texts, enums: the harmless names that may answer a text, and those of enums.
     """
 
     def __init__(self, text: str) -> None:
         self.rows: Dict[str, Row] = {}
         self.texts: Set[str] = set()
+        self.enums: Set[str] = set()
         self._same: Dict[str, str] = {}
         self._led_to: List[str] = []
         self._under: Dict[str, Row] = {}
@@ -47,8 +48,8 @@ class Known:
                 name, same = line.split()[:2]
                 self._same[name] = same
                 self._led_to.append(name)
-        elif kind == _TEXT:
-            self.texts.update(body.split())
+        elif kind in (_TEXT, _ENUM):
+            (self.texts if kind == _TEXT else self.enums).update(body.split())
         elif kind == "danger":
             for name, example in _examples(body.splitlines()):
                 self._put(name, Row(kind, why, example))
