@@ -1,30 +1,36 @@
 """Checks pickles with a proved checker, in this process, before `pickle` sees a byte of them.
 
-    import storklocker
-
-    guard = storklocker.Guard(storklocker.AllowList({"collections": ["OrderedDict"]}))
-    job = guard.loads(data)              # raises storklocker.Refused if the pickle is refused
+    >>> import datetime, pickle, storklocker
+    >>> guard = storklocker.Guard(storklocker.AllowList({"datetime": ["date"]}))
+    >>> guard.loads(pickle.dumps(datetime.date(2030, 1, 31)))
+    datetime.date(2030, 1, 31)
+    >>> guard.loads(b"cos\\nsystem\\n.")
+    Traceback (most recent call last):
+    storklocker._answers.Refused: no at 0: ImportOffList("os","system") (Dangerous: It runs a
+    command. Don't list it)
 
 A `Guard` replaces the module `pickle`: it has `load`, `loads`, `dump`, `dumps`, `Pickler` and
-`Unpickler`. It loads exactly the bytes that it checked, one immutable `bytes` object.
+`Unpickler`. It checks and loads one immutable copy of the bytes. Where it also judges objects, the
+reader gets this copy with BUILD and calls respelled.
 
-    check, check_row     check a pickle, or a row of pickles, without loading anything
+    check, check_row     check a pickle, or a stream of pickles, without loading anything
     loads                a guarded load in one call
     imports, missing     every name that a pickle would import, or only those off a list
-    AllowList            what may be imported: from pairs, from a dict, or from a list file
-    substitutes          a module: what stands for dangerous names while a pickle is loaded
-    Limits, STANDARD     what a pickle may cost
-    Verdict, Reason      the answer of a check, and the reason of a refusal
+    AllowList            the names that may be imported: from pairs, a dict, or a list file
+    lists                a module: ready-made lists
+    substitutes          a module: replacements for dangerous names during a load
+    Limits, STANDARD     limits on the cost of a pickle, and the default ones
+    Verdict, Reason      the result of a check, and the reason of a refusal
     Refused, MoreBytes   raised by a guarded load; both are pickle.UnpicklingError
-    Misused              raised while an accepted pickle is loaded that misuses a listed name
+    Misused              raised during the load of an accepted pickle that misuses a listed name
     ListFault            raised for a text that is not a list file; a ValueError
-    Refusal, context     what on_refusal receives, and how a service names what it loads
-    install, trusted     one guard for every load of this interpreter, and what stays as before
+    Refusal, context     the argument of on_refusal, and the place to name what is being loaded
+    install, trusted     one guard for every load of this interpreter, and the exceptions to it
 
 An accepted pickle is safe in every run of the pickle machine: each import is on the list, each step
-finds what it needs, and exactly one object is left. By default it is also within `Limits` on what
-its keys cost, and its BUILD changes nothing that an import gave. This doesn't mean that the listed
-names are harmless, or that loading succeeds. See docs/PYTHON.md.
+finds what it needs, and exactly one object is left. By default the cost of its keys is also within
+`Limits`, and its BUILD changes no imported object. This doesn't mean that the listed names are
+harmless, or that loading succeeds. See docs/PYTHON.md.
 """
 
 # In these modules annotations are in quotes, because importing `__future__` would take 0.2 ms.

@@ -1,4 +1,4 @@
-"""Answers of the checker, and the exceptions for refusals."""
+"""Verdicts of the checker, and the exceptions for refusals."""
 
 import functools
 import operator
@@ -73,7 +73,11 @@ SHOWN = 64
 
 
 class Verdict(Named):
-    """The answer of the checker. It is true if the pickle is accepted.
+    """The result of a check. It is true if the pickle is accepted.
+
+        >>> verdict = storklocker.check(b"cos\\nsystem\\n.", storklocker.AllowList([]))
+        >>> verdict.accepted, verdict.at, verdict.reason.name, verdict.pair
+        (False, 0, 'ImportOffList', ('os', 'system'))
 
     `str` gives the line that the program prints.
     """
@@ -84,8 +88,8 @@ class Verdict(Named):
     taken: int
     """If accepted: the number of bytes, up to and including STOP."""
     imports: int
-    """If accepted: the number of imports. If refused: 0, but in the Refused that `imports` raises
-    the number of those before `at`.
+    """If accepted: the number of imports. If refused: 0, except in the Refused that `imports` raises:
+    the number of imports before `at`.
     """
     at: int
     """If refused: the offset of the refused instruction."""
@@ -98,13 +102,13 @@ class Verdict(Named):
     pair: "Optional[Tuple[str, str]]"
     """The module and the name that ended the check, for ImportOffList."""
     pickles: int
-    """The number of accepted pickles. In a refused row, those before the refused one."""
+    """The number of accepted pickles. In a refused stream, those before the refused one."""
     _asked: "Tuple[Any, ...]" = ()
     """The arguments of the check, if it refused an import; `missing` needs them."""
     _missing: "Optional[Tuple[Import, ...]]" = None
     missing_is_cut: bool = False
-    """Whether `missing` leaves some out, because the names take more than 64 MiB. Known once
-    `missing` was accessed.
+    """Whether `missing` leaves some out, because the names take more than 64 MiB. Set by the first
+    access to `missing`.
     """
 
     def __new__(
@@ -130,9 +134,12 @@ class Verdict(Named):
     def missing(self) -> "Tuple[Import, ...]":
         """Each import off the list, once, in order. Found on first access, in one pass.
 
-        If no list makes the pickle acceptable, these are the imports before its fault. It contains
-        only `pair` for a row of pickles, and in a copy that was made before the first access. Of
-        names of more than 64 MiB it contains the first ones, and `missing_is_cut` is then true.
+            >>> storklocker.check(b"(ca\\nb\\ncc\\nd\\nl.", storklocker.AllowList([])).missing
+            (Import(module='a', name='b'), Import(module='c', name='d'))
+
+        If no list makes the pickle acceptable, these are the imports before its fault. For a stream,
+        and in a copy made before the first access, it contains only `pair`. If the names take more
+        than 64 MiB, it contains the first ones, and `missing_is_cut` is true.
         """
         asked = self._asked
         if self._missing is None:
@@ -168,10 +175,10 @@ class Verdict(Named):
 
 
 class RowVerdict(Verdict):
-    """The answer of the checker for a row of pickles."""
+    """The result of checking a stream of pickles."""
 
     def line(self, most: "Optional[int]" = None) -> str:
-        """The program's line for a row."""
+        """The program's line for a stream."""
         if self.accepted:
             return f"yes: {self.taken} bytes, {self.pickles} pickles, {self.imports} imports"
         return f"no in pickle {self.pickles} at {self.at}: {self._reason(most)}"
@@ -191,7 +198,7 @@ class Refused(pickle.UnpicklingError):
 
     @property
     def verdict(self) -> Verdict:
-        """The answer of the checker."""
+        """The result of the check."""
         verdict: Verdict = self.args[0]
         return verdict
 
@@ -269,7 +276,9 @@ class MoreBytes(Refused):
 
 
 class Misused(pickle.UnpicklingError):
-    """An accepted pickle uses a listed name as no pickler does, so its load was stopped."""
+    """The load of an accepted pickle was stopped, because it uses a listed name as no pickler
+    does.
+    """
 
     is_told = False
     """Whether a guard's `on_refusal` has heard of it."""
@@ -297,8 +306,8 @@ class ListFault(ValueError):
     """A text is not a list file.
 
     `fault` is the program's name for the reason, such as `Shape(Imports)`. `file` is the name of
-    the file, `line` the line of the fault, counted from 1, and `hint` says what to write there.
-    They are empty or 0 where they aren't known. `str` gives the program's line, and these.
+    the file, `line` the line of the fault, counted from 1, and `hint` a sentence on what to write
+    there. Unknown ones are empty, or 0. `str` gives the program's line, and these.
     """
 
     def __init__(self, fault: str, file: str = "", line: int = 0, hint: str = "") -> None:

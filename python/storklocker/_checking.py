@@ -34,12 +34,21 @@ def check(
 ) -> Verdict:
     """Checks the pickle at the front of `data`, a bytes object, without running it.
 
-    Returns a Verdict; ignores bytes after STOP. `limits` defaults to the list's, or STANDARD; both
-    apply if the list is from a file. `old_strings` says how Python 2 strings are decoded: "ascii"
-    to text (a byte above 7f is refused), "bytes" to bytes, "unknown" to anything. `build` says what
-    BUILD, which sets attributes, may take, unless the list says so: "made" no object that an import
-    gave, "any" each. `fix_imports` says whether pickles of protocols 0 to 2 use names of Python 2,
-    as they do in a guard. Raises MemoryError.
+        >>> allow = storklocker.AllowList({"collections": ["OrderedDict"]})
+        >>> verdict = storklocker.check(b"ccollections\\nOrderedDict\\n.", allow)
+        >>> bool(verdict), verdict.taken, verdict.imports
+        (True, 26, 1)
+        >>> str(storklocker.check(b"cos\\nsystem\\n.", allow))
+        'no at 0: ImportOffList("os","system")'
+
+    Returns a Verdict, and ignores bytes after STOP. Raises MemoryError.
+
+    limits: Limits; by default the list's, or STANDARD. If both are given, the smaller applies.
+    old_strings: how Python 2 strings are decoded: "ascii" to text (a byte above 7f is refused),
+        "bytes" to bytes, "unknown" to either.
+    build: the objects on which BUILD may set attributes, unless the list decides it: "made" excludes
+        imported objects, "any" doesn't.
+    fix_imports: whether pickles of protocols 0 to 2 use names of Python 2, as in a guard.
     """
     listed = _listed_for(data, allow, fix_imports)
     if limits is None and old_strings == "unknown" and build == "made":
@@ -75,12 +84,18 @@ def check_row(
     build: str = "made",
     fix_imports: bool = True,
 ) -> RowVerdict:
-    """Checks pickles that follow one another up to the end of `data`. Returns a RowVerdict.
+    """Checks a stream: pickles that follow one another up to the end of `data`.
 
-    Its `pickles` counts the accepted ones, and `at` counts from the first byte. `one_unpickler`
-    means that one Unpickler loads them all and keeps its memo. From 4 MiB on, Ctrl-C ends a call in
-    the main thread at once, and the check runs to its end in the background. If one Unpickler loads
-    pickles with names of Python 2 and others, they may import what is permitted in both.
+        >>> verdict = storklocker.check_row(b"N.N.cos\\nsystem\\n.", storklocker.AllowList([]))
+        >>> verdict.pickles, str(verdict)
+        (2, 'no in pickle 2 at 4: ImportOffList("os","system")')
+
+    Returns a RowVerdict. Its `pickles` is the number of accepted pickles, and `at` counts from the
+    first byte. From 4 MiB on, Ctrl-C ends a call in the main thread at once, while the check runs to
+    its end in the background.
+
+    one_unpickler: whether one Unpickler loads them all and keeps its memo. If some of them use names
+        of Python 2 and others don't, they may import only names that are permitted for both.
     """
     keeps_memo = flag("one_unpickler", one_unpickler)
     settings = settings_of(allow, limits, old_strings, build, keeps_memo)

@@ -43,35 +43,37 @@ def _view_of(data: "Any") -> memoryview:
 
 
 class Guard(Loads):
-    """A replacement for the module `pickle` that loads only what a proved checker has accepted.
+    """A replacement for the module `pickle` that loads only pickles which a proved checker accepts.
 
-        guard = storklocker.Guard(storklocker.AllowList({"collections": ["OrderedDict"]}))
-        job = guard.loads(data)          # raises storklocker.Refused, an UnpicklingError
-        with open("job.pickle", "rb") as file:
-            job = guard.load(file)
-        cache = SomeCache(serializer=guard)
+        >>> import io
+        >>> guard = storklocker.Guard(storklocker.AllowList([]))
+        >>> guard.loads(guard.dumps({"size": 38}))     # raises storklocker.Refused
+        {'size': 38}
+        >>> guard.load(io.BytesIO(b"N."))              # the next pickle in a file
+
+    Many caches take one: `SomeCache(serializer=guard)`.
 
     It has the names of `pickle`: `load`, `loads`, `dump`, `dumps`, `Pickler`, `Unpickler`, the
     errors and the protocols. A guard is immutable. Threads may share it, and it can be copied,
     pickled and sent to workers (if `on_refusal` can be).
 
     allow: the AllowList.
-    limits: Limits in addition to those of the list. What loading costs is limited by default;
-        `Limits(levels=None, weight=None, work=None)` limits none of it.
+    limits: Limits in addition to those of the list. By default they limit the cost of keys;
+        `Limits(levels=None, weight=None, work=None)` doesn't.
     old_strings: how Python 2 strings are decoded, as for `check`. With "ascii" and "bytes" pickles
         are also loaded that way, and a different `encoding` or `errors` raises ValueError.
     fix_imports: whether pickles of protocols 0 to 2 use the module names of Python 2, as `pickle`
-        takes them and writes them. A pair is then permitted exactly if the pair that CPython maps
-        it to is on the list. This overrides the `fix_imports` of a call.
+        reads and writes them. A pair is then permitted exactly if the list has the pair that
+        CPython maps it to. This overrides the `fix_imports` of a call.
     on_refusal: called with a `Refusal` before Refused is raised. An exception that it raises
         replaces Refused.
-    enforce: False reports a refusal to `on_refusal` and LOADS THE PICKLE ANYWAY. Use it to find out
-        what a list is missing.
+    enforce: False reports a refusal to `on_refusal` and LOADS THE PICKLE ANYWAY. Use it to find the
+        names that a list lacks.
     max_bytes: the most bytes that a `load` reads of one pickle; a longer one is refused as
         TooLarge. The default is 1 GiB.
-    build: what BUILD, which sets attributes, may take: "made", the default, no object that an
-        import gave, so that a pickle changes no listed class or function; "any" permits that too,
-        but under a list with names that have substitutes. What the list says comes first.
+    build: the objects on which BUILD may set attributes. "made", the default, excludes imported
+        objects, so that a pickle changes no listed class or function; "any" also allows that,
+        except under a list with substitutes. The list's own `build` comes first.
     """
 
     PickleError = pickle.PickleError
@@ -146,17 +148,17 @@ class Guard(Loads):
         reload: "Optional[float]" = None,
         **settings: "Any",
     ) -> "Guard":
-        """The guard of a list file, with these settings. Raises what `AllowList.from_file` raises.
+        """A guard for a list file, with these settings. Raises what `AllowList.from_file` raises.
 
-        reload: a load that comes so many seconds after the last look, or later, looks whether the
-            file has changed, by its time, size and inode. A new list applies from that load on,
-            also if it lacks names. A broken file changes nothing, and is logged once.
+        reload: how many seconds after the last look a load looks again whether the file has
+            changed, by its time, size and inode. A new list applies from that load on, even if it
+            lacks names. A broken file changes nothing, and is logged once.
         """
         made: Guard = _later("_reloading").guard_of(cls, file, reload, settings)
         return made
 
     def learning(self, file: "Union[str, os.PathLike[str]]", *, enforce: bool = False) -> "Guard":
-        """The same guard, which writes the names that its list lacks into a file, one JSON object a
+        """The same guard, but it writes the names that its list lacks into a file, one JSON object a
         line, for `storklocker learn --from-log`. Many processes may share the file.
 
         Unless `enforce` is true, the guard LOADS WHAT IT REFUSES: use it where no stranger writes.
@@ -172,7 +174,7 @@ class Guard(Loads):
 
     @property
     def enforce(self) -> bool:
-        """Whether refused pickles are left unloaded."""
+        """Whether refused pickles stay unloaded."""
         return self._enforce
 
     def __repr__(self) -> str:
@@ -225,7 +227,7 @@ class Guard(Loads):
         errors: "Optional[str]" = None,
         buffers: "Optional[Iterable[Any]]" = None,
     ) -> "Any":
-        """The object of the next pickle in a file. Leaves the file right after the pickle.
+        """Loads the next pickle in a file, and leaves the file right after it.
 
         Raises EOFError at the end of the file, Refused (and seeks back, if the file can), and
         otherwise what `pickle.load` raises.
@@ -237,9 +239,7 @@ class Guard(Loads):
         return self._loaded(data, (encoding, errors), buffers)
 
     async def loads_async(self, data: "Any", /, **named: "Any") -> "Any":
-        """`loads`, which runs in a thread from 65,536 bytes on, so that the check of a large pickle
-        doesn't block the event loop.
-        """
+        """`loads` without blocking the event loop: from 65,536 bytes on it runs in a thread."""
         if _view_of(data).nbytes < ASYNC_FROM:
             return self.loads(data, **named)
         import asyncio

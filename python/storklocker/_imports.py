@@ -45,12 +45,14 @@ def imports(
     old_strings: str = "unknown",
     fix_imports: bool = True,
 ) -> List[Import]:
-    """The imports of the pickle in any run, in order, each as often as it is made. Limits on what
-    loading costs are ignored. With `fix_imports` those of protocols 0 to 2 have the names of Python
-    3, which are imported.
+    """The imports that any run of the pickle makes, in order and with repetitions.
 
-    An import that the pickle doesn't reveal is `Import(None, None)`. Raises Refused if no list
-    makes the pickle acceptable.
+        >>> storklocker.imports(b"cos\\nsystem\\n.")
+        [Import(module='os', name='system')]
+
+    An import that the pickle doesn't reveal is `Import(None, None)`. With `fix_imports`, imports of
+    protocols 0 to 2 have the names of Python 3, which a load imports. Limits on costs don't apply.
+    Raises Refused if no list makes the pickle acceptable.
     """
     verdict, room = imports_of(data, _NOTHING, limits, old_strings)
     if not verdict:

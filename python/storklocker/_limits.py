@@ -43,9 +43,14 @@ BUILDS = ("made", "any")
 class Limits(Named):
     """The limits of a check. Immutable.
 
+        >>> limits = storklocker.Limits(levels=2)
+        >>> deep = b"})\\x85\\x85\\x85Ns."           # {((((),),),): None}
+        >>> str(storklocker.check(deep, storklocker.AllowList([]), limits=limits))
+        'no at 6: DeepKey'
+
     A limit above its greatest value means that value.
 
-    counted: bytes in the payload of a counted argument; default and greatest 16,777,216.
+    counted: bytes in the payload of an argument with a length; default and greatest 16,777,216.
     stack: stack entries, marks included; default and greatest 1,000,000.
     memo: memo entries; default and greatest 1,000,000.
     passed: bytes in a byte payload, which is skipped; default 16,777,216, greatest
@@ -56,24 +61,26 @@ class Limits(Named):
     large: as `large = true` in a list file, makes 4,294,967,295 the default and the greatest value
         of counted, stack and memo.
 
-    The others limit what loading a pickle costs, whatever its objects do; None is no limit. Keys
-    are those of dicts and the items of sets. An object weighs 1, an int in digits or bytes an
-    eighth of these more, a text or bytes a 64th of its bytes more, and a tuple or frozenset the
-    weights of its items more. What a call or an import gives weighs 1, whatever its hash costs. A
-    check with such limits takes a tenth to a half longer, and twice as long or more if memory is
-    limited, if more than some ten tuples hold other tuples or what was pickled before, or if there
-    is BUILD, limited by `build="made"`. `Limits(levels=None, weight=None, work=None)` has none.
-    Say so once, to the list or to the guard: of two such limits, one at its default yields to the
-    other, and otherwise the smaller applies.
+    The others limit the cost of loading a pickle, whatever its objects do; None turns a limit off.
+    They concern keys: those of dicts, and the items of sets. An object weighs 1. An int that is
+    written in digits or bytes weighs an eighth of their number more, a text or bytes a 64th of its
+    bytes more, and a tuple or frozenset the weights of its items more. The result of a call or an
+    import weighs 1, whatever its hash costs.
 
-    levels: levels of tuples in a key, each of which hashing descends by calls in C; default 1,000.
-        From 1,023 on, a limit is none.
-    weight: the weight of a key; default 1,000,000. From 1,048,575 on, a limit is none, and a
-        heavier key counts as that in `work`.
+    A check with such limits takes a tenth to a half longer. It takes twice as long or more if memory
+    is limited, if more than about ten tuples hold other tuples or earlier objects, or if there is a
+    BUILD under `build="made"`. `Limits(levels=None, weight=None, work=None)` turns these limits off.
+    Pass it once, to the list or to the guard: if one of the two is at its default, the other
+    applies; otherwise the smaller does.
+
+    levels: levels of tuples in a key, since each takes C stack to hash; default 1,000. From 1,023
+        on, there is no limit.
+    weight: the weight of a key; default 1,000,000. From 1,048,575 on, there is no limit, and a
+        heavier key adds that number to `work`.
     work: the weight of all keys of a pickle together; default 100,000,000.
-    clash: the weight of all keys but texts, bytes, and what calls and imports give: of those that
-        can be made to collide; default None.
-    memory: bytes that loading takes, by estimate; default None.
+    clash: the weight of all keys that can be made to collide: those other than texts, bytes, and the
+        results of calls and imports; default None.
+    memory: the estimated bytes that loading takes; default None.
     """
 
     __slots__ = ()

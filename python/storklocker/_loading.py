@@ -24,9 +24,12 @@ def loads(
 ) -> "Any":
     """`pickle.loads` for untrusted input: short for `Guard(allow, ..).loads(data, ..)`.
 
+        >>> storklocker.loads(pickle.dumps([1, 2]), storklocker.AllowList([]))
+        [1, 2]
+
     Raises Refused if the pickle is refused, MoreBytes if more bytes follow it, and otherwise what
-    `pickle.loads` raises. A buffer other than `bytes` is copied first, so that exactly the checked
-    bytes are loaded.
+    `pickle.loads` raises. A buffer other than `bytes` is copied first, so that nobody changes the
+    bytes between the check and the load.
     """
     if limits is None and old_strings == "unknown" and fix_imports is True and build == "made":
         guard = _plain_guard(allow)

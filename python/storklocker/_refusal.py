@@ -83,6 +83,12 @@ def _refusal_of(
 def context(value: Any) -> Iterator[None]:
     """Sets the `context` of refusals within the block, for every guard: what is being loaded, such
     as the key of a cache entry.
+
+        >>> with storklocker.context({"key": "cart-7"}):
+        ...     storklocker.loads(b"cos\\nsystem\\n.", storklocker.AllowList([]))
+        Traceback (most recent call last):
+        storklocker._answers.Refused: no at 0: ImportOffList("os","system") (while loading {'key':
+        'cart-7'}; Dangerous: It runs a command. Don't list it)
     """
     token = CONTEXT.set(value)
     try:

@@ -12,10 +12,20 @@ from __future__ import annotations
 import argparse
 import re
 import sys
+import textwrap
 from typing import Iterable, Iterator, List, NamedTuple, Sequence
 
 from . import __version__
 from .scanning.command import command_parser
+
+
+EXAMPLES = (
+    "storklocker scan models/ --allow list.toml --jobs 4",
+    "storklocker learn trusted/ > list.toml",
+    "storklocker lint list.toml",
+    "storklocker check --allow @numpy,@pandas frame.pickle",
+    "storklocker dis stranger.pickle",
+)
 
 
 class Command(NamedTuple):
@@ -111,8 +121,12 @@ def manual(command: Command) -> Iterator[str]:
     yield ".SH OPTIONS"
     yield from _terms(options_of(command))
     yield ".SH EXIT STATUS"
-    for number, what in re.findall(r"(?m)^ *(\d+) +(.*)$", command.parser.epilog or ""):
-        yield from (".TP", f".B {number}", _roff(what))
+    statuses = command.parser.epilog or ""
+    for number, what in re.findall(r"(?m)^  (\d+) +(.*(?:\n    .*)*)$", statuses):
+        yield from (".TP", f".B {number}", ".nf")
+        yield from (_roff(line) for line in textwrap.dedent(f"       {what}").splitlines())
+        yield ".fi"
+    yield from (".SH EXAMPLES", ".nf", *map(_roff, EXAMPLES), ".fi")
     yield from (".SH SEE ALSO", ".BR pickle (3),", "the module pickletools of Python")
 
 
@@ -228,7 +242,11 @@ PAGES = {"man": manual, "bash": bash, "zsh": zsh, "fish": fish}
 
 def main(words: Sequence[str]) -> int:
     """Prints a page, and returns the status."""
-    parser = argparse.ArgumentParser("python -m storklocker.pages", description=__doc__)
+    parser = argparse.ArgumentParser(
+        "python -m storklocker.pages",
+        description=__doc__,
+        formatter_class=argparse.RawDescriptionHelpFormatter,
+    )
     parser.add_argument("page", choices=list(PAGES))
     for line in PAGES[parser.parse_args(words).page](command_of(command_parser())):
         print(line)

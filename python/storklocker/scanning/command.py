@@ -30,21 +30,20 @@ from .words import Word
 YES, NO, FAULT, UNJUDGED = 0, 1, 2, 3
 
 _STATUSES = """exit status:
-  0    everything was read to its end, and nothing was found that counts
-  1    something was found that counts, also if something else couldn't be read. It counts from
-       this --fail-on of `scan` on:
-         refused  a guard with the list refuses it, or only a load shows whether it does, unless
-                  --guarded: the default with --allow, and what `check` goes by
+  0    everything was read to its end, and no finding is as severe as --fail-on
+  1    a finding is at least as severe as --fail-on, even if something else couldn't be read:
+         refused  a guard with the list refuses it, or only a load shows whether it does (unless
+                  --guarded): the default with --allow, and always for `check`
          danger   it imports a name that runs code or writes files
          warning  it imports a name that reads files, reaches the network or changes the process;
                   or a guard refuses it by default, because of what loading it costs or changes
          unknown  it imports a name that nobody has judged: the default without --allow
-         note     it is code that isn't read here, or a link that leads to nothing
-         never    nothing counts
-       Of `imports`, `dis`, `json` and `optimize`: a pickle is refused.
+         note     it is code that `scan` doesn't read, or a link that leads nowhere
+         never    no finding causes status 1
+       For `imports`, `dis`, `json` and `optimize`: a pickle is refused.
   2    something couldn't be read to its end, is packed in an unknown way, or readers differ about
        it; a folder was left unread; or the command line, the list or the output is wrong
-  3    of `lint`: no name in the list is known to be dangerous, and nobody has judged some
+  3    for `lint`: no listed name is known to be dangerous, but nobody has judged some
   130  interrupted
 """
 
@@ -106,7 +105,7 @@ def command_parser(command: str = "") -> argparse.ArgumentParser:
     """
     parser = argparse.ArgumentParser(
         "storklocker",
-        description="Lists what pickles would import, before anything loads them.",
+        description="Lists the names that pickles would import, before anything loads them.",
         epilog=_STATUSES,
         formatter_class=argparse.RawDescriptionHelpFormatter,
     )
@@ -121,7 +120,7 @@ def command_parser(command: str = "") -> argparse.ArgumentParser:
 def _add_scan(commands: "argparse._SubParsersAction[argparse.ArgumentParser]") -> None:
     it = commands.add_parser(
         "scan",
-        help="lists the pickles in files, and what they would import",
+        help="lists the pickles in files, and the names that they would import",
         epilog=_STATUSES,
         formatter_class=argparse.RawDescriptionHelpFormatter,
     )
@@ -131,7 +130,7 @@ def _add_scan(commands: "argparse._SubParsersAction[argparse.ArgumentParser]") -
 
 def _add_check(commands: "argparse._SubParsersAction[argparse.ArgumentParser]") -> None:
     it = commands.add_parser(
-        "check", help="says of files whether a guard with a list loads them"
+        "check", help="checks whether a guard with a list loads files"
     )
     it.add_argument("paths", nargs="+", metavar="FILE", help="a file, or - for standard input")
     it.add_argument("--allow", action="append", metavar="LIST", required=True, help=LISTS)
@@ -153,7 +152,7 @@ def _add_learn(commands: "argparse._SubParsersAction[argparse.ArgumentParser]") 
         action="append",
         default=[],
         metavar="FILE",
-        help="also take the names that the guard's `learning` has written",
+        help="also take the names from a log of a guard's `learning`",
     )
     add_descending(it)
     it.set_defaults(run=_learn)
@@ -166,7 +165,7 @@ def _add_lint(commands: "argparse._SubParsersAction[argparse.ArgumentParser]") -
         "--fail-on",
         choices=(DANGER, UNKNOWN),
         default=UNKNOWN,
-        help="the least for which the status isn't 0; unknown by default",
+        help="the least finding that causes a status; unknown by default",
     )
     it.set_defaults(run=_lint)
 

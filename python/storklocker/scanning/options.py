@@ -10,8 +10,8 @@ from .summary import FAIL_ON
 
 PATH = "a file, a folder, or - for standard input"
 _URL = f"{PATH}; or a URL of either that fsspec opens"
-LISTS = "the list file of permitted names, or @NAME,@NAME for shipped lists; the union counts"
-GUARDED = "what is undecided doesn't count: a guard with this list loads the files"
+LISTS = "the list file of permitted names, or @NAME,@NAME for shipped lists; several are united"
+GUARDED = "undecided files don't cause status 1: a guard with this list will load them"
 
 
 class _Append(argparse.Action):
@@ -34,7 +34,7 @@ def add_descending(it: argparse.ArgumentParser) -> None:
         "--no-recursive",
         action="store_false",
         dest="recursive",
-        help="leave out subfolders, which causes status 2 if there are any",
+        help="leave out subfolders; causes status 2 if there are any",
     )
     it.add_argument("--recursive", action="store_true", default=True, help=argparse.SUPPRESS)
 
@@ -49,8 +49,8 @@ def add_options(it: argparse.ArgumentParser) -> None:
         "--no-config",
         "--isolated",
         action="store_true",
-        help="take no options from [tool.storklocker] of a pyproject.toml, which is looked for in"
-        " the current folder and those above it, never in a folder below that is scanned",
+        help="ignore [tool.storklocker] in pyproject.toml, which is otherwise read from the current"
+        " folder or the nearest one above, never from a scanned folder",
     )
 
 
@@ -59,10 +59,10 @@ def _add_files(it: argparse.ArgumentParser) -> None:
     it.add_argument(
         "--files-from",
         metavar="FILE",
-        help="also scan the files that this one names, a line each; - is standard input",
+        help="also scan the files that this file names, one a line; - is standard input",
     )
     it.add_argument(
-        "-0", "--null", action="store_true", help="names of --files-from end with NUL, not lines"
+        "-0", "--null", action="store_true", help="names in --files-from end with NUL, not lines"
     )
     add_descending(it)
     for option, what in (("--include", "scan only"), ("--exclude", "leave out")):
@@ -71,7 +71,7 @@ def _add_files(it: argparse.ArgumentParser) -> None:
             action=_Append,
             default=[],
             metavar="PATTERN",
-            help=f"{what} files of a folder with such a name, or such a path if it has a slash",
+            help=f"{what} files of a folder whose name, or path if PATTERN has a slash, matches",
         )
 
 
@@ -80,17 +80,17 @@ def _add_judgements(it: argparse.ArgumentParser) -> None:
     it.add_argument(
         "--danger",
         metavar="FILE",
-        help="names that are dangers too: sections `[danger] A sentence.`, and a name a line",
+        help="a file of more dangerous names: `[danger] A sentence.`, then one name a line",
     )
     it.add_argument(
         "--baseline",
         metavar="FILE",
-        help="findings of this report, of --format json, on the same bytes don't count",
+        help="ignore the findings of this JSON report while the bytes are the same",
     )
     it.add_argument(
         "--fail-on",
         choices=FAIL_ON,
-        help="the least that causes status 1; refused by default with --allow, else unknown",
+        help="the least finding that causes status 1: by default refused with --allow, or unknown",
     )
     it.add_argument("--guarded", action="store_true", help=GUARDED)
 
@@ -102,12 +102,12 @@ def _add_means(it: argparse.ArgumentParser) -> None:
     it.add_argument(
         "--cluster",
         metavar="ADDRESS",
-        help="scan on the workers of a dask.distributed cluster, by the address of its scheduler",
+        help="scan on the workers of the dask.distributed cluster with this scheduler",
     )
     it.add_argument(
         "--resume",
         metavar="FILE",
-        help="keep the reports in this file, and don't scan again what it has from another run",
+        help="keep reports in this file, and reuse those of an earlier run",
     )
 
 
@@ -116,21 +116,21 @@ def _add_output(it: argparse.ArgumentParser) -> None:
         "--format",
         choices=FORMATS,
         default="table",
-        help="how the reports are written; a table by default",
+        help="the format of the report; a table by default",
     )
     it.add_argument(
         "--show",
         choices=SHOW,
-        help="the least severity that is listed, or all files; by default a terminal shows the"
-        " findings, and a table elsewhere has all pickles too",
+        help="list findings from this severity on, or all files; by default a terminal shows the"
+        " findings, and a table elsewhere also has all pickles",
     )
     it.add_argument(
         "--color",
         choices=("auto", "always", "never"),
         default="auto",
-        help="whether a table has colours: by default on a terminal, unless NO_COLOR is set",
+        help="colour a table: by default on a terminal, unless NO_COLOR is set",
     )
-    it.add_argument("-q", "--quiet", action="store_true", help="write nothing but errors")
+    it.add_argument("-q", "--quiet", action="store_true", help="print nothing but errors")
 
 
 def _jobs(word: str) -> int:

@@ -18,9 +18,9 @@ class Word(str, enum.Enum):
     DANGEROUS = "dangerous"
     """It imports a name that runs code or writes files."""
     UNREADABLE = "unreadable"
-    """Nothing is known of it, or of its rest."""
+    """Its content, or its rest, could not be determined."""
     UNDECIDED = "undecided"
-    """The list permits its names, and only a guard that loads it judges what they are given."""
+    """The list permits its names, but only a guard that loads it can judge their arguments."""
     WARNING = "warning"
     """The worst finding is a warning."""
     UNKNOWN = "unknown"
@@ -30,9 +30,9 @@ class Word(str, enum.Enum):
     ACCEPTED = "accepted"
     """A guard with this list loads it."""
     CODE = "code"
-    """It is code, or leads to code, which isn't read here."""
+    """It is code, or leads to code, that `scan` doesn't read."""
     NO_PICKLE = "no pickle"
-    """No reader gets to a pickle in it."""
+    """No reader reaches a pickle in it."""
 
     def __str__(self) -> str:
         return str(self.value)
