@@ -88,8 +88,8 @@ class Verdict(Named):
     taken: int
     """If accepted: the number of bytes, up to and including STOP."""
     imports: int
-    """If accepted: the number of imports. If refused: 0, except in the Refused that `imports` raises:
-    the number of imports before `at`.
+    """If accepted: the number of imports. If refused: 0, except in the Refused that `imports`
+    raises, which has the number of imports before `at`.
     """
     at: int
     """If refused: the offset of the refused instruction."""
@@ -137,9 +137,9 @@ class Verdict(Named):
             >>> storklocker.check(b"(ca\\nb\\ncc\\nd\\nl.", storklocker.AllowList([])).missing
             (Import(module='a', name='b'), Import(module='c', name='d'))
 
-        If no list makes the pickle acceptable, these are the imports before its fault. For a stream,
-        and in a copy made before the first access, it contains only `pair`. If the names take more
-        than 64 MiB, it contains the first ones, and `missing_is_cut` is true.
+        If no list makes the pickle acceptable, these are the imports before its fault. For a
+        stream, and in a copy made before the first access, it contains only `pair`. If the names
+        take more than 64 MiB, it contains the first ones, and `missing_is_cut` is true.
         """
         asked = self._asked
         if self._missing is None:

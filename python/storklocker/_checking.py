@@ -46,8 +46,8 @@ def check(
     limits: Limits; by default the list's, or STANDARD. If both are given, the smaller applies.
     old_strings: how Python 2 strings are decoded: "ascii" to text (a byte above 7f is refused),
         "bytes" to bytes, "unknown" to either.
-    build: the objects on which BUILD may set attributes, unless the list decides it: "made" excludes
-        imported objects, "any" doesn't.
+    build: the objects on which BUILD may set attributes, unless the list decides it: "made"
+        excludes imported objects, "any" doesn't.
     fix_imports: whether pickles of protocols 0 to 2 use names of Python 2, as in a guard.
     """
     listed = _listed_for(data, allow, fix_imports)
@@ -91,11 +91,11 @@ def check_row(
         (2, 'no in pickle 2 at 4: ImportOffList("os","system")')
 
     Returns a RowVerdict. Its `pickles` is the number of accepted pickles, and `at` counts from the
-    first byte. From 4 MiB on, Ctrl-C ends a call in the main thread at once, while the check runs to
-    its end in the background.
+    first byte. From 4 MiB on, Ctrl-C ends a call in the main thread at once, while the check runs
+    to its end in the background.
 
-    one_unpickler: whether one Unpickler loads them all and keeps its memo. If some of them use names
-        of Python 2 and others don't, they may import only names that are permitted for both.
+    one_unpickler: whether one Unpickler loads them all and keeps its memo. If some of them use
+        names of Python 2 and others don't, they may import only what both may.
     """
     keeps_memo = flag("one_unpickler", one_unpickler)
     settings = settings_of(allow, limits, old_strings, build, keeps_memo)

@@ -158,8 +158,8 @@ class Guard(Loads):
         return made
 
     def learning(self, file: "Union[str, os.PathLike[str]]", *, enforce: bool = False) -> "Guard":
-        """The same guard, but it writes the names that its list lacks into a file, one JSON object a
-        line, for `storklocker learn --from-log`. Many processes may share the file.
+        """The same guard, but it writes the names that its list lacks into a file, one JSON object
+        a line, for `storklocker learn --from-log`. Many processes may share the file.
 
         Unless `enforce` is true, the guard LOADS WHAT IT REFUSES: use it where no stranger writes.
         """

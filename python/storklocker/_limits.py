@@ -67,19 +67,19 @@ class Limits(Named):
     bytes more, and a tuple or frozenset the weights of its items more. The result of a call or an
     import weighs 1, whatever its hash costs.
 
-    A check with such limits takes a tenth to a half longer. It takes twice as long or more if memory
-    is limited, if more than about ten tuples hold other tuples or earlier objects, or if there is a
-    BUILD under `build="made"`. `Limits(levels=None, weight=None, work=None)` turns these limits off.
-    Pass it once, to the list or to the guard: if one of the two is at its default, the other
-    applies; otherwise the smaller does.
+    A check with such limits takes a tenth to a half longer. It takes twice as long or more if
+    memory is limited, if more than about ten tuples hold other tuples or earlier objects, or if
+    there is a BUILD under `build="made"`. `Limits(levels=None, weight=None, work=None)` turns these
+    limits off. Pass it once, to the list or to the guard: if one of the two is at its default, the
+    other applies; otherwise the smaller does.
 
     levels: levels of tuples in a key, since each takes C stack to hash; default 1,000. From 1,023
         on, there is no limit.
     weight: the weight of a key; default 1,000,000. From 1,048,575 on, there is no limit, and a
         heavier key adds that number to `work`.
     work: the weight of all keys of a pickle together; default 100,000,000.
-    clash: the weight of all keys that can be made to collide: those other than texts, bytes, and the
-        results of calls and imports; default None.
+    clash: the weight of all keys that can be made to collide: those other than texts, bytes, and
+        the results of calls and imports; default None.
     memory: the estimated bytes that loading takes; default None.
     """
 

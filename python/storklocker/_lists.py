@@ -35,18 +35,19 @@ class AllowList(_Pairs):
     shared by threads. Lookup takes logarithmic time, so a long list costs little.
 
     A pair permits only itself: `("os", "path")` doesn't permit `("os", "path.join")`. A class or a
-    function stands for the pair by which a pickle names it. The pair of one in a class, such as
-    `Shop.Color`, has a name with dots, which pickles of protocol 4 and later use. What else their
-    objects need, `storklocker.imports` of a pickle says.
+    function stands for the pair by which a pickle names it. The pair of a class inside a class,
+    such as `Shop.Color`, has a name with dots, which pickles of protocol 4 and later use.
+    `storklocker.imports` of a pickle lists all that its objects need.
 
-    substitutes: what a guard loads in place of some of the pairs: see `storklocker.substitutes`.
-    dangerous: pairs or dotted names that permit everything, such as "builtins.getattr", and are
-        meant. A guard accepts no list with one that has no substitute and isn't named here.
-    limits: Limits that apply to every check under the list, as those of a list file do; None if it
-        has none. `Limits(levels=None, weight=None, work=None)` limits nothing of what loading
-        costs.
-    build: what BUILD may take in every check under the list, in place of what the check or the
-        guard says: "made" or "any"; None if the list leaves it to them.
+    substitutes: the functions that a guard loads in place of some names: see
+        `storklocker.substitutes`.
+    dangerous: pairs or dotted names that permit everything, such as "builtins.getattr", and that
+        you list on purpose. A guard refuses a list with such a name if it has no substitute and
+        isn't named here.
+    limits: Limits that apply to every check under the list, as those of a list file do; or None.
+        `Limits(levels=None, weight=None, work=None)` turns the limits on costs off.
+    build: "made" or "any", the objects that BUILD may take in every check under the list; None
+        leaves that to the check or the guard.
     """
 
     # (PyPy gives the base class a `__weakref__`)
@@ -102,9 +103,13 @@ class AllowList(_Pairs):
         """Parses the text of a list file. Raises ListFault if it is not one, and ValueError if its
         section `[substitutes]` has a name that isn't listed.
 
-        If its limits leave out `numbers` or one on costs, the limit of `STANDARD` applies. The
-        greatest number for a limit on costs is none. A name that only Python 2 has stands for that
-        of Python 3, which the log tells once.
+            >>> text = 'version = 2\\n[imports]\\ndatetime = ["date"]'
+            >>> ("datetime", "date") in storklocker.AllowList.from_text(text)
+            True
+
+        If its limits leave out `numbers` or a limit on costs, that of `STANDARD` applies. The
+        greatest value turns a limit on costs off. A name that only Python 2 has means its Python 3
+        name, which is logged once.
         """
         return cls._parsed(text, "")
 
@@ -136,8 +141,8 @@ class AllowList(_Pairs):
 
     @classmethod
     def from_file(cls, file: "Union[str, os.PathLike[str]]") -> "AllowList":
-        """Reads a list file. Raises ListFault if it is not one, and OSError if reading fails. A text
-        such as "@torch,@pandas" names shipped lists; a file whose name begins so is "./@torch".
+        """Reads a list file. Raises ListFault if it is not one, and OSError if reading fails.
+        "@torch,@pandas" names shipped lists; a file whose name begins so is "./@torch".
         """
         name = os.fspath(file)
         if isinstance(name, str) and name.startswith("@"):
@@ -151,8 +156,8 @@ class AllowList(_Pairs):
 
     @classmethod
     def shipped(cls, *names: str) -> "AllowList":
-        """The union of lists of `storklocker.lists`, such as "torch" and "pandas". Raises ValueError
-        for a name that none has.
+        """The union of lists of `storklocker.lists`, such as "torch" and "pandas". Raises
+        ValueError for an unknown name.
         """
         from . import lists
 
@@ -171,19 +176,19 @@ class AllowList(_Pairs):
         return text_of(self)
 
     def to_file(self, file: "Union[str, os.PathLike[str]]") -> None:
-        """Writes the list file, whole or not at all. A file that is there keeps its mode."""
+        """Writes the list file, whole or not at all. An existing file keeps its mode."""
         from ._writing import replace, text_of
 
         replace(file, text_of(self))
 
     @property
     def limits(self) -> "Optional[Limits]":
-        """The limits that it has; None if there are none."""
+        """The limits of the list; None if it has none."""
         return self._limits
 
     @property
     def build(self) -> "Optional[str]":
-        """What BUILD may take under it; None if it doesn't say."""
+        """"made" or "any", the objects that BUILD may take; None if the list doesn't decide it."""
         return self._build
 
     def __iter__(self) -> "Iterator[Pair]":

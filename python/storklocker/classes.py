@@ -4,8 +4,8 @@
         RED = 1
 
 Python 3.11.0 to 3.11.3, which Debian 12 has, pickle a member as `getattr(Color, "RED")`, and a list
-with `builtins.getattr` permits everything. Members of this class are `Color(1)` to a pickle, so
-that a list needs `Color` alone. docs/CLASSES.md says more of what classes should do.
+with `builtins.getattr` permits everything. Members of this class are pickled as `Color(1)`, so that
+a list needs only `Color`. docs/CLASSES.md has more advice for classes.
 """
 
 from __future__ import annotations

@@ -2,8 +2,13 @@
 
     from storklocker.metrics import CountingGuard
 
-    guard = CountingGuard(allow)            # a Guard, which counts
-    print(guard.counts.text())
+    >>> from storklocker.metrics import CountingGuard
+    >>> guard = CountingGuard(storklocker.AllowList([]))
+    >>> guard.loads(b"N.")
+    >>> guard.counts.accepted, guard.counts.refused
+    (1, {})
+    >>> print(guard.counts.text().splitlines()[2])
+    storklocker_accepted_total 1
 """
 
 from __future__ import annotations

@@ -1,4 +1,4 @@
-"""Functions that stand for dangerous names while a pickle is loaded, and judge what it asks for.
+"""Functions that replace dangerous names during a load, and judge the arguments of each call.
 
     from storklocker import AllowList, substitutes
 
@@ -13,8 +13,8 @@
     methodcaller       operator.methodcaller of some methods
     load_from_bytes    torch.storage._load_from_bytes, through a guard
 
-The verdict of a check is about names: it permits the name, and the guard decides what the name is.
-A call with other arguments raises `Misused`. A substitute can be pickled if its arguments can.
+A check is about names: it permits the name, and the guard decides which function the name means. A
+call with other arguments raises `Misused`. A substitute can be pickled if its arguments can.
 """
 
 from __future__ import annotations

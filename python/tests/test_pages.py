@@ -1,11 +1,15 @@
 """The manual page and the completions, as `man` and the shells read them."""
 
+import doctest
+import importlib
 import os
+import pickle
 import subprocess
 import tempfile
 import unittest
 from pathlib import Path
 
+import storklocker
 from common import needs, python
 from storklocker import pages
 from storklocker.scanning.command import command_parser
@@ -24,6 +28,24 @@ def said(text, *words, home=None):
     ran = subprocess.run(words, input=text, capture_output=True, text=True, env=environment)
     assert (ran.returncode, ran.stderr) == (0, ""), ran
     return ran.stdout
+
+
+# The modules whose docstrings have examples, and how many at least.
+EXAMPLES = {
+    "": 4, "._answers": 3, "._checking": 6, "._guard": 4, "._imports": 1, "._limits": 3,
+    "._lists": 2, "._loading": 1, "._refusal": 1, ".everywhere.installing": 1, ".metrics": 5,
+}
+
+
+class Help(unittest.TestCase):
+    def test_examples(self):
+        for name, least in EXAMPLES.items():
+            module = importlib.import_module(f"storklocker{name}")
+            names = {"storklocker": storklocker, "pickle": pickle}
+            found = doctest.testmod(module, globs=names, optionflags=doctest.NORMALIZE_WHITESPACE)
+            with self.subTest(module=module.__name__):
+                self.assertEqual(found.failed, 0)
+                self.assertGreaterEqual(found.attempted, least)
 
 
 class Pages(unittest.TestCase):
@@ -49,6 +71,12 @@ class Pages(unittest.TestCase):
 
     def test_it_runs(self):
         self.assertEqual(python("from storklocker.pages import main; main(['bash'])"), page("bash"))
+
+    def test_the_manual_keeps_the_lines_of_examples_and_statuses(self):
+        lines = page("man").replace("\\-", "-").splitlines()
+        for line in (*pages.EXAMPLES, "danger   it imports a name that runs code or writes files"):
+            self.assertIn(line, [it.strip() for it in lines])
+        self.assertEqual(lines.count(".nf"), lines.count(".fi"))
 
     @needs("groff")
     def test_the_manual_page(self):

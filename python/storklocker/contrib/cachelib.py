@@ -1,12 +1,12 @@
-"""cachelib's caches behind a guard, which also serve Flask-Caching.
+"""cachelib's caches under a guard, which also serve Flask-Caching.
 
     from storklocker.contrib import cachelib as guarded
 
     cache = guarded.protected(cachelib.FileSystemCache("cache"), guard)
     cache = guarded.protected(cachelib.RedisCache("localhost"), guard)
 
-A refused entry is a miss. It is logged with its key, or told to the guard's `on_refusal`, where the
-key is the context. Where a cache can't be changed, its serializer can be:
+A refused entry is a miss. Its key is logged, or is the context of the guard's `on_refusal`. If you
+can't replace a cache, replace its serializer:
 
     cache.serializer = guarded.serializer(guard)        # `redis_serializer` for RedisCache
 """

@@ -1,4 +1,4 @@
-"""diskcache's caches, deques and indexes behind a guard: values in rows and in files, and keys.
+"""diskcache's caches, deques and indexes under a guard: values in rows and in files, and keys.
 
     from storklocker.contrib import diskcache as guarded
 

@@ -1,4 +1,4 @@
-"""Django's cache backends behind a guard: in memory, in files, in a database and in Redis; and a
+"""Django's cache backends under a guard: in memory, in files, in a database and in Redis; and a
 serializer for sessions.
 
     CACHES = {"default": {
@@ -8,11 +8,11 @@ serializer for sessions.
     }}
 
 `GUARD` is a `Guard`, or the dotted name of one. A refused entry is a miss: `get` returns its
-default, `incr` raises ValueError, `touch` and `has_key` return False. It is logged with its key,
-or told to the guard's `on_refusal`, where the key is the context. With `"FORGET": True` a refused
-entry is also deleted. With `"CHECK_ON_SET": True`, which is for development, a value that wouldn't
-be loaded raises `Refused` when it is stored. In a file, the expiry is a pickle before that of the
-value, and both go through the guard.
+default, `incr` raises ValueError, `touch` and `has_key` return False. Its key is logged, or is the
+context of the guard's `on_refusal`. `"FORGET": True` also deletes a refused entry. With
+`"CHECK_ON_SET": True`, which is for development, storing a value that the guard wouldn't load
+raises `Refused`. In a file, the expiry is a pickle before that of the value, and both go through
+the guard.
 """
 
 from __future__ import annotations

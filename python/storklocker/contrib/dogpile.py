@@ -1,12 +1,12 @@
-"""dogpile.cache's regions behind a guard.
+"""dogpile.cache's regions under a guard.
 
     from storklocker.contrib import dogpile as guarded
 
     region = make_region(**guarded.serialization(guard))
     region.configure("dogpile.cache.redis", wrap=[guarded.proxy(guard)])
 
-A refused entry is a miss: `get` returns NO_VALUE, and `get_or_create` creates the value again. It
-is logged with its key, or told to the guard's `on_refusal`, where the key is the context.
+A refused entry is a miss: `get` returns NO_VALUE, and `get_or_create` creates the value again. Its
+key is logged, or is the context of the guard's `on_refusal`.
 """
 
 from __future__ import annotations

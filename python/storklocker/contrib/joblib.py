@@ -1,13 +1,13 @@
-"""joblib's files, such as scikit-learn's models, behind a guard.
+"""joblib's files, such as scikit-learn's models, under a guard.
 
     from storklocker.contrib.joblib import load_joblib
 
     model = load_joblib("model.joblib", guard)
 
-joblib writes the bytes of arrays raw between the instructions of a pickle. They are cut out here,
-without running anything, and a pickle is left in which joblib's wrapper of arrays is called with a
-buffer. That pickle, and those of arrays of objects, are checked before any of them is loaded, and
-exactly they are loaded. joblib isn't needed, and its wrapper needn't be listed.
+joblib writes the raw bytes of arrays between the instructions of a pickle. This module cuts them
+out without running anything. In the pickle that remains, joblib's wrapper of arrays is called with
+a buffer. That pickle, and those of arrays of objects, are checked before any of them is loaded. You
+need neither install joblib nor list its wrapper.
 """
 
 from __future__ import annotations

@@ -1,4 +1,4 @@
-"""Kombu's and Celery's content type `pickle` behind a guard.
+"""Kombu's and Celery's content type `pickle` under a guard.
 
     from storklocker.contrib.kombu import register
 
@@ -26,9 +26,9 @@ CONTENT_TYPE = "application/x-python-serialize"
 
 
 def register(guard: Guard, app: Optional[Any] = None) -> None:
-    """Replaces kombu's pickle codec by the guard. With a Celery application, also guards how its
-    workers and clients take refused messages and results. Raises RuntimeError for Celery before
-    5.2.2, which calls whatever function a stored exception names.
+    """Replaces kombu's pickle codec by the guard. With a Celery application, it also changes how
+    its workers and clients handle refused messages and results. Raises RuntimeError for Celery
+    before 5.2.2, which calls whatever function a stored exception names.
     """
     from kombu import serialization
 

@@ -1,4 +1,4 @@
-"""Connections and managers of `multiprocessing` behind a guard.
+"""Connections and managers of `multiprocessing` under a guard.
 
     from storklocker.contrib import multiprocessing as guarded
 

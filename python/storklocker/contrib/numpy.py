@@ -1,12 +1,12 @@
-"""NumPy's files behind a guard.
+"""NumPy's files under a guard.
 
     from storklocker.contrib.numpy import load_npy, load_npz
 
     array = load_npy("array.npy", guard)
     arrays = load_npz("arrays.npz", guard)
 
-An array of objects is a header followed by a pickle. The file is read once, so exactly the checked
-bytes are loaded. Arrays of numbers contain no pickle.
+An array of objects is a header followed by a pickle. The file is read once, so it can't change
+between the check and the load. Arrays of numbers contain no pickle.
 """
 
 from __future__ import annotations

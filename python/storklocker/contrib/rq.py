@@ -1,15 +1,14 @@
-"""RQ's queues and workers behind a guard.
+"""RQ's queues and workers under a guard.
 
     from storklocker.contrib import rq as guarded
 
     Queue, Worker = guarded.classes(guard)
     Worker([Queue("jobs", connection=redis)], connection=redis).work()
 
-RQ also imports names that a job holds as text: its function and its callbacks. A check of the
-pickle's imports doesn't see them. So they must be on the guard's list too, and are refused before
-RQ imports anything: `("project.jobs", "resize")` permits the function `project.jobs.resize`. A job
-whose metadata or callback is refused fails. The context of each `Refusal` is `{"id": ..}`, the id
-of the job.
+A job also names its function and its callbacks as text, which a check of imports doesn't see. So
+these must be on the guard's list too: `("project.jobs", "resize")` permits the function
+`project.jobs.resize`. The adapter refuses others before RQ imports anything. A job whose metadata
+or callback is refused fails. The context of each `Refusal` is `{"id": ..}`, the id of the job.
 """
 
 from __future__ import annotations

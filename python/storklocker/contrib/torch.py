@@ -1,16 +1,15 @@
-"""PyTorch's checkpoints behind a guard.
+"""PyTorch's checkpoints under a guard.
 
     from storklocker.contrib.torch import load_torch
 
     state = load_torch("model.pt", guard)
 
-The file is read once. Both formats of `torch.save` are read: a zip file with exactly one member
-called `data.pkl`, and the legacy format, a row of pickles before the storages. Each pickle is
-checked before any is loaded; PyTorch's own reader supplies the storages of tensors. Where it
-imports another name than the pickle has, as `torch._tensor.Tensor` for `torch.tensor.Tensor`, that
-must be listed too. `torch.load` itself isn't called, because some versions replace the
-`pickle_module` that they are given. Archives of TorchScript aren't read, nor are the tar files of
-PyTorch before 0.1.10.
+The file is read once, in either format of `torch.save`: a zip file with exactly one member called
+`data.pkl`, or the legacy format, a stream of pickles before the storages. Each pickle is checked
+before any is loaded; PyTorch's own reader supplies the storages of tensors. If it imports another
+name than the pickle has, such as `torch._tensor.Tensor` for `torch.tensor.Tensor`, list that too.
+`torch.load` itself isn't called, because some versions replace their `pickle_module`. Archives of
+TorchScript aren't read, nor are the tar files of PyTorch before 0.1.10.
 """
 
 from __future__ import annotations

@@ -1,18 +1,18 @@
-"""Guards every load of this interpreter, in whatever library it happens.
+"""Guards every load of this interpreter, in every library.
 
     import storklocker
 
     storklocker.install(guard)          # at the start of the program
 
-    with storklocker.trusted():         # pickles that the program made itself
+    with storklocker.trusted():         # pickles that the program wrote itself
         state = pickle.load(file)
 
-There are two lines of defence. Names: `pickle.load`, `loads`, `Unpickler` and their variants become
-the guard's, so that a pickle is checked whole before any of it is loaded. Imports: a reader that
-bypasses these names asks for each import through an audit event, and one off the list raises
-`Unlisted`. What it called before that has been called.
+There are two lines of defence. Names: the guard replaces `pickle.load`, `loads`, `Unpickler` and
+their variants, so that it checks a whole pickle before it loads any of it. Imports: a reader that
+bypasses these names raises an audit event at each import, and an import off the list raises
+`Unlisted`. By then, the pickle's earlier calls have run.
 
-docs/EVERYWHERE.md says what each line covers and what neither does.
+docs/EVERYWHERE.md lists what each line covers, and what neither covers.
 """
 
 from .installing import Installed, install, installed

@@ -1,4 +1,4 @@
-"""Puts a guard in the place of the readers of `pickle`, and judges the imports of other readers."""
+"""Replaces the readers of `pickle` by a guard, and judges the imports of other readers."""
 
 from __future__ import annotations
 
@@ -17,11 +17,11 @@ from .trust import asking, is_calling, reported
 
 
 class Installed(NamedTuple):
-    """What `install` has done.
+    """The result of `install`.
 
-    replaced: the names of modules and classes that are the guard's now.
-    left: where readers of `pickle` are still held and can't be replaced. A load through one of them
-        is not checked whole; each of its imports is judged when it is asked for.
+    replaced: the names in modules and classes that it has replaced.
+    left: the places that still hold a reader of `pickle`, which it can't replace. A load through
+        one of them isn't checked whole; each of its imports is judged when it happens.
     """
 
     replaced: Tuple[str, ...]
@@ -34,13 +34,15 @@ _CHANGING = threading.RLock()
 def install(guard: Guard, *, own: Iterable[str] = ()) -> Installed:
     """Guards every load of this interpreter from now on.
 
-    Call it at the start of the program, before other modules are imported.
+    Call it at the start of the program, before other modules are imported:
 
-    guard: the Guard. With `enforce=False` everything is loaded and reported.
-    own: modules that load what processes of this program send, and whose loads stay unchecked, in
-        addition to those of multiprocessing, concurrent.futures and loky.
+        storklocker.install(storklocker.Guard.from_file("list.toml"))
 
-    Returns what was replaced and what couldn't be, and logs the latter at WARNING. Processes that
+    guard: the Guard. With `enforce=False` it loads everything, and reports what it would refuse.
+    own: modules that load data from other processes of this program, and whose loads stay
+        unchecked, in addition to multiprocessing, concurrent.futures and loky.
+
+    Returns an `Installed`, and logs what it couldn't replace at WARNING. Processes that
     multiprocessing starts are guarded too.
     """
     return _begin(State(_checked(guard), own))
@@ -72,8 +74,13 @@ def _end(state: State) -> None:
 
 @contextlib.contextmanager
 def installed(guard: Guard, *, own: Iterable[str] = ()) -> Iterator[Installed]:
-    """`install` for the time of a block, in all threads. Of blocks that overlap the one that began
-    last applies.
+    """`install` for a block, in all threads. If blocks overlap, the one that began last applies.
+
+        >>> with storklocker.installed(storklocker.Guard(storklocker.AllowList([]))):
+        ...     pickle.loads(b"cos\\nsystem\\n.")
+        Traceback (most recent call last):
+        storklocker._answers.Refused: no at 0: ImportOffList("os","system") (Dangerous: It runs a
+        command. Don't list it)
     """
     state = State(_checked(guard), own)
     done = _begin(state)

@@ -12,7 +12,7 @@ from typing import Any, Callable, Dict, Iterator, Optional, Tuple
 
 
 class Unlisted(pickle.UnpicklingError):
-    """A reader that no guard has checked asked for an import that is not on the list."""
+    """A reader that bypasses the guard made an import that isn't on the list."""
 
 
 class _Block:
@@ -98,9 +98,14 @@ class _Trusted(contextlib.ContextDecorator):
 
 
 def trusted() -> _Trusted:
-    """Loads pickles unchecked within the block: what the frame that begins it calls, and what tasks
-    do that it starts and awaits there. Who resumes a generator that is in the block, and other
-    threads and tasks, stay guarded.
+    """Loads pickles unchecked within the block, which is for pickles that the program wrote itself.
+
+        with storklocker.trusted():
+            state = pickle.load(file)
+
+    It covers the calls of the frame that enters it, and the tasks that this frame starts and awaits
+    in the block. Other threads and tasks, and code that resumes a generator inside the block, stay
+    guarded.
     """
     return _Trusted()
 

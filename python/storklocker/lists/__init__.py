@@ -17,8 +17,8 @@
 
 A command takes them as `@torch`, `@sklearn`, `@standard-types`.
 
-Each is a TOML file in this folder, which names the versions that it was made and tested with. A
-list permits what these libraries write. It doesn't cover what the objects do when they are used.
+Each is a TOML file in this folder, which names the versions that it was written for and tested
+with. A list permits what these libraries write. It doesn't cover what the objects do in use.
 """
 
 from __future__ import annotations

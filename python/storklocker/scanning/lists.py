@@ -52,7 +52,7 @@ def add_commands(commands: "argparse._SubParsersAction[argparse.ArgumentParser]"
 
 
 def list_of(path: str) -> AllowList:
-    """The list of a file, or of names of shipped lists. Raises OSError with the place of a fault."""
+    """The list of a file, or of names of shipped lists. Raises OSError that locates a fault."""
     try:
         return AllowList.from_file(path)
     except ListFault as error:
