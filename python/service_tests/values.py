@@ -66,6 +66,7 @@ def pandas_values():
         frame.astype({"b": "category"}), frame.astype({"a": "Int64", "b": "string"}), times,
         pandas.Index(["a", "b"]), pandas.MultiIndex.from_tuples([(1, "a"), (2, "b")]),
         pandas.Timestamp("2026-01-02"), pandas.Timestamp("2026-01-02", tz="UTC"), pandas.NaT,
+        pandas.Timestamp(NOON, tz=datetime.timezone(datetime.timedelta(hours=2))),
         pandas.Timedelta("1D"), pandas.Period("2026-01"), pandas.Interval(0, 1), pandas.NA,
         times.tz_localize("UTC"), times.to_period("D"), pandas.Series([True, False]),
         pandas.Series([1, 2], dtype="Sparse[int]"), pandas.interval_range(0, 3),
