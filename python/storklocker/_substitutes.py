@@ -332,8 +332,9 @@ def _by_object() -> Dict[int, Substitute]:
         if "numpy" in sys.modules:
             _by_id.update(_arrays.by_object())
         for (module, name), substitute in TABLE.items():
-            it = getattr(sys.modules.get(module), name, None)
-            if it is not None and (module, name) not in _arrays.TABLE:
+            held = None if (module, name) in _arrays.TABLE else sys.modules.get(module)
+            it = None if held is None else vars(held).get(name)  # (`getattr` may import a module)
+            if it is not None:
                 _by_id[id(it)] = substitute
     return _by_id
 
