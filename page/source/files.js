@@ -72,7 +72,7 @@ export async function* piecesOf(path, blob, budget, depth = 0, kind = "pickle") 
   const zip = await readZip(blob, budget);
   const isZlib = front[0] === 0x78 && (front[0] * 256 + front[1]) % 31 === 0;
   if (depth === DEEPEST && (zip || packed || isZlib || isTar(front))) {
-    yield { path, kind, fault: "too-much", problem: "It lies deeper than this page looks." };
+    yield { path, kind, fault: "too-much", problem: "It is nested deeper than this page looks." };
     return;
   }
   if (zip) yield* insideZip(path, zip, budget, depth);
@@ -228,7 +228,7 @@ async function* insideArray(path, blob, front) {
   } else if (start + size === blob.size) {
     yield { path, kind: "npy", isOther: true, why: "numbers only" };
   } else {
-    const problem = "An array of numbers: this page doesn't read what may follow it.";
+    const problem = "An array of numbers: this page doesn't read anything after it.";
     yield { path, kind: "npy", fault: DIFFERING, problem };
   }
 }

@@ -17,7 +17,7 @@ export async function inflated(blob, format, budget) {
       chunks.push(value);
     }
   } catch {
-    problem = "Its packed data are broken, or more follows them: what is behind is not known.";
+    problem = "Its packed data are broken, or more follows them: the rest is unknown.";
   }
   return { blob: new Blob(chunks), problem };
 }

@@ -7,7 +7,7 @@ const SENTENCES = {
   Truncated: "the bytes end before the pickle does",
   BadArgument: "an argument breaks a rule of the format",
   TooLarge: "a limit was exceeded",
-  ExtensionCode: "it imports what the reader's own registry of extension codes says",
+  ExtensionCode: "it imports a name from the reader's own registry of extension codes",
   BrokenFrame: "an instruction crosses the end of a frame, or a frame begins in another",
   MissingMark: "a mark is needed, and there is none",
   MissingItem: "there are too few objects on the stack",

@@ -96,7 +96,7 @@ async function judgePiece(piece) {
     const behind = await packedBehind(piece.path, piece.blob.slice(offset));
     if (behind) return add(behind);
   }
-  const problem = `After ${PICKLES} pickles the rest isn't read.`;
+  const problem = `This page reads no more than ${PICKLES} pickles.`;
   return add({ path: piece.path, kind: kindOf(piece, 1), fault: "too-much", problem });
 }
 

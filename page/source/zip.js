@@ -114,14 +114,14 @@ async function memberOf(blob, entry, budget, covered) {
 }
 
 async function openMember(entry, body, isSame, budget) {
-  if (!isSame) return { problem: "Its local header says otherwise than the directory." };
+  if (!isSame) return { problem: "Its local header differs from the directory." };
   if (entry.flags & ENCRYPTED) return { problem: "It is encrypted." };
   if (body.size !== entry.packed) return { problem: "It is cut off." };
   if (entry.method === 0) return { blob: body };
   if (entry.method !== 8) return { problem: `It is packed by method ${entry.method}.` };
   const found = await inflated(body, "deflate-raw", budget);
   if (!found.problem && found.blob.size !== entry.size) {
-    found.problem = "It unpacks to another size than the directory says.";
+    found.problem = "It unpacks to a size that differs from the directory's.";
   }
   return found;
 }
