@@ -1,6 +1,7 @@
 """RQ: a worker behind the guard, hostile jobs, names that RQ would import by itself."""
 
 import collections
+import decimal
 import os
 import pickle
 import tempfile
@@ -43,6 +44,7 @@ def run():
         for kind, count in (("SimpleWorker", common.GOOD), ("Worker", 20)):
             work(kind, count, port, Path(folder, kind))
         common.nothing_ran()
+        try_sending_again(port)
         try_methods()
         values = named(common.MARKS)
         watching.watch([*common.LISTED, *QUEUES, ("builtins", "iter")])
@@ -152,6 +154,31 @@ def work(kind, count, port, log):
     assert wanted == {line.split()[0] for line in lines.splitlines()}
     trip = poison.module(common.MARKS / "named_imported_list")
     assert f"{bad[-3].id} ('{trip}', 'Trip')" in lines, lines[-2000:]
+
+
+def try_sending_again(port):
+    """A refused job, which its queue sends again once the list has the name that it lacked."""
+    import redis
+    import rq
+
+    from storklocker.contrib import rq as guarded
+
+    connection = redis.Redis(port=port)
+
+    def made(*names):
+        guard = storklocker.Guard(storklocker.AllowList([("jobs", "add"), *names]))
+        Queue, Worker = guarded.classes(guard, rq.SimpleWorker)
+        queue = Queue("again", connection=connection)
+        return queue, Worker([queue], connection=connection)
+
+    queue, worker = made()
+    job = queue.enqueue("jobs.add", decimal.Decimal(2), 3)
+    worker.work(burst=True)
+    assert job.get_status() == "failed"
+    queue, worker = made(("decimal", "Decimal"))
+    queue.failed_job_registry.requeue(job.id)
+    worker.work(burst=True)
+    assert (job.get_status(), queue.fetch_job(job.id).return_value()) == ("finished", 5)
 
 
 def odd_jobs(queue, connection):
