@@ -4,10 +4,11 @@ ghost use Rattle.pkmachine.specs.Private.Packed.{unpacked};
 
 use crate::effect::Class;
 use crate::value::Value;
+use pkstack::{Cell, Slot};
 use std::marker::Model;
 
 /// A `Value` in four bytes. Stack and memo have an entry for each object of a pickle, so their size
-/// decides how many pages they touch.
+/// decides how many pages they touch. No value has the greatest code, which marks have.
 #[derive(Clone, Copy)]
 pub struct PackedValue {
     code: u32,
@@ -15,12 +16,15 @@ pub struct PackedValue {
 
 impl Model for PackedValue {
     ghost use Rattle.std.proofs.Common.{ap};
-    ghost use Rattle.pkmachine.specs.Private.Packed.{packed, packed_unpacked, unpacked};
+    ghost use Rattle.std.specs.Prelude.{◌<◌};
+    ghost use Rattle.pkmachine.specs.Private.Packed.{mark, packed, packed_unpacked, unpacked};
     ghost use Rattle.pkmachine.specs.declared.value.Value.{Value as Object};
 
     ghost Value = { Object };
 
     ghost view = { λ p. unpacked p.code };
+
+    ghost invariant = { λ p. p.code < mark };
 
     ghost inverse = { λ v. record { code = packed v } };
 
@@ -29,6 +33,9 @@ impl Model for PackedValue {
 
 /// The number of codes that aren't texts.
 const PLAIN: u32 = 12;
+
+/// The code of a mark.
+const MARK: u32 = u32::MAX;
 
 impl PackedValue {
     /// An object about which nothing is known.
@@ -51,7 +58,7 @@ impl PackedValue {
     pub fn text(number: usize) -> Option<PackedValue>
         ensures { IfSome result (λ packed. packed ≡ Value.Text number) }
     {
-        if number > (u32::MAX - PLAIN) as usize {
+        if number >= (MARK - PLAIN) as usize {
             return None;
         }
         Some(PackedValue {
@@ -68,6 +75,41 @@ impl PackedValue {
             return Value::Text(self.code - PLAIN);
         }
         plain_of(self.code)
+    }
+}
+
+/// An entry of the stack, a value or a mark, in the four bytes of a value.
+#[derive(Clone, Copy)]
+pub struct ValueCell {
+    code: u32,
+}
+
+impl Cell<PackedValue> for ValueCell {
+    ghost use Rattle.pkmachine.specs.Private.Packed.{cell_code, cell_held, cell_injective};
+    ghost use Rattle.std.proofs.Common.{ap};
+
+    ghost held = { λ cell. cell_held cell.code };
+
+    ghost holder = { λ slot. record { code = cell_code slot } };
+
+    ghost injective = { λ cell. ap (λ code. record { code = code }) (cell_injective cell.code) };
+
+    #[inline(always)]
+    fn mark() -> ValueCell {
+        ValueCell { code: MARK }
+    }
+
+    #[inline(always)]
+    fn object(item: PackedValue) -> ValueCell {
+        ValueCell { code: item.code }
+    }
+
+    #[inline(always)]
+    fn slot(self) -> Slot<PackedValue> {
+        if self.code == MARK {
+            return Slot::Mark;
+        }
+        Slot::Object(PackedValue { code: self.code })
     }
 }
 

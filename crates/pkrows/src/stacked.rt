@@ -1,13 +1,15 @@
 //! A stack of marks and items, and the moves on it and on a memo.
 
 use pkops::{Arg, Inst, Limits, Op, Reason};
-use pkstack::{MemoTable, Move, SliceRule, Stack, Takes, apply};
+use pkstack::{MemoTable, Move, SliceRule, Slot, Takes, apply};
 use std::test::Fail;
 
 const STANDARD: Limits = Limits::STANDARD;
 
+type Stack = pkstack::Stack<u8, Slot<u8>>;
+
 /// Pushes items, and a mark for each `None`.
-fn push_all(stack: &mut Stack<u8>, entries: &[Option<u8>]) -> Result<(), Fail> {
+fn push_all(stack: &mut Stack, entries: &[Option<u8>]) -> Result<(), Fail> {
     for entry in entries {
         let pushed = match *entry {
             Some(item) => stack.push(&STANDARD, item),
@@ -23,7 +25,7 @@ fn push_all(stack: &mut Stack<u8>, entries: &[Option<u8>]) -> Result<(), Fail> {
 /// How many entries are below the operands, and the first three operands.
 type Found = (usize, [Option<u8>; 3]);
 
-fn found(stack: &Stack<u8>, takes: Takes) -> Result<Found, Reason> {
+fn found(stack: &Stack, takes: Takes) -> Result<Found, Reason> {
     let start = stack.find(takes)?;
     let operands = stack.operands(start.place);
     Ok((
@@ -123,7 +125,7 @@ fn entries_are_removed(rt: HostRuntime) -> Result<(), Fail> {
 type Moved = (Result<(), Reason>, usize, u64);
 
 fn move_by(
-    stack: &mut Stack<u8>,
+    stack: &mut Stack,
     memo: &mut MemoTable<u8>,
     what: Move,
     inst: &Inst<'_>,

@@ -5,8 +5,8 @@ use Rattle.std.proofs.Common.{append-nil, length-append, length-drop}
 use Rattle.std.proofs.lemmas.List.{take-append-drop}
 use Rattle.std.proofs.Math.Seq.{take-append_seam, take-suc}
 use Rattle.std.specs.Prelude.{slice_get, Some, None}
-use Rattle.pkstack.specs.declared.stack.slots.Slot.{Slot}
-use Rattle.pkstack.specs.declared.stack.slots.Slot.TheVariants.{Mark, Object}
+use Rattle.pkstack.specs.declared.cells.Slot.{Slot}
+use Rattle.pkstack.specs.declared.cells.Slot.TheVariants.{Mark, Object}
 use Rattle.pkstack.specs.Shape.{Entry, Item, NoItem, NoMark, items, marks_of, slice}
 use Rattle.pkstack.specs.Private.Slots.{AllObjects, IsCut, bars, entry_of, shown, values_of}
 use Rattle.pkstack.proofs.Shown.{shown_append}

@@ -2,8 +2,8 @@
 use Rattle.std.proofs.Common.{◌≡◌, ℕ, zero, suc, ◌-◌, ◌<◌, List, [], ◌∷◌, length, drop, get_or}
 use Rattle.std.proofs.Common.{Err, refl, arith}
 use Rattle.std.proofs.Math.Seq.{drop-cons}
-use Rattle.pkstack.specs.declared.stack.slots.Slot.{Slot}
-use Rattle.pkstack.specs.declared.stack.slots.Slot.TheVariants as slot
+use Rattle.pkstack.specs.declared.cells.Slot.{Slot}
+use Rattle.pkstack.specs.declared.cells.Slot.TheVariants as slot
 use Rattle.pkstack.specs.Shape.{Entry, Mark, Item, NoItem, items}
 use Rattle.pkstack.specs.Private.Slots.{AllObjects, shown}
 use Rattle.pkstack.proofs.Bars.{items_marked}

@@ -1,6 +1,6 @@
 -- The number of entries on the stack.
 use Rattle.std.proofs.Common.{◌≡◌, ◌+◌, List, [], ◌∷◌, length, arith}
-use Rattle.pkstack.specs.declared.stack.slots.Slot.{Slot}
+use Rattle.pkstack.specs.declared.cells.Slot.{Slot}
 use Rattle.pkstack.specs.Shape.{Entry}
 use Rattle.pkstack.specs.Private.Slots.{entry_of, shown}
 

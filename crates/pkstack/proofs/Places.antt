@@ -4,8 +4,8 @@ use Rattle.std.proofs.Common.{drop, Ok, refl, sym, subst, ap, ◌∙◌, arith, 
 use Rattle.std.proofs.Common.{length-drop, Option, Some, None, Err, MatchOption}
 use Rattle.std.proofs.lemmas.List.{append_assoc, take-append-drop}
 use Rattle.std.proofs.Math.Seq.{drop-append_seam, take-append_seam}
-use Rattle.pkstack.specs.declared.stack.slots.Slot.{Slot}
-use Rattle.pkstack.specs.declared.stack.slots.Slot.TheVariants as slot
+use Rattle.pkstack.specs.declared.cells.Slot.{Slot}
+use Rattle.pkstack.specs.declared.cells.Slot.TheVariants as slot
 use Rattle.pkstack.specs.declared.takes.Takes.{Takes}
 use Rattle.pkstack.specs.declared.takes.Takes.TheVariants.{Objects, SliceAndReceiver}
 use Rattle.pkstack.specs.Shape.{Entry, Mark, Item, NoItem, front, items, marks_of, operands}

@@ -5,8 +5,8 @@ use Rattle.std.proofs.Common.{length, take, get_or, refl, sym, ap, ◌∙◌, ar
 use Rattle.std.proofs.Common.{length-append}
 use Rattle.std.proofs.Math.Seq.{take-suc}
 use Rattle.std.proofs.lemmas.Bool.Decides.{nat_tests}
-use Rattle.pkstack.specs.declared.stack.slots.Slot.{Slot}
-use Rattle.pkstack.specs.declared.stack.slots.Slot.TheVariants as slot
+use Rattle.pkstack.specs.declared.cells.Slot.{Slot}
+use Rattle.pkstack.specs.declared.cells.Slot.TheVariants as slot
 use Rattle.pkstack.specs.declared.takes.SliceRule.{SliceRule}
 use Rattle.pkstack.specs.declared.takes.SliceRule.TheVariants.{AnySlice, EvenSlice, FullSlice}
 use Rattle.pkstack.specs.Shape.{breaks, is_even}

@@ -2,8 +2,8 @@
 use Rattle.std.proofs.Common.{◌≡◌, ℕ, suc, ◌<◌, List, [], ◌∷◌, ◌++◌, length, take, drop, get_or}
 use Rattle.std.proofs.Common.{Err, refl, ◌+◌, arith, length-drop}
 use Rattle.std.proofs.Math.Seq.{take-suc, drop-cons}
-use Rattle.pkstack.specs.declared.stack.slots.Slot.{Slot}
-use Rattle.pkstack.specs.declared.stack.slots.Slot.TheVariants as slot
+use Rattle.pkstack.specs.declared.cells.Slot.{Slot}
+use Rattle.pkstack.specs.declared.cells.Slot.TheVariants as slot
 use Rattle.pkstack.specs.Shape.{NoItem, Entry, items}
 use Rattle.pkstack.specs.Private.Slots.{entry_of, shown, values_of}
 

@@ -2,8 +2,8 @@
 use Rattle.std.proofs.Common.{◌≡◌, ℕ, suc, ◌-◌, ◌<◌, List, [], ◌∷◌, length, take, drop, get_or, Ok}
 use Rattle.std.proofs.Common.{Err, refl, subst, arith}
 use Rattle.std.proofs.Math.Seq.{take-length}
-use Rattle.pkstack.specs.declared.stack.slots.Slot.{Slot}
-use Rattle.pkstack.specs.declared.stack.slots.Slot.TheVariants as slot
+use Rattle.pkstack.specs.declared.cells.Slot.{Slot}
+use Rattle.pkstack.specs.declared.cells.Slot.TheVariants as slot
 use Rattle.pkstack.specs.Shape.{top, NoItem}
 use Rattle.pkstack.specs.Private.Slots.{entry_of, shown}
 use Rattle.pkstack.proofs.Shown.{shown_take}

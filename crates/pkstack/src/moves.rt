@@ -5,6 +5,7 @@ ghost use Rattle.pkops.specs.Inst.{instruction_of};
 ghost use Rattle.pkops.specs.Operands.{memo_number};
 ghost use Rattle.std.specs.Prelude.{◌≡◌, ◌≤◌, ◌∷◌, [], ℕ, List, length, IfErr, OnOk};
 
+use crate::cells::Cell;
 use crate::memo::{MemoTable, store};
 use crate::stack::Stack;
 use pkops::{Inst, Limits, Reason};
@@ -34,7 +35,10 @@ pub enum Move {
 
 /// Pushes the top of the stack again.
 #[inline(always)]
-fn duplicate<V: Copy + Drop>(stack: &mut Stack<V>, limits: &Limits) -> Result<(), Reason>
+fn duplicate<V: Copy + Drop, C: Cell<V>>(
+    stack: &mut Stack<V, C>,
+    limits: &Limits,
+) -> Result<(), Reason>
     ensures ok { (m : List (ℕ × V))
         → OnOk result (moved Move.Duplicates 0 (record { entries = stack.old; memo = m })
         ≡ Ok (record { entries = stack.new; memo = m })) }
@@ -49,8 +53,8 @@ fn duplicate<V: Copy + Drop>(stack: &mut Stack<V>, limits: &Limits) -> Result<()
 
 /// Stores the top of the stack under a number.
 #[inline(always)]
-fn remember<V: Copy + Drop>(
-    stack: &Stack<V>,
+fn remember<V: Copy + Drop, C: Cell<V>>(
+    stack: &Stack<V, C>,
     memo: &mut MemoTable<V>,
     limits: &Limits,
     number: u64,
@@ -70,8 +74,8 @@ fn remember<V: Copy + Drop>(
 
 /// Like `remember`, but refuses a number above the limit.
 #[inline(always)]
-fn remember_at<V: Copy + Drop>(
-    stack: &Stack<V>,
+fn remember_at<V: Copy + Drop, C: Cell<V>>(
+    stack: &Stack<V, C>,
     memo: &mut MemoTable<V>,
     limits: &Limits,
     number: u32,
@@ -95,8 +99,8 @@ fn remember_at<V: Copy + Drop>(
 
 /// Pushes the item stored under a number.
 #[inline(always)]
-fn recall<V: Copy + Drop>(
-    stack: &mut Stack<V>,
+fn recall<V: Copy + Drop, C: Cell<V>>(
+    stack: &mut Stack<V, C>,
     memo: &MemoTable<V>,
     limits: &Limits,
     number: u32,
@@ -126,7 +130,7 @@ fn number_of(inst: &Inst<'_>) -> u32
 /// Removes the topmost entry. The separate function gives the result of the call a stack slot only
 /// on this path, as `pop_mark` does.
 #[inline(always)]
-fn pop<V: Copy + Drop>(stack: &mut Stack<V>) -> Result<(), Reason>
+fn pop<V: Copy + Drop, C: Cell<V>>(stack: &mut Stack<V, C>) -> Result<(), Reason>
     ensures ok { OnOk result ((e : Entry V) × (stack.old ≡ e ∷ stack.new)) }
     ensures err { IfErr result (λ r. (stack.new ≡ stack.old) × (stack.old ≡ [])
         × (r ≡ Reason.MissingItem)) }
@@ -137,7 +141,7 @@ fn pop<V: Copy + Drop>(stack: &mut Stack<V>) -> Result<(), Reason>
 
 /// Removes the topmost mark and everything above it.
 #[inline(always)]
-fn pop_mark<V: Copy + Drop>(stack: &mut Stack<V>) -> Result<(), Reason>
+fn pop_mark<V: Copy + Drop, C: Cell<V>>(stack: &mut Stack<V, C>) -> Result<(), Reason>
     ensures fewer { length stack.new ≤ length stack.old }
     ensures ok { OnOk result ((above : List V) × (slice stack.old []
         ≡ Ok (record { operands = above; below = stack.new }))) }
@@ -155,8 +159,8 @@ fn pop_mark<V: Copy + Drop>(stack: &mut Stack<V>) -> Result<(), Reason>
 /// The entry or the memo number that it needs isn't there, it exceeds a limit (`TooLarge`), or an
 /// allocation was refused. The stack and the memo are as before then.
 #[inline(always)]
-pub fn apply<V: Copy + Drop>(
-    stack: &mut Stack<V>,
+pub fn apply<V: Copy + Drop, C: Cell<V>>(
+    stack: &mut Stack<V, C>,
     memo: &mut MemoTable<V>,
     limits: &Limits,
     what: Move,

@@ -9,27 +9,28 @@ ghost use Rattle.std.specs.Prelude.{drop, false, nat_lt, IfOk, IfErr, MatchOptio
 mod operands;
 mod slots;
 
+use crate::cells::{Cell, Packed};
 use crate::takes::Takes;
 pub use operands::Operands;
 use pkbase::StackVec;
 use pkops::{Limits, Reason};
 pub use slots::OperandsStart;
 use slots::{
-    Slot, few_objects, mark_place, marks_below, one_object, place_of, put_on_top, top, two_objects,
+    few_objects, mark_place, marks_below, one_object, place_of, put_on_top, top, two_objects,
 };
 use std::alloc::Global;
 use std::marker::Model;
 
 /// The stack. A place is the number of entries below it.
 #[derive(Drop)]
-pub struct Stack<V> {
+pub struct Stack<V, C: Cell<V>> {
     /// The entries; the last one is on top.
-    slots: StackVec<Slot<V>>,
+    slots: StackVec<Packed<V, C>>,
     /// The places of the marks.
     places: StackVec<usize>,
 }
 
-impl<V> Model for Stack<V> {
+impl<V, C: Cell<V>> Model for Stack<V, C> {
     ghost use Rattle.std.specs.Prelude.{◌≡◌, List, []};
     ghost use Rattle.pkstack.specs.Shape.{Entry};
     ghost use Rattle.pkstack.specs.Private.Slots.{bars, shown};
@@ -41,13 +42,13 @@ impl<V> Model for Stack<V> {
     ghost invariant = { λ s. s.places ≡ bars 0 s.slots };
 }
 
-impl<V: Copy + Drop> Stack<V> {
+impl<V: Copy + Drop, C: Cell<V>> Stack<V, C> {
     /// An empty stack. It allocates nothing.
-    pub fn new(alloc: Global) -> Stack<V>
+    pub fn new(alloc: Global) -> Stack<V, C>
         ensures { result ≡ [] }
     {
         Stack {
-            slots: StackVec::new(alloc, Slot::Mark),
+            slots: StackVec::new(alloc, Packed::mark()),
             places: StackVec::new(alloc, 0),
         }
     }
@@ -124,7 +125,7 @@ impl<V: Copy + Drop> Stack<V> {
     /// The items from a place on.
     #[inline(always)]
     #[tactic(auto, using(crate::proofs::Limited::length_shown, crate::proofs::Places::above_shown))]
-    pub fn operands(&self, place: usize) -> Operands<'_, V>
+    pub fn operands(&self, place: usize) -> Operands<'_, V, C>
         requires { place ≤ length self.now }
         ensures { result ≡ above place self.now }
     {
@@ -157,7 +158,7 @@ impl<V: Copy + Drop> Stack<V> {
             return Err(Reason::TooLarge);
         }
         let place = self.slots.len();
-        let Ok(()) = self.slots.push(Slot::Mark) else {
+        let Ok(()) = self.slots.push(Packed::mark()) else {
             return Err(Reason::OutOfMemory);
         };
         match self.places.push(place) {
@@ -185,7 +186,7 @@ impl<V: Copy + Drop> Stack<V> {
         if !self.has_room(limits) {
             return Err(Reason::TooLarge);
         }
-        match self.slots.push(Slot::Object(value)) {
+        match self.slots.push(Packed::object(value)) {
             Ok(()) => Ok(()),
             Err(_) => Err(Reason::OutOfMemory),
         }
@@ -202,7 +203,7 @@ impl<V: Copy + Drop> Stack<V> {
         if !self.has_room(limits) {
             return false;
         }
-        self.slots.push_within_capacity(Slot::Object(value))
+        self.slots.push_within_capacity(Packed::object(value))
     }
 
     /// Pushes an item for `replace` when it removes nothing, which is rare. The caller checks the
@@ -352,6 +353,6 @@ impl<V: Copy + Drop> Stack<V> {
         ensures { self.new ≡ Item value ∷ below place self.old }
     {
         self.places.truncate(marks);
-        self.slots.replace(place, Slot::Object(value));
+        self.slots.replace(place, Packed::object(value));
     }
 }

@@ -1,8 +1,8 @@
 -- What the entries of the stack's store mean.
 use Rattle.std.specs.Prelude.{ℕ, zero, suc, ◌≡◌, ◌<◌, ◌≤◌, ◌-◌, ◌%◌, eqb, if◌then◌else◌, List, []}
 use Rattle.std.specs.Prelude.{◌∷◌, length, ⊤, drop, take, get_or, Option, Some, None}
-use Rattle.pkstack.specs.declared.stack.slots.Slot.{Slot}
-use Rattle.pkstack.specs.declared.stack.slots.Slot.TheVariants as slot
+use Rattle.pkstack.specs.declared.cells.Slot.{Slot}
+use Rattle.pkstack.specs.declared.cells.Slot.TheVariants as slot
 use Rattle.pkstack.specs.declared.takes.Takes.{Takes}
 use Rattle.pkstack.specs.declared.takes.Takes.TheVariants.{Objects, Slice, SliceAndReceiver}
 use Rattle.pkstack.specs.declared.takes.SliceRule.{SliceRule}

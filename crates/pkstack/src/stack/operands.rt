@@ -3,16 +3,17 @@ ghost use Rattle.pkstack.specs.Private.Slots.{values_of};
 ghost use Rattle.std.specs.Prelude.{◌≡◌, ◌≢◌, [], ◌∷◌, ◌≤◌, drop, length, MatchOption};
 ghost use Rattle.std.specs.List.{slice_get};
 
-use crate::stack::slots::{Slot, count_objects};
+use crate::cells::{Cell, Packed, Slot};
+use crate::stack::slots::count_objects;
 use std::marker::Model;
 
 /// The operands of an operation, from the bottom up. Marks among the entries do not count.
 #[derive(Drop)]
-pub struct Operands<'a, V> {
-    slots: &'a [Slot<V>],
+pub struct Operands<'a, V, C: Cell<V>> {
+    slots: &'a [Packed<V, C>],
 }
 
-impl<'a, V> Model for Operands<'a, V> {
+impl<'a, V, C: Cell<V>> Model for Operands<'a, V, C> {
     ghost use Rattle.std.specs.Prelude.{List};
     ghost use Rattle.pkstack.specs.Private.Slots.{values_of};
 
@@ -21,9 +22,9 @@ impl<'a, V> Model for Operands<'a, V> {
     ghost view = { λ o. values_of o.slots.now };
 }
 
-impl<'a, V: Copy + Drop> Operands<'a, V> {
+impl<'a, V: Copy + Drop, C: Cell<V>> Operands<'a, V, C> {
     /// The objects among the entries from a place on.
-    pub(crate) fn from(slots: &'a [Slot<V>], place: usize) -> Operands<'a, V>
+    pub(crate) fn from(slots: &'a [Packed<V, C>], place: usize) -> Operands<'a, V, C>
         requires { place ≤ length slots.now }
         ensures { result ≡ values_of (drop place slots.now) }
     {
@@ -41,7 +42,7 @@ impl<'a, V: Copy + Drop> Operands<'a, V> {
         if self.slots.is_empty() {
             return None;
         }
-        match self.slots[0] {
+        match self.slots[0].slot() {
             Slot::Object(value) => Some(value),
             Slot::Mark => self.get(0),
         }
@@ -53,7 +54,7 @@ impl<'a, V: Copy + Drop> Operands<'a, V> {
     {
         let mut before: usize = 0;
         for slot in self.slots {
-            if let Slot::Object(value) = *slot {
+            if let Slot::Object(value) = slot.slot() {
                 if before == index {
                     return Some(value);
                 }

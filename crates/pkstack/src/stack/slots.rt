@@ -7,8 +7,10 @@ ghost use Rattle.pkstack.specs.Private.Slots.{bars, breach_of, shown, values_of,
 ghost use Rattle.pkstack.specs.Private.Slots.{taken_from, FirstObject, IsCut, StartsWell};
 ghost use Rattle.std.specs.Prelude.{ℕ, ◌≡◌, [], ◌∷◌, ◌<◌, ◌≤◌, ◌+◌, ◌-◌, length, take, drop};
 ghost use Rattle.std.specs.Prelude.{IfOk};
+ghost use Rattle.pkstack.specs.declared.cells.Slot.TheVariants as slot;
 ghost use Rattle.std.specs.Prelude.{◌++◌, IfErr, IfSome, MatchOption, OnErr, OnOk};
 
+use crate::cells::{Cell, Packed, Slot};
 use crate::takes::{SliceRule, Takes};
 use pkbase::StackVec;
 use pkops::Reason;
@@ -23,37 +25,36 @@ pub struct OperandsStart {
     pub marks: usize,
 }
 
-/// An entry of the stack.
-#[derive(Clone, Copy)]
-pub enum Slot<V> {
-    Mark,
-    Object(V),
-}
-
 /// What is known about the topmost entry; `None` if it is a mark or there is none.
-pub fn top<V: Copy + Drop>(slots: &[Slot<V>]) -> Option<V>
+pub fn top<V: Copy + Drop, C: Cell<V>>(slots: &[Packed<V, C>]) -> Option<V>
     ensures { MatchOption result (top (shown slots.now [])
         ≡ Err NoItem) (λ v. top (shown slots.now []) ≡ Ok (v, drop 1 (shown slots.now []))) }
 {
     if slots.is_empty() {
         return None;
     }
-    let Slot::Object(value) = slots[slots.len() - 1] else {
+    let Slot::Object(value) = slots[slots.len() - 1].slot() else {
         return None;
     };
     Some(value)
 }
 
 /// Pushes an object.
-pub fn put_on_top<V: Copy + Drop>(slots: &mut StackVec<Slot<V>>, value: V) -> Result<(), AllocError>
-    ensures ok { OnOk result (slots.new ≡ slots.old ++ Slot.Object value ∷ []) }
+pub fn put_on_top<V: Copy + Drop, C: Cell<V>>(
+    slots: &mut StackVec<Packed<V, C>>,
+    value: V,
+) -> Result<(), AllocError>
+    ensures ok { OnOk result (slots.new ≡ slots.old ++ slot.Object value ∷ []) }
     ensures err { OnErr result (slots.new ≡ slots.old) }
 {
-    slots.push(Slot::Object(value))
+    slots.push(Packed::object(value))
 }
 
 /// The place of the topmost mark.
-pub fn mark_place<V: Copy + Drop>(stack: &[Slot<V>], places: &[usize]) -> Option<usize>
+pub fn mark_place<V: Copy + Drop, C: Cell<V>>(
+    stack: &[Packed<V, C>],
+    places: &[usize],
+) -> Option<usize>
     requires { places.now ≡ bars 0 stack.now }
     ensures value { MatchOption result (slice (shown stack.now []) []
         ≡ Err NoMark) (λ n. (n < length stack.now) × (slice (shown stack.now []) []
@@ -70,7 +71,7 @@ pub fn mark_place<V: Copy + Drop>(stack: &[Slot<V>], places: &[usize]) -> Option
 }
 
 /// The number of objects above the topmost mark, or on the whole stack if it has no mark.
-pub fn objects_on_top<V: Copy + Drop>(stack: &[Slot<V>], places: &[usize]) -> usize
+pub fn objects_on_top<V: Copy + Drop, C: Cell<V>>(stack: &[Packed<V, C>], places: &[usize]) -> usize
     requires { places.now ≡ bars 0 stack.now }
     ensures within { result ≤ length stack.now }
     ensures objects { AllObjects (drop (length stack.now - result) stack.now) }
@@ -85,8 +86,8 @@ pub fn objects_on_top<V: Copy + Drop>(stack: &[Slot<V>], places: &[usize]) -> us
 
 /// The place where the topmost `count` objects begin, if no mark is among them. It compares the
 /// place of the topmost mark instead of looking at the entries.
-pub fn objects_place<V: Copy + Drop>(
-    stack: &[Slot<V>],
+pub fn objects_place<V: Copy + Drop, C: Cell<V>>(
+    stack: &[Packed<V, C>],
     places: &[usize],
     count: usize,
 ) -> Option<usize>
@@ -104,21 +105,21 @@ pub fn objects_place<V: Copy + Drop>(
 }
 
 /// The place of the topmost entry, if it is an object.
-pub fn one_object<V: Copy + Drop>(slots: &[Slot<V>]) -> Option<usize>
+pub fn one_object<V: Copy + Drop, C: Cell<V>>(slots: &[Packed<V, C>]) -> Option<usize>
     ensures { MatchOption result (items 1 (shown slots.now []) [] ≡ Err NoItem)
         (λ n. (n + 1 ≡ length slots.now) × AllObjects (drop n slots.now)) }
 {
     if slots.is_empty() {
         return None;
     }
-    let Slot::Object(_) = slots[slots.len() - 1] else {
+    let Slot::Object(_) = slots[slots.len() - 1].slot() else {
         return None;
     };
     Some(slots.len() - 1)
 }
 
 /// The place of the lower one of the topmost two entries, if both are objects.
-pub fn two_objects<V: Copy + Drop>(slots: &[Slot<V>]) -> Option<usize>
+pub fn two_objects<V: Copy + Drop, C: Cell<V>>(slots: &[Packed<V, C>]) -> Option<usize>
     ensures { MatchOption result (items 2 (shown slots.now []) [] ≡ Err NoItem)
         (λ n. (n + 2 ≡ length slots.now) × AllObjects (drop n slots.now)) }
 {
@@ -128,14 +129,14 @@ pub fn two_objects<V: Copy + Drop>(slots: &[Slot<V>]) -> Option<usize>
     let Some(place) = one_object(slots) else {
         return None;
     };
-    let Slot::Object(_) = slots[place - 1] else {
+    let Slot::Object(_) = slots[place - 1].slot() else {
         return None;
     };
     Some(place - 1)
 }
 
 /// The place of the lowest one of the topmost three entries, if all are objects.
-fn three_objects<V: Copy + Drop>(slots: &[Slot<V>]) -> Option<usize>
+fn three_objects<V: Copy + Drop, C: Cell<V>>(slots: &[Packed<V, C>]) -> Option<usize>
     ensures { MatchOption result (items 3 (shown slots.now []) [] ≡ Err NoItem)
         (λ n. (n + 3 ≡ length slots.now) × AllObjects (drop n slots.now)) }
 {
@@ -145,7 +146,7 @@ fn three_objects<V: Copy + Drop>(slots: &[Slot<V>]) -> Option<usize>
     let Some(second) = two_objects(slots) else {
         return None;
     };
-    let Slot::Object(_) = slots[second - 1] else {
+    let Slot::Object(_) = slots[second - 1].slot() else {
         return None;
     };
     Some(second - 1)
@@ -153,7 +154,10 @@ fn three_objects<V: Copy + Drop>(slots: &[Slot<V>]) -> Option<usize>
 
 /// The place of the lowest one of the topmost `count` entries, if `count` is 2 or 3 and all of them
 /// are objects.
-pub fn few_objects<V: Copy + Drop>(slots: &[Slot<V>], count: usize) -> Option<usize>
+pub fn few_objects<V: Copy + Drop, C: Cell<V>>(
+    slots: &[Packed<V, C>],
+    count: usize,
+) -> Option<usize>
     ensures { MatchOption result (IsFew count → items count (shown slots.now []) [] ≡ Err NoItem)
         (λ n. IsFew count × (n + count ≡ length slots.now) × AllObjects (drop n slots.now)) }
 {
@@ -165,12 +169,12 @@ pub fn few_objects<V: Copy + Drop>(slots: &[Slot<V>], count: usize) -> Option<us
 }
 
 /// The number of objects among the entries.
-pub fn count_objects<V: Copy + Drop>(slots: &[Slot<V>]) -> usize
+pub fn count_objects<V: Copy + Drop, C: Cell<V>>(slots: &[Packed<V, C>]) -> usize
     ensures { result ≡ length (values_of slots.now) }
 {
     let mut count: usize = 0;
     for slot in slots {
-        if let Slot::Object(_) = slot {
+        if let Slot::Object(_) = slot.slot() {
             count += 1;
         }
     }
@@ -218,8 +222,8 @@ pub fn rule_fault(rule: SliceRule, count: usize) -> Option<Reason>
 /// The place of the topmost mark, if the objects above it obey the rule.
 #[inline(always)]
 #[tactic(auto, using(crate::proofs::Settled::breaks_by_count))]
-pub fn slice_place<V: Copy + Drop>(
-    stack: &[Slot<V>],
+pub fn slice_place<V: Copy + Drop, C: Cell<V>>(
+    stack: &[Packed<V, C>],
     places: &[usize],
     rule: SliceRule,
 ) -> Result<usize, Reason>
@@ -240,8 +244,8 @@ pub fn slice_place<V: Copy + Drop>(
 
 /// The place of the object below the topmost mark, if the objects above the mark obey the rule.
 #[inline(always)]
-pub fn receiver_place<V: Copy + Drop>(
-    stack: &[Slot<V>],
+pub fn receiver_place<V: Copy + Drop, C: Cell<V>>(
+    stack: &[Packed<V, C>],
     places: &[usize],
     rule: SliceRule,
 ) -> Result<usize, Reason>
@@ -260,7 +264,7 @@ pub fn receiver_place<V: Copy + Drop>(
     if place == 0 {
         return Err(Reason::MissingItem);
     }
-    let Slot::Object(_) = stack[place - 1] else {
+    let Slot::Object(_) = stack[place - 1].slot() else {
         return Err(Reason::MissingItem);
     };
     match rule_fault(rule, stack.len() - place - 1) {
@@ -271,8 +275,8 @@ pub fn receiver_place<V: Copy + Drop>(
 
 /// Where the operands of an operation begin. A slice includes its mark, the topmost one.
 #[inline(always)]
-pub fn place_of<V: Copy + Drop>(
-    stack: &[Slot<V>],
+pub fn place_of<V: Copy + Drop, C: Cell<V>>(
+    stack: &[Packed<V, C>],
     places: &[usize],
     takes: Takes,
 ) -> Result<OperandsStart, Reason>

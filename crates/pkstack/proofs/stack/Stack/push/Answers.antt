@@ -7,7 +7,7 @@ use Rattle.pkstack.proofs.stack.Stack.push.Goals.{in-Ok, in-Err}
 pub invariant_of-self : goal.invariant_of-self
 invariant_of-self g c =
     elim c.match-push.branch [
-      | in-Ok w ↦ rw w.in-Ok.ensures.ok
+      | in-Ok w ↦ rw (w.in-Ok.ensures.ok, c.object.ensures)
           (c.self.invariant ∙ sym (bars_pushed c.self.inside.slots c.args.value))
       | in-Err w ↦ rw w.in-Err.ensures.err c.self.invariant
     ]

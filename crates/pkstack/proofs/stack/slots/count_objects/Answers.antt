@@ -8,9 +8,9 @@ pub loop-slot-preserved : goal.loop-slot-preserved
 loop-slot-preserved g c =
     elim c.match-slot.branch [
       | in-Object w ↦ let e = count_object c.args.slots.now c.loop-slot.slot-index _ _
-          (omega arith) (sym c.slot-item.is ∙ w.in-Object.is) in
+          (omega arith) (sym c.slot-item.is ∙ sym c.slot.ensures ∙ w.in-Object.is) in
           (omega (arith, w.count-is), omega (arith, w.count-is, e))
       | in_default w ↦ let e = count_bar c.args.slots.now c.loop-slot.slot-index _
-          (omega arith) (sym c.slot-item.is ∙ w.in_default.is) in
+          (omega arith) (sym c.slot-item.is ∙ sym c.slot.ensures ∙ w.in_default.is) in
           (omega (arith, w.count-is), omega (arith, w.count-is, e))
     ]

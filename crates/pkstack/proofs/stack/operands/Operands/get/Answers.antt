@@ -14,7 +14,7 @@ returns-then-before-index g c =
     let here : length (values_of (take c.loop-slot.slot-index c.self.inside.slots.now))
     ≡ c.args.index = sym c.loop-slot.invariant.2 ∙ c.if-before-index.true in
     let found = object_at c.self.inside.slots.now c.loop-slot.slot-index _ c.in-Object.value
-    (omega arith) (sym c.slot-item.is ∙ c.in-Object.is) in
+    (omega arith) (sym c.slot-item.is ∙ sym c.slot.ensures ∙ c.in-Object.is) in
     subst (λ ks. Some c.in-Object.value ≡ slice_get ks c.args.index) c.self.view_is
     (sym (rw here at found))
 
@@ -22,13 +22,13 @@ pub loop-slot-preserved : goal.loop-slot-preserved
 loop-slot-preserved g c =
     elim c.match-slot.branch [
       | in-Object+else-before-index w ↦ let e = count_object c.self.inside.slots.now
-          c.loop-slot.slot-index _ _ (omega arith) (sym c.slot-item.is ∙ w.in-Object.is) in (
+          c.loop-slot.slot-index _ _ (omega arith) (sym c.slot-item.is ∙ sym c.slot.ensures ∙ w.in-Object.is) in (
             omega (arith, w.before-is),
             omega (arith, w.before-is, w.if-before-index.false),
             omega (arith, w.before-is, e),
           )
       | in_default w ↦ let e = count_bar c.self.inside.slots.now c.loop-slot.slot-index _
-          (omega arith) (sym c.slot-item.is ∙ w.in_default.is) in
+          (omega arith) (sym c.slot-item.is ∙ sym c.slot.ensures ∙ w.in_default.is) in
           (omega (arith, w.before-is), omega (arith, w.before-is), omega (arith, w.before-is, e))
     ]
 
