@@ -63,7 +63,7 @@ export function handlers(said, others) {
 }
 
 // The number of the memo entry that an instruction names.
-export function memoNumber(read) {
+function memoNumber(read) {
   return read.code === GET || read.code === PUT
     ? parseInt(read.lines()[0], 10) : read.number(read.from, read.at - read.from);
 }
@@ -80,3 +80,174 @@ export function setsState(bytes, at) {
   }
   return read.code === BUILD;
 }
+
+// ---- what is on the stack and in the memo
+
+export const ANY = { isAny: true };
+const MARK = { isMark: true }, LONGEST = 1 << 12;
+
+export function fail(why) {
+  throw new NotFollowed(why);
+}
+
+export const isName = (it) => Boolean(it?.isName);
+export const isMade = (it) => Boolean(it?.isMade);
+export const isItems = (it) => it instanceof Map;
+
+// What a call of a name makes.
+export function made({ module, name }, words) {
+  return { isMade: true, module, name, words, isBuilt: false, state: null, item: null };
+}
+
+// Follows a pickle from an offset on. Who looks for something in it derives a class.
+export class Follower {
+  constructor(bytes, at) {
+    Object.assign(this, { bytes, stack: [], memo: new Map(), frame: 0 });
+    this.read = new Instructions(bytes, at);
+  }
+
+  // Follows it up to STOP.
+  follow() {
+    for (this.read.next(); this.read.code !== STOP; this.read.next()) {
+      HANDLERS[this.read.code](this);
+    }
+  }
+
+  pop() {
+    return this.stack.length ? this.stack.pop() : fail("an item is missing");
+  }
+
+  toMark() {
+    const place = this.stack.lastIndexOf(MARK);
+    return place < 0 ? fail("no mark") : this.stack.splice(place).slice(1);
+  }
+
+  hidden(count, ...pushed) {
+    for (let left = count; left > 0; left -= 1) this.hide([this.pop()]);
+    this.stack.push(...pushed);
+  }
+
+  hiddenToMark(...pushed) {
+    this.hide(this.toMark());
+    this.stack.push(...pushed);
+  }
+
+  tupleOf(count) {
+    if (this.stack.length < count) fail("an item is missing");
+    this.tuple(this.stack.splice(this.stack.length - count));
+  }
+
+  // What a derived class judges: values go where they are followed no more; a persistent id, EXT
+  // or a buffer gives something; a name is imported; a tuple is made, a dict gets items, an object
+  // a state; a class makes an object, with named arguments or without; a function is called.
+
+  hide() {}
+
+  given(count, ...pushed) {
+    this.hidden(count, ...pushed);
+  }
+
+  name(module, name) {
+    this.stack.push({ isName: true, module, name });
+  }
+
+  tuple(values) {
+    this.stack.push(values);
+  }
+
+  items(values) {
+    this.hide(values);
+  }
+
+  build() {
+    this.hidden(1);
+  }
+
+  make() {
+    this.stack.push(ANY);
+  }
+
+  makeNamed(words) {
+    this.hide([words]);
+    this.hidden(2, ANY);
+  }
+
+  reduce() {
+    this.stack.push(ANY);
+  }
+
+  instance() {
+    this.given(0);
+    this.hiddenToMark(ANY);
+  }
+
+  instanceOf() {
+    this.given(0);
+    this.hiddenToMark(ANY);
+  }
+}
+
+// ---- numbers and texts
+
+const utf8 = new TextDecoder("utf-8", { fatal: true }), latin = new TextDecoder("latin1");
+
+function pushText(decoder) {
+  return ({ stack, read }) => {
+    const bytes = read.argument();
+    if (bytes.length > LONGEST) {
+      stack.push(ANY);
+      return;
+    }
+    try {
+      stack.push(decoder.decode(bytes));
+    } catch {
+      fail("a text that isn't UTF-8");
+    }
+  };
+}
+
+function pushNumber(isSigned) {
+  return ({ stack, read }) => {
+    const bytes = read.argument(), size = bytes.length;
+    const made = read.number(read.from, size);
+    const isNegative = isSigned && size > 0 && bytes[size - 1] > 0x7f;
+    stack.push(size > 6 ? ANY : isNegative ? made - 2 ** (8 * size) : made);
+  };
+}
+
+function pushLine({ stack, read }) {
+  const line = read.lines()[0].replace(/L$/, "");
+  if (line === "00" || line === "01") stack.push(line === "01");
+  else stack.push(/^-?[0-9]{1,15}$/.test(line) ? Number(line) : ANY);
+}
+
+const HANDLERS = handlers({
+  "(": ({ stack }) => stack.push(MARK), "0": (it) => it.pop(), "1": (it) => it.toMark(),
+  "2": (it) => { const top = it.pop(); it.stack.push(top, top); },
+  "N": ({ stack }) => stack.push(null), "\x88": ({ stack }) => stack.push(true),
+  "\x89": ({ stack }) => stack.push(false), ")": ({ stack }) => stack.push([]),
+  "}": ({ stack }) => stack.push(new Map()), "t": (it) => it.tuple(it.toMark()),
+  "\x85": (it) => it.tupleOf(1), "\x86": (it) => it.tupleOf(2), "\x87": (it) => it.tupleOf(3),
+  "c": (it) => it.name(...it.read.lines()),
+  "\x93": (it) => { const name = it.pop(); it.name(it.pop(), name); },
+  "s": (it) => { const value = it.pop(); it.items([it.pop(), value]); },
+  "u": (it) => it.items(it.toMark()),
+  "d": (it) => { const values = it.toMark(); it.stack.push(new Map()); it.items(values); },
+  "\x81": (it) => { const words = it.pop(); it.make(it.pop(), words); },
+  "R": (it) => { const words = it.pop(); it.reduce(it.pop(), words); }, "b": (it) => it.build(),
+  "\x95": (it) => { it.frame = it.read.at + it.read.number(it.read.from, 8); },
+  "pqr": (it) => it.memo.set(memoNumber(it.read), it.stack.at(-1)),
+  "\x94": (it) => it.memo.set(it.memo.size, it.stack.at(-1)),
+  "ghj": (it) => {
+    const number = memoNumber(it.read);
+    it.stack.push(it.memo.has(number) ? it.memo.get(number) : fail("no memo entry"));
+  },
+  "\x82\x83\x84\x97P": (it) => it.given(0, ANY), "\x98": (it) => it.given(0),
+  "Q": (it) => it.given(1, ANY), "i": (it) => it.instance(), "o": (it) => it.instanceOf(),
+  "l\x91": (it) => it.hiddenToMark(ANY), "e\x90": (it) => it.hiddenToMark(),
+  "a": (it) => it.hidden(1), "\x92": (it) => it.makeNamed(it.pop()), "\x80": () => {},
+  "KM": pushNumber(false), "J\x8a\x8b": pushNumber(true), "IL": pushLine,
+  "X\x8c\x8d": pushText(utf8), "TU": pushText(latin),
+  "V": ({ stack, read }) => stack.push(read.lines()[0]),
+  "S": ({ stack, read }) => stack.push(read.lines()[0].slice(1, -1)),
+}, ({ stack }) => stack.push(ANY));

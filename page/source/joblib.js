@@ -2,13 +2,12 @@
 // rules are those of `storklocker scan`. Each array stands behind the BUILD of a wrapper; there the
 // wrapper is called with a buffer instead. All that joblib doesn't write is a fault.
 
-import { Instructions, NotFollowed, STOP, handlers, memoNumber } from "./following.js";
+import { ANY, Follower, fail, isItems, isMade, isName, made } from "./following.js";
 
-const ANY = { isAny: true }, MARK = { isMark: true };
 const CALL = Uint8Array.of(0x97, 0x85, 0x52);
 const KEYS = ["allow_mmap", "dtype", "order", "shape", "subclass"];
 const ALIGNED = "numpy_array_alignment_bytes", ALIGNMENT = 16, MOST_AXES = 64;
-const LONGEST = 1 << 12, MOST_KEYS = 128, DEEPEST = 8, HAS_OBJECTS = 1;
+const MOST_KEYS = 128, DEEPEST = 8, HAS_OBJECTS = 1;
 const SIZES = { b: [1], i: [1, 2, 4, 8], u: [1, 2, 4, 8], f: [2, 4, 8, 12, 16], c: [8, 16, 24, 32],
   M: [8], m: [8] };
 
@@ -18,34 +17,19 @@ export function isWrapper({ module, name }) {
     && ["joblib.numpy_pickle", "sklearn.externals.joblib.numpy_pickle"].includes(module);
 }
 
-function fail(why) {
-  throw new NotFollowed(why);
-}
-
-const isName = (it) => Boolean(it?.isName);
-const isMade = (it) => Boolean(it?.isMade);
-const isItems = (it) => it instanceof Map;
 const isCount = (it) => Number.isSafeInteger(it) && it >= 0;
-
-function made({ module, name }, words) {
-  return { isMade: true, module, name, words, isBuilt: false, state: null, item: null };
-}
 
 // Follows the first pickle of a file. `lengthOf` gives the length of the pickle at an offset, for
 // arrays of objects; 0 if it is refused.
-export class Cutter {
+export class Cutter extends Follower {
   constructor(bytes, lengthOf) {
-    Object.assign(this, { bytes, lengthOf, stack: [], memo: new Map(), parts: [], nested: [] });
-    Object.assign(this, { read: new Instructions(bytes), start: 0, frame: 0 });
+    super(bytes, 0);
+    Object.assign(this, { lengthOf, parts: [], nested: [], start: 0 });
   }
 
   // The pickle that is left, the places of those of objects, and where it ends.
   cut() {
-    for (;;) {
-      this.read.next();
-      if (this.read.code === STOP) break;
-      HANDLERS[this.read.code](this);
-    }
+    this.follow();
     this.keep();
     if (this.read.at < this.bytes.length) fail("bytes follow it");
     return { left: new Blob(this.parts), nested: this.nested };
@@ -54,15 +38,6 @@ export class Cutter {
   keep() {
     this.parts.push(this.bytes.slice(this.start, this.read.at));
     this.start = this.read.at;
-  }
-
-  pop() {
-    return this.stack.length ? this.stack.pop() : fail("an item is missing");
-  }
-
-  toMark() {
-    const place = this.stack.lastIndexOf(MARK);
-    return place < 0 ? fail("no mark") : this.stack.splice(place).slice(1);
   }
 
   // A wrapper that isn't built, and the class, go nowhere but where joblib puts them.
@@ -76,14 +51,8 @@ export class Cutter {
     }
   }
 
-  hidden(count, ...pushed) {
-    for (let left = count; left > 0; left -= 1) this.hide([this.pop()]);
-    this.stack.push(...pushed);
-  }
-
-  hiddenToMark(...pushed) {
-    this.hide(this.toMark());
-    this.stack.push(...pushed);
+  given() {
+    fail("an instruction that is never written");
   }
 
   // The class may be the first of three, which are the arguments of a call.
@@ -93,22 +62,16 @@ export class Cutter {
     this.stack.push(values);
   }
 
-  tupleOf(count) {
-    if (this.stack.length < count) fail("an item is missing");
-    this.tuple(this.stack.splice(this.stack.length - count));
-  }
-
   name(module, name) {
     if (typeof module !== "string" || typeof name !== "string") fail("a name that isn't shown");
     const isOld = /^(sklearn\.externals\.)?joblib\./.test(`${module}.`);
     if (isOld && !isWrapper({ module, name })) {
       fail(`${module}.${name}, as joblib before 0.10 wrote it`);
     }
-    this.stack.push({ isName: true, module, name });
+    super.name(module, name);
   }
 
-  make() {
-    const words = this.pop(), by = this.pop();
+  make(by, words) {
     this.hide([words]);
     if (isName(by) && isWrapper(by) && !(Array.isArray(words) && words.length === 0)) {
       fail("a wrapper with arguments");
@@ -116,8 +79,7 @@ export class Cutter {
     this.stack.push(isName(by) ? made(by, words) : ANY);
   }
 
-  reduce() {
-    const words = this.pop(), by = this.pop();
+  reduce(by, words) {
     const first = Array.isArray(words) && words.length === 3 ? words[0] : null;
     const isOld = isName(by) && by.name === "_reconstructor"
       && ["copyreg", "copy_reg"].includes(by.module);
@@ -248,66 +210,3 @@ function partsHaveObjects(state, depth) {
   }
   return found;
 }
-
-// ---- numbers and texts
-
-const utf8 = new TextDecoder("utf-8", { fatal: true }), latin = new TextDecoder("latin1");
-
-function pushText(decoder) {
-  return ({ stack, read }) => {
-    const bytes = read.argument();
-    if (bytes.length > LONGEST) {
-      stack.push(ANY);
-      return;
-    }
-    try {
-      stack.push(decoder.decode(bytes));
-    } catch {
-      fail("a text that isn't UTF-8");
-    }
-  };
-}
-
-function pushNumber(isSigned) {
-  return ({ stack, read }) => {
-    const bytes = read.argument(), size = bytes.length;
-    const made = read.number(read.from, size);
-    const isNegative = isSigned && size > 0 && bytes[size - 1] > 0x7f;
-    stack.push(size > 6 ? ANY : isNegative ? made - 2 ** (8 * size) : made);
-  };
-}
-
-function pushLine({ stack, read }) {
-  const line = read.lines()[0].replace(/L$/, "");
-  if (line === "00" || line === "01") stack.push(line === "01");
-  else stack.push(/^-?[0-9]{1,15}$/.test(line) ? Number(line) : ANY);
-}
-
-const HANDLERS = handlers({
-  "(": ({ stack }) => stack.push(MARK), "0": (it) => it.pop(), "1": (it) => it.toMark(),
-  "2": ({ stack }) => stack.push(stack.at(-1) ?? fail("an item is missing")),
-  "N": ({ stack }) => stack.push(null), "\x88": ({ stack }) => stack.push(true),
-  "\x89": ({ stack }) => stack.push(false), ")": ({ stack }) => stack.push([]),
-  "}": ({ stack }) => stack.push(new Map()), "t": (it) => it.tuple(it.toMark()),
-  "\x85": (it) => it.tupleOf(1), "\x86": (it) => it.tupleOf(2), "\x87": (it) => it.tupleOf(3),
-  "c": (it) => it.name(...it.read.lines()),
-  "\x93": (it) => { const name = it.pop(); it.name(it.pop(), name); },
-  "s": (it) => { const value = it.pop(); it.items([it.pop(), value]); },
-  "u": (it) => it.items(it.toMark()),
-  "d": (it) => { const values = it.toMark(); it.stack.push(new Map()); it.items(values); },
-  "\x81": (it) => it.make(), "R": (it) => it.reduce(), "b": (it) => it.build(),
-  "\x95": (it) => { it.frame = it.read.at + it.read.number(it.read.from, 8); },
-  "pqr": (it) => it.memo.set(memoNumber(it.read), it.stack.at(-1)),
-  "\x94": (it) => it.memo.set(it.memo.size, it.stack.at(-1)),
-  "ghj": (it) => {
-    const number = memoNumber(it.read);
-    it.stack.push(it.memo.has(number) ? it.memo.get(number) : fail("no memo entry"));
-  },
-  "\x82\x83\x84\x97\x98ioPQ": () => fail("an instruction that is never written"),
-  "l\x91": (it) => it.hiddenToMark(ANY), "e\x90": (it) => it.hiddenToMark(),
-  "a": (it) => it.hidden(1), "\x92": (it) => it.hidden(3, ANY), "\x80": () => {},
-  "KM": pushNumber(false), "J\x8a\x8b": pushNumber(true), "IL": pushLine,
-  "X\x8c\x8d": pushText(utf8), "TU": pushText(latin),
-  "V": ({ stack, read }) => stack.push(read.lines()[0]),
-  "S": ({ stack, read }) => stack.push(read.lines()[0].slice(1, -1)),
-}, ({ stack }) => stack.push(ANY));

@@ -85,6 +85,10 @@ export class Judge {
     const line = verdictLine(verdict);
     if (verdict.status === NO) findings.push({ kind: "refused", why: line });
     if (verdict.status === NO) return ["refused", line];
+    if (part.calls) {
+      findings.push({ kind: "refused", why: part.calls });
+      return ["refused", `no: ${part.calls}`];
+    }
     const why = this.undecided(part, listed);
     if (why) findings.push({ kind: "undecided", why });
     return why ? ["undecided", why] : ["accepted", line];
@@ -106,8 +110,9 @@ export class Judge {
   }
 
   // What is to be said of the imports and of what loading costs.
-  found({ imports, costs, any }, listed) {
+  found({ imports, costs, calls, any }, listed) {
     const findings = costs ? [costs] : [];
+    if (calls && listed === null) findings.push({ kind: "called-answer", why: calls });
     if (imports === null) findings.push({ kind: "too-much", why: "it imports too many names" });
     for (const { module, name } of imports ?? []) {
       const { severity, why } = this.known.of(module, name);

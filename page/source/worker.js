@@ -1,5 +1,6 @@
 // Reads files and judges what is in them, beside the page, which stays usable meanwhile.
 
+import { callsWhy } from "./calls.js";
 import { Checker, FREE, NO, NO_LIST, OutOfMemory, YES } from "./checker.js";
 import { Costs } from "./costs.js";
 import { Budget, packedBehind, piecesOf } from "./files.js";
@@ -152,7 +153,8 @@ function judged(piece, offset, number) {
   if (isOther) return { ...part, verdict: any };
   const bytes = checker.memory().subarray(checker.at, checker.at + checker.size);
   const costs = new Costs(checker, said).exceeded(offset);
-  const told = { costs, hasBuild: setsState(bytes, offset) };
+  const calls = any.status === YES && part.imports?.length ? callsWhy(bytes, offset) : "";
+  const told = { costs, calls, hasBuild: setsState(bytes, offset) };
   return { ...part, ...told, verdict: underList({ ...part, ...told }) };
 }
 

@@ -23,6 +23,8 @@ EMPTY = OF_NONE | NEW_OF_NONE
 """The role of a class of values that are empty by default."""
 ANSWERS = 1 << 17
 """The role of what answers functions, which a pickle may call."""
+NUMBERED = 1 << 10
+"""More than the names that `uses.c` numbers, and what it divides a role by."""
 
 
 def takes(*places: int) -> int:

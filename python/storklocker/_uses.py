@@ -16,15 +16,13 @@ from ._answers import Misused
 from ._guard import Guard, _loads
 from ._storklocker import begin_judging, begin_uses, uses
 from ._objects import found
-from ._substitute import ANSWERS, IS_JUDGED, IS_WRAPPER, Substitute
+from ._substitute import ANSWERS, IS_JUDGED, IS_WRAPPER, NUMBERED, Substitute
 from ._substitutes import Piece, substitute_of
 
 Pair = Tuple[str, str]
 Told = Tuple[List[Piece], bool, int, int, int]
 """What is told of a pickle, as `walk.h` has it."""
 
-_MOST = 1 << 10
-"""More than the names that `uses.c` numbers, and what it divides a role by."""
 
 
 class _Numbers:
@@ -43,19 +41,19 @@ class _Numbers:
         if role is None or role == _UNNAMED:
             return role or 0
         number = self.of.get(pair) or self.of.setdefault(pair, next(self._next))
-        if number >= _MOST:
+        if number >= NUMBERED:
             raise Misused("the pickle writes the names that have substitutes in too many ways")
-        return number + role * _MOST
+        return number + role * NUMBERED
 
 
 NOTHING, OBJECTS, NAMES = 0, 1, 2
 """What is judged while a pickle is loaded, as `walk.h` has it."""
-_UNNAMED = IS_JUDGED * _MOST
+_UNNAMED = IS_JUDGED * NUMBERED
 """The role of a class without a substitute, and of what calls one, of which objects are judged."""
 _MAKERS = frozenset((("copyreg", "__newobj__"), ("copyreg", "__newobj_ex__")))
 _SHARED = _Numbers()
 """The numbers of pairs that have the same substitute under all lists."""
-_ROOM = _MOST // 2
+_ROOM = NUMBERED // 2
 """How many numbers must be left of these for a reader that is made."""
 
 
@@ -129,7 +127,7 @@ class Uses:
 
     def _told(self, pair: Pair, role: Optional[int]) -> int:
         """The number and the role of a pair, and whether the list means it to answer functions."""
-        return self._numbers.number(pair, role) + (ANSWERS * _MOST if pair in self._meant else 0)
+        return self._numbers.number(pair, role) + (ANSWERS * NUMBERED if pair in self._meant else 0)
 
 
 def begin(guard: Guard, judges: Any) -> None:

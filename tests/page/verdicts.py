@@ -36,6 +36,20 @@ MANY = b"}" + b"K\x01\x85" + b"2\x86" * 16 + b"q\x01" + b"0" + b"h\x01Ns" * 800 
 NAMES = b"\x80\x02" + b"".join(b"c%s\n0" % it for it in (
     b"__builtin__\nset", b"UserDict\nUserDict", b"copy_reg\n_reconstructor", b"urlparse\nurljoin",
 )) + b"N."
+ORDERED = b"ccollections\nOrderedDict\n"
+CALLS = {
+    "called.pickle": b"\x80\x04" + ORDERED + b")R)R.",
+    "called new.pickle": b"\x80\x04" + ORDERED + b")\x81)\x81.",
+    "called named.pickle": b"\x80\x04" + ORDERED + b")}\x92)}\x92.",
+    "called obj.pickle": b"\x80\x04((" + ORDERED + b"oo.",
+    "called inst.pickle": b"(" + b"(icollections\nOrderedDict\no.",
+    "called memo.pickle": b"\x80\x04" + ORDERED + b")R\x94N\x86h\0)R\x86.",
+    "called twice.pickle": b"\x80\x04" + ORDERED + b")R2)R\x86.",
+    "called row.pickle": b"\x80\x04" + ORDERED + b")R.\x80\x04" + ORDERED + b")R)R.",
+    "calls.pickle": b"\x80\x04N2\x86" + ORDERED + b"\x94)R0h\0)Rh\0)\x81\x87.",
+    "wrapper.pickle": b"\x80\x04cjoblib.numpy_pickle\nNumpyArrayWrapper\n)\x81)R.",
+}
+"""Pickles that call what their own calls have made; `calls` and `wrapper` don't."""
 NUMPY = 'numpy = ["dtype", "ndarray"]\n"numpy.core.multiarray" = ["_reconstruct", "scalar"]\n'
 LISTS = {
     "": "version = 1\n\n[imports]\n",
@@ -108,7 +122,7 @@ def _files() -> Dict[str, bytes]:
         "packed.bz2": bz2.compress(HOSTILE), "a.tar": _tarred("a.pickle", b"\x80\x02" + HOSTILE),
         "model.zip": _zipped(("m/data.pkl", HOSTILE), ("m/version", b"3\n")),
         "calm.zip": _zipped(("m/data.pkl", HONEST), ("m/data/0", bytes(64))),
-        "records": RECORDS, **_stores(),
+        "records": RECORDS, **_stores(), **CALLS,
         "legacy.pt": legacy + pickle.dumps({"w": 1}, 2) + pickle.dumps(["0"], 2) + bytes(24),
         "hostile legacy.pt": legacy + b"\x80\x02" + HOSTILE + pickle.dumps(["0"], 2) + bytes(24),
     }

@@ -28,6 +28,7 @@ from .._substitute import Class, Substitute, Value
 from .._substitutes import TABLE, Reader, _for_object, meant
 from .._types import Kind
 from .._uses import Uses, named_by
+from .called import LARGEST
 from .dangers import is_in_shipped_list
 from .joblib_cutting import WRAPPERS
 from .source import Source
@@ -35,8 +36,6 @@ from .stand_ins import (
     TENSORS, UNKNOWN, Answer, Named, Pair, PutOff, Storage, Tensors, Watched
 )
 
-_LARGEST = 1 << 28
-"""The most bytes of a file whose pickles are read here."""
 _MOST, _MOST_READ = 10_000_000, 10_000
 """The most values that are looked through in a pickle, and the most different pickles of a file
 that are read here.
@@ -80,7 +79,7 @@ def foreseen(source: Source, most: int, allow: AllowList) -> Foreseen:
     """What a guard with this list does with the pickles that follow one another from the first byte
     on, at most so many, whose names and costs the list permits.
     """
-    if source.size > _LARGEST:
+    if source.size > LARGEST:
         return Foreseen(Fate.UNDECIDED, f"its {source.size:,} bytes are too many to foresee it")
     data, at, worst = source.read(0, source.size), 0, _LOADED
     look, told = Look(allow), _Told(allow)

@@ -12,6 +12,7 @@ from .._answers import RowVerdict, Verdict
 from .._hints import hint_of
 from .._lists import AllowList, within
 from .budget import NAMES, STEP, Budget, TooMuch
+from .called import called_findings
 from .costs import COUNTED, bill_of, cost_finding
 from .dangers import import_findings, judge_by
 from .digests import sha256_of, with_sha256
@@ -131,6 +132,8 @@ def lone_report(path: str, data: bytes, question: Question) -> Optional[Report]:
     findings = list(told.findings)
     if imports and question.allow is not None:
         report = _foreseen(report, [(source, 1)], question.allow, findings)
+    elif imports:
+        findings += called_findings([(source, 1)])
     findings = _with_calls(findings, source, size, Budget(size), question)
     return judged(report, findings) if findings else report
 
@@ -294,9 +297,11 @@ def _judged(piece: Piece, row: Row, question: Question, place: Place) -> Report:
         0 if no is None else no.at,
         place.path,
     )
-    if status is Word.ACCEPTED and row.names and allow is not None:
-        held = [(source, max(row.pickles, 1)) for source in row.sources]
+    held = [(source, max(row.pickles, 1)) for source in row.sources if row.names]
+    if status is Word.ACCEPTED and held and allow is not None:
         report = _foreseen(report, held, allow, findings)
+    elif status is Word.UNJUDGED:
+        findings += called_findings(held)
     findings = _with_calls(findings, piece.source, row.taken, place.budget, question)
     return judged(_raw(report, row.raw, findings) if row.raw else report, findings)
 

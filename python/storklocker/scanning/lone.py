@@ -4,7 +4,7 @@ from __future__ import annotations
 
 import functools
 import io
-from typing import TYPE_CHECKING, List, NamedTuple, Optional, Set, Tuple
+from typing import TYPE_CHECKING, List, NamedTuple, Optional, Set, Tuple, Union
 
 from .._checking import check_row
 from .._lists import AllowList, settings_of, within
@@ -22,7 +22,7 @@ from .severity import MILD
 from .source import BLOCK, in_memory
 
 if TYPE_CHECKING:
-    from .foreseeing import Look
+    from . import called, foreseeing
 
 _ROOM = LONGEST
 """The most bytes of encoded imports that are told of here."""
@@ -48,9 +48,9 @@ class Lone:
     def __init__(self, allow: Optional[AllowList]) -> None:
         self.allow, listed = allow, NOTHING if allow is None else allow
         self._is_limited = limits_costs(listed)
-        self._look: Optional[Look] = None
+        self._look: Union[foreseeing.Look, called.Look, None] = None
         self._unfound: Set[int] = set()
-        """The hashes of values of which a guard judges nothing."""
+        """The hashes of values of which its look finds nothing."""
         limits = within(limits_under(allow, BLOCK), listed.limits)
         assert limits is not None
         # (whatever the list says of BUILD, what an import answers is not to be changed)
@@ -90,7 +90,7 @@ class Lone:
         calls; and how many imports these make.
         """
         data, ends = b"".join(values), [] if self._is_limited else _ends_of(values)
-        has_looked = not len(listed) or self.allow is None
+        has_looked = not len(listed)
         while ends:
             found = check_row(data[: ends[-1]], listed, limits=self._limits)
             count = min(found.pickles, len(ends) - (not found))
@@ -104,7 +104,7 @@ class Lone:
         return 0, 0
 
     def _first_found(self, values: List[bytes]) -> int:
-        """The index of the first of which a guard judges anything; their number if there is none.
+        """The index of the first of which its look finds anything; their number if there is none.
         """
         finds, unfound = self._looked().finds, self._unfound
         if len(unfound) > _KEPT:
@@ -119,20 +119,23 @@ class Lone:
 
     def is_quiet(self, told: Told, data: bytes) -> bool:
         """Whether nothing in a pickle of which this is told is known to do harm, or is judged while
-        a guard with the list loads it.
+        a guard with the list loads it; without a list, whether it calls nothing that it has made.
         """
         if any(it.severity not in MILD for it in told.findings):
             return False
-        if self.allow is None or not told.imports:
-            return True
-        return not self._looked().finds(data)
+        return not told.imports or not self._looked().finds(data)
 
-    def _looked(self) -> Look:
-        if self._look is None:
-            from .foreseeing import Look  # most scans have no need of it
+    def _looked(self) -> Union[foreseeing.Look, called.Look]:
+        if self._look is None and self.allow is None:
+            from . import called
+
+            self._look = called.Look()
+        elif self._look is None:
+            from . import foreseeing  # most scans have no need of it
 
             assert self.allow is not None
-            self._look = Look(self.allow)
+            self._look = foreseeing.Look(self.allow)
+        assert self._look is not None
         return self._look
 
     def _judged(self, room: bytes, front: bytes) -> Optional[Told]:

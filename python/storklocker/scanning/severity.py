@@ -112,6 +112,11 @@ KINDS: Dict[str, Kind] = {
         "The pickle changes what it imports, for all that use it",
         "Don't load it: no pickler writes such a pickle, and a guard refuses it.",
     ),
+    "called-answer": Kind(
+        WARNING,
+        "The pickle calls what its own call has made",
+        "Don't load it: hardly a library writes such a pickle, and a guard refuses it.",
+    ),
     "wildcard": Kind(
         WARNING,
         "The list has a wildcard, which permits nothing",

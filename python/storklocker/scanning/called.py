@@ -1,0 +1,58 @@
+"""Whether pickles call what calls of their own have made, which may do what no name shows: a
+signature of Celery runs the task that a text names.
+"""
+
+from __future__ import annotations
+
+from typing import List, Sequence, Tuple
+
+from .._storklocker import begin_uses, uses, walked
+from .._substitute import IS_WRAPPER, NUMBERED
+from .joblib_cutting import WRAPPERS
+from .report import Finding
+from .source import Source
+
+LARGEST = 1 << 28
+"""The most bytes of a file whose calls are followed."""
+
+
+_WRAPPERS = frozenset(name.encode() for _, name in WRAPPERS)
+
+
+def _role_of(module: bytes, name: bytes) -> int:
+    """The role of what these instructions import. Without a list no name has a substitute, and what
+    wrappers make is called where a file of joblib has an array.
+    """
+    is_wrapper = any(wrapper in name for wrapper in _WRAPPERS)
+    return IS_WRAPPER * NUMBERED + 1 if is_wrapper else 0
+
+
+class Look:
+    """A look at pickles for what is told of them without a list, besides their names."""
+
+    def finds(self, data: bytes) -> bool:
+        """Whether anything is to be told of a pickle."""
+        return why_of(data, 0) != ""
+
+
+def why_of(data: bytes, at: int) -> str:
+    """What is to be told of the calls of the pickle at an offset."""
+    _, is_whole, number, place, _ = uses(begin_uses(), data, at, _role_of, True)
+    if place >= 0 and number < 0:
+        return f"at byte {place:,} it calls what a call of its own has made"
+    return "" if is_whole else "its calls can't be followed: it has what no pickler writes"
+
+
+def called_findings(held: Sequence[Tuple[Source, int]]) -> List[Finding]:
+    """The finding on the calls of accepted pickles, of which each source has so many."""
+    for source, most in held:
+        data, at = (b"" if source.size > LARGEST else source.read(0, source.size)), 0
+        for _ in range(most):
+            end, is_stopped = walked(data, at)
+            why = why_of(data, at) if is_stopped else ""
+            if why:
+                return [Finding("called-answer", why)]
+            if not is_stopped:
+                break
+            at = end
+    return []
