@@ -9,13 +9,13 @@ REFUSED = "refused"
 DANGER = "danger"
 """It is known to run code that the pickle chooses, or to lead to a name that does."""
 UNREADABLE = "unreadable"
-"""It couldn't be read to its end, so that nothing is known of the rest."""
+"""It couldn't be read to its end, so the rest is unknown."""
 UNDECIDED = "undecided"
-"""The list permits its names, and leaves it to a load whether it uses them as picklers do."""
+"""The list permits its names, but only a load shows whether it uses them as picklers do."""
 WARNING = "warning"
 """It opens files, reaches the network, changes the process, or permits more than it says."""
 UNKNOWN = "unknown"
-"""It names what nobody has judged, which may do anything."""
+"""It has a name that nobody has judged, which may do anything."""
 NOTE = "note"
 """It is told, and no more."""
 
@@ -64,37 +64,37 @@ KINDS: Dict[str, Kind] = {
     "broken-pickle": Kind(
         UNREADABLE,
         "The pickle can't be followed to its end",
-        "Don't load it: a reader may run what stands in front of the fault. Get the file again.",
+        "Don't load it: a reader may run what comes before the fault. Get the file again.",
     ),
     "raw-arrays": Kind(
         UNREADABLE,
-        "Arrays stand between the instructions of the pickle",
+        "Arrays lie between the instructions of the pickle",
         "Load it only if you trust where it comes from.",
     ),
     "broken-container": Kind(
         UNREADABLE,
         "The file is damaged",
-        "Don't load it: what is behind the damage is not known. Get the file again.",
+        "Don't load it: the rest is unknown after the damage. Get the file again.",
     ),
     "unknown-container": Kind(
         UNREADABLE,
-        "The file is packed in a way that is not unpacked here",
-        "Unpack it, and scan what is in it.",
+        "The file is packed in a way that a scan can't unpack",
+        "Unpack it, and scan its contents.",
     ),
     "differing-readings": Kind(
         UNREADABLE,
-        "Readers differ about what is in the file",
+        "Readers differ about the contents of the file",
         "Don't load it: no library writes such a file. Get it again, or pack it again.",
     ),
     "too-much": Kind(
         UNREADABLE,
-        "The file holds more than is read of one file",
+        "The file holds more than a scan reads of one file",
         "Don't load it, or unpack it and scan its parts.",
     ),
     "unreadable": Kind(
         UNREADABLE,
         "The file can't be read",
-        "See to it that it can be read, and scan it again; or leave it out with --exclude.",
+        "Make it readable and scan it again, or leave it out with --exclude.",
     ),
     "risky-import": Kind(
         WARNING,
@@ -109,7 +109,7 @@ KINDS: Dict[str, Kind] = {
     ),
     "changed-import": Kind(
         WARNING,
-        "The pickle changes what it imports, for all that use it",
+        "The pickle changes an object that it imports, for all who use that",
         "Don't load it: no pickler writes such a pickle, and a guard refuses it.",
     ),
     "called-answer": Kind(
@@ -125,17 +125,17 @@ KINDS: Dict[str, Kind] = {
     ),
     "runs-code": Kind(
         WARNING,
-        "Readers of the file run what is in it, which isn't read here",
+        "Readers of the file run code in it that a scan doesn't read",
         "Load it only if you trust where it comes from.",
     ),
     "holds-code": Kind(
         NOTE,
-        "The file is code, which isn't read here",
+        "The file is code, which a scan doesn't read",
         "Run it only if you trust where it comes from.",
     ),
     "unread-pickles": Kind(
         UNREADABLE,
-        "The file holds pickles that aren't read here",
+        "The file holds pickles that a scan doesn't read",
         "Load it only if you trust where it comes from.",
     ),
     "dangling-link": Kind(
@@ -145,12 +145,12 @@ KINDS: Dict[str, Kind] = {
     ),
     "unrecognized": Kind(
         NOTE,
-        "No reading knows what the file is",
-        "Find out which program reads it, and whether that runs what is in it.",
+        "The format of the file is unknown",
+        "Find out which program reads it, and whether that program runs anything in it.",
     ),
     "text-import": Kind(
         NOTE,
-        "A text begins as the import of a name that nobody has judged does",
+        "A text begins like the import of a name that nobody has judged",
         "Read it: if it is a text for people, nothing needs to be done.",
     ),
     "unknown-import": Kind(

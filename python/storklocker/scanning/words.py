@@ -48,7 +48,7 @@ HEADLINES: Dict[str, str] = {
     REFUSED: "Don't load the refused files: the list doesn't permit what they do",
     DANGER: "Don't load the dangerous files: they run code",
     UNREADABLE: "Don't load the unreadable files: they could not be read to their end",
-    UNDECIDED: "Load the undecided files through a guard alone: the list leaves it to a load",
+    UNDECIDED: "Load the undecided files only through a guard: only a load decides about them",
     WARNING: "Nothing known that runs code, but some names do more than hold data",
     UNKNOWN: "Don't load the unknown files yet: nobody has judged what their names do",
     NOTE: "Nothing known that runs code in what was read",
