@@ -14,6 +14,7 @@ from pathlib import Path
 from typing import DefaultDict, Iterator, List, Set, Tuple
 
 import figures
+import specified
 import worked
 from papers import FILES, ROOT, Document, Fault, documents, found_in, prose_of, text_of
 
@@ -25,7 +26,7 @@ LONG_SENTENCE = 9
 # What docs/THEOREM.md says in words, shown.
 SESSION = "examples/yes-and-no.txt"
 # The documents that don't count: a reader looks things up in them.
-NO_PAPERS = re.compile(r"docs/THEOREM\.md|CHANGELOG\.md|LICEN[CS]E.*")
+NO_PAPERS = re.compile(r"docs/(THEOREM|DECISIONS)\.md|CHANGELOG\.md|LICEN[CS]E.*")
 
 
 def long_lines_of_scripts() -> Iterator[Fault]:
@@ -148,6 +149,7 @@ def faults_of_all(found: List[Document]) -> Iterator[List[Fault]]:
     yield list(long_lines_of_scripts())
     yield list(far_answers(found))
     yield list(sentences_twice(found))
+    yield list(specified.wrong_names())
     for check in figures.OF_ALL:
         yield list(check())
 
