@@ -35,7 +35,7 @@ def forgetting(judged: Callable[..., Any]) -> Callable[..., Any]:
     def called(reader: Reader, *given: Any) -> Any:
         types: Any = sys.modules.get("pandas.core.dtypes.dtypes")
         kinds = (types.PeriodDtype, types.IntervalDtype) if types else ()
-        held = [(kept, len(kept)) for kept in map(_kept_by, kinds)]
+        held = [(kept, len(kept)) for kept in map(kept_by, kinds)]
         try:
             return judged(reader, *given)
         finally:
@@ -48,7 +48,7 @@ def forgetting(judged: Callable[..., Any]) -> Callable[..., Any]:
     return called
 
 
-def _kept_by(kind: Any) -> Dict[Any, Any]:
+def kept_by(kind: Any) -> Dict[Any, Any]:
     """What a class of types keeps; before pandas 1.3 it has another name."""
     name = "_cache_dtypes" if hasattr(kind, "_cache_dtypes") else "_cache"
     kept: Dict[Any, Any] = getattr(kind, name)
