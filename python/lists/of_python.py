@@ -59,11 +59,17 @@ def _made(kind):
 
 
 LATER = {
+    "DJANGO": (
+        ("datetime", "timedelta"), ("datetime", "timezone"),
+        ("django.utils.safestring", "SafeText"),
+    ),
     "EXCEPTIONS": (
         ("configparser", "InvalidWriteError"), ("configparser", "UnnamedSectionDisabledError")
     ),
 }
-"""Names of later Pythons than most have, here 3.14, by list: they stand in it whoever makes it."""
+"""Names of other versions than most have, by list: they stand in it whoever makes it. Here they are
+of Django 4 and 2, and of Python 3.14.
+"""
 
 
 def enum_classes():
