@@ -4,6 +4,7 @@ import collections
 import contextlib
 import datetime
 import enum
+import os
 import pickle
 import unittest
 
@@ -261,6 +262,12 @@ class Lists(Learning):
         self.assertEqual(status, 2)
         self.assertIn("line 5", errors)
         self.assertIn("levels is an integer from 0 to 4,294,967,295", errors)
+
+    def test_a_shipped_list_is_no_file_to_add_to(self):
+        status, _, errors = self.run_command("list", "add", "@uuid", "a.b")
+        self.assertEqual(status, 2)
+        self.assertIn("@uuid is no file", errors)
+        self.assertFalse(os.path.exists("@uuid"))
 
     def test_add_keeps_all_else(self):
         path = self.folder / "list.toml"

@@ -30,6 +30,7 @@ ODD = {
     "cut": pickle.dumps(list(range(300)), 4)[:-1],
     "row": 3 * pickle.dumps(OrderedDict(a=1), 4) + pickle.dumps([], 4),
     "text": b"import os\n",
+    "text behind": b"].Q",
     "picture": b"\x89PNG\r\n\x1a\n\0\0\0\rIHDR",
     "zeros": bytes(300),
     "marks": b"(" * 5000 + b"...",

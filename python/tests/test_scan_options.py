@@ -160,6 +160,8 @@ class Showing(Options):
         status, lines, _ = self.ran("scan", "f", "--format", "ndjson")
         found = list(map(json.loads, lines.splitlines()))
         self.assertEqual((status, found), (1, json.loads(whole)))
+        verdicts = [(os.path.basename(it["file"]), it["verdict"]) for it in found]
+        self.assertEqual(verdicts, [("bad.zip", "dangerous")] * 2 + [("good", "unjudged")])
         (self.folder / "none").mkdir()
         self.assertEqual(self.ran("scan", "none", "--format", "ndjson"), (0, "", ""))
 

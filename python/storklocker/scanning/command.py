@@ -9,7 +9,7 @@ import io
 import os
 import sys
 from collections import Counter
-from typing import Callable, Dict, Iterator, Optional, Sequence
+from typing import Callable, Dict, Iterator, Optional, Sequence, Tuple
 
 from .. import __version__
 from .._answers import printed
@@ -243,8 +243,9 @@ def _check(asked: argparse.Namespace) -> int:
     for path in asked.paths:
         is_pickle = False
         with _files_of(argparse.Namespace(paths=[path])) as files:
-            for report in told.heard(scan(files, Question(allow, as_program=True))):
-                print(_answer(report, path, asked))
+            reports = told.heard(scan(files, Question(allow, as_program=True)))
+            for report, front in _fronted(reports, path, asked):
+                print(front + (shown(report.why, 1000) or report.status))
                 is_pickle |= report.status is not Word.NO_PICKLE
         status = status if is_pickle else NO
     return _status(told) or status
@@ -254,22 +255,32 @@ def _imports(asked: argparse.Namespace) -> int:
     told, is_broken = Summary(REFUSED), False
     for path in asked.paths:
         with _files_of(argparse.Namespace(paths=[path])) as files:
-            for report in told.heard(scan(files, Question(as_program=True))):
+            reports = told.heard(scan(files, Question(as_program=True)))
+            for report, front in _fronted(reports, path, asked):
                 for module, name in report.imports:
                     if module is None or name is None:
                         print("unknown")
                     else:
                         print(printed(module), printed(name))
-                print(_answer(report, path, asked))
+                print(front + (shown(report.why, 1000) or report.status))
                 is_broken |= any(found.kind == "broken-pickle" for found in report.findings)
     return NO if is_broken else _status(told)
 
 
-def _answer(report: Report, path: str, asked: argparse.Namespace) -> str:
-    """The program's line, behind the path unless that is the only one."""
-    is_named = len(asked.paths) > 1 or report.path not in (path, "standard input")
-    front = f"{shown(report.path)}: " if is_named else ""
-    return front + (shown(report.why, 1000) or report.status)
+def _fronted(
+    reports: Iterator[Report], path: str, asked: argparse.Namespace
+) -> Iterator[Tuple[Report, str]]:
+    """The reports, each with what stands in front of the program's line: the path, unless that is
+    the only one, and the kind of another reading of the same bytes, if that has found anything.
+    """
+    before = ""
+    for report in reports:
+        is_again, before = report.path == before, report.path
+        if is_again and report.status is Word.NO_PICKLE and not report.findings:
+            continue
+        is_named = len(asked.paths) > 1 or report.path not in (path, "standard input")
+        front = f"{shown(report.path)}: " if is_named else ""
+        yield report, front + (f"{report.kind}: " if is_again else "")
 
 
 def _learn(asked: argparse.Namespace) -> int:

@@ -135,6 +135,8 @@ def said_by(meant: Meant) -> Dict[str, str]:
 
 
 def _add(asked: argparse.Namespace) -> int:
+    if asked.list.startswith("@"):
+        raise OSError(f"{shown(asked.list)} is no file: names are added to a list of your own")
     path, pairs, refused = Path(asked.list), [], False
     for name in asked.names:
         pair = pair_of(name)

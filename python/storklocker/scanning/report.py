@@ -2,7 +2,7 @@
 
 from __future__ import annotations
 
-from typing import Any, Dict, Iterable, NamedTuple, Optional, Set, Tuple
+from typing import Any, Dict, Iterable, List, NamedTuple, Optional, Set, Tuple
 
 from .severity import KINDS, SEVERITIES, UNREADABLE
 from .words import Word, word_of, worst_of
@@ -89,6 +89,8 @@ class Report(NamedTuple):
     """The offset of a refusal in the file or member."""
     file: str = ""
     """The path of the file, without the member."""
+    verdict: Optional[Word] = None
+    """The worst word of all reports on the file, if there are several."""
 
     @property
     def is_finding(self) -> bool:
@@ -122,6 +124,7 @@ class Report(NamedTuple):
     def as_dict(self) -> Dict[str, Any]:
         """The report for JSON."""
         made: Dict[str, Any] = {"version": VERSION, **self._asdict(), "status": self.status.value}
+        made["verdict"] = (self.verdict or self.status).value
         made["imports"] = [list(pair) for pair in self.imports]
         made["missing"] = [list(pair) for pair in self.missing]
         made["findings"] = [finding.as_dict() for finding in self.findings]
@@ -132,7 +135,7 @@ class Report(NamedTuple):
 def report_of(made: Dict[str, Any]) -> Report:
     """The report that `as_dict` has made this of."""
     fields: Dict[str, Any] = {name: made[name] for name in Report._fields}
-    fields["status"] = Word(made["status"])
+    fields.update({name: Word(made[name]) for name in ("status", "verdict")})
     for name in ("imports", "missing"):
         fields[name] = tuple((pair[0], pair[1]) for pair in made[name])
     fields["findings"] = tuple(
@@ -146,6 +149,15 @@ def report_of(made: Dict[str, Any]) -> Report:
 def unreadable(path: str, kind: str, finding: Finding, file: str) -> Report:
     """The report on a file, or on a member of one, of which nothing more is known."""
     return Report(path, kind, Word.UNREADABLE, finding.why, findings=(finding,), file=file)
+
+
+def of_one_file(reports: List[Report]) -> List[Report]:
+    """All reports on a file, each with the verdict on it."""
+    if len(reports) < 2:
+        return reports
+    order = list(Word)
+    worst = min((it.status for it in reports), key=order.index)
+    return [it._replace(verdict=worst) for it in reports]
 
 
 def judged(report: Report, findings: Iterable[Finding]) -> Report:

@@ -40,7 +40,7 @@ _RULES = tuple(KINDS)
 def as_sarif(reports: Iterable[Report], version: str) -> Iterator[str]:
     """The log, in pieces, the worst results first."""
     rules = [_rule(name) for name in _RULES]
-    driver = {"name": "storklocker", "semanticVersion": version, "rules": rules}
+    driver = {"name": "storklocker", "version": version, "rules": rules}
     front = {"version": "2.1.0", "$schema": _SCHEMA}
     kept = _Kept()
     for report in reports:

@@ -15,7 +15,7 @@ from .beside import beside
 from .condensing import condensed, is_small
 from .files import File, is_url
 from .judging import Question, lone_report, reports_of
-from .report import Finding, Report, unreadable
+from .report import Finding, Report, of_one_file, unreadable
 from .source import whole_of
 from .summary import Progress
 from .words import Word
@@ -139,7 +139,7 @@ def scan(
             if store is not None:
                 store.put(file, reports)
             told.add(reports)
-            yield from reports
+            yield from of_one_file(reports)
     finally:
         told.end()
         if store is not None:
