@@ -44,7 +44,7 @@ def judge_attributes(receiver: Any, items: Iterable[Tuple[Any, Any]], is_set: bo
         name = key if type(key) is str else _name_of(key, is_set)
         if name is None or not name[:2] == "__" == name[-2:] or name in HARMLESS:
             continue
-        judge = _JUDGES.get(name)
+        judge = JUDGES.get(name)
         if judge is None or not judge(receiver, value):
             raise Misused(f"a state sets {name[:80]!r}, which Python gives a meaning")
 
@@ -118,7 +118,7 @@ def _is_maker(receiver: Any, value: Any) -> bool:
     )
 
 
-_JUDGES: Dict[str, Callable[[Any, Any], bool]] = {
+JUDGES: Dict[str, Callable[[Any, Any], bool]] = {
     "__doc__": _is_text,
     "__module__": _is_module,
     "__name__": _is_text,

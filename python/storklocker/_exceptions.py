@@ -11,7 +11,7 @@ from __future__ import annotations
 import functools
 import pathlib
 import types
-from typing import TYPE_CHECKING, Any, Dict, Tuple
+from typing import TYPE_CHECKING, Any, Dict, List, Tuple
 
 from ._answers import Misused, told
 from ._weighing import CONTAINERS, values
@@ -27,6 +27,7 @@ _MOST = 10_000
 _COLUMNS = 1 << 16
 """The greatest line, column or offset that is printed."""
 _PLAIN = (str, bytes, int, float, bool, complex, type(None))
+_PATHS = ("filename", "filename2", "path")
 _IS_OF_PYTHON = 1 << 9  # the flag of classes that Python code makes
 _Levels = Dict[int, Tuple[BaseException, int]]
 """The exceptions that were judged, by id, each with its levels."""
@@ -40,7 +41,7 @@ def _is_plain(value: Any) -> bool:
 
 
 @functools.lru_cache(maxsize=512)
-def _members(kind: Any) -> Dict[str, Any]:
+def members_of(kind: Any) -> Dict[str, Any]:
     """The attributes that an exception has in C, by name."""
     found: Dict[str, Any] = {}
     for base in reversed(kind.__mro__):
@@ -51,17 +52,16 @@ def _members(kind: Any) -> Dict[str, Any]:
     return found
 
 
-def judged_state(error: Any, state: Any) -> Any:
-    """The state that is set of an exception. An ImportError loses what it couldn't find in a module
-    (`name_from`), for which Python would import that module.
+def judged_state(kind: Any, state: Any) -> Any:
+    """The state that is set of an exception of a class. An ImportError loses what it couldn't find
+    in a module (`name_from`), for which Python would import that module.
     """
-    kind: Any = type(error)
     if not isinstance(state, dict):
         is_plain = getattr(kind, "__setstate__") is BaseException.__setstate__
         if state is not None and is_plain:
             raise Misused("the state of an exception is of no known kind")
         return state
-    members = _members(kind)
+    members = members_of(kind)
     kept = {}
     for name, value in dict.items(state):
         if type(name) is not str:
@@ -81,31 +81,52 @@ def _judge_attribute(kind: type, members: Dict[str, Any], name: str, value: Any)
         if type(value) is not tuple:
             raise Misused("the arguments of an exception are no tuple")
     elif name in members or name[:2] == "__" == name[-2:]:
-        is_path = isinstance(value, pathlib.PurePath) and name[:8] == "filename"
+        is_path = isinstance(value, pathlib.PurePath) and name in _PATHS
         if name[:2] == "__" or not (_is_plain(value) or is_path):
             raise Misused(f"the state of an exception sets {name!r:.80} to {told(value)}")
     elif callable(getattr(kind, name, None)):
         raise Misused(f"the state of an exception sets {name!r:.80}, a method of its class")
 
 
-def judge_hashed(reader: Reader, kind: Any, state: Any) -> None:
-    """Judges the state of an exception with a hash of its own, such as Django's, which hashes its
-    message, its code, and the values of its parameters.
+def hashed_state(reader: Reader, error: Any, state: Any) -> Any:
+    """The state of an exception with a hash of its own: Django's hashes its message, its code and
+    the values of its parameters, or otherwise each exception that it is of, several times.
     """
-    if kind.__hash__ is BaseException.__hash__ or not isinstance(state, dict):
-        return
+    kind: Any = type(error)
+    if kind.__hash__ is BaseException.__hash__ or type(state) is not dict:
+        return state
     for name in ("message", "code", "params"):
-        value = dict.get(state, name)
-        for part in dict.values(value) if type(value) is dict else (value,):
+        value = state.get(name)
+        for part in value.values() if type(value) is dict else (value,):
             if type(part) in CONTAINERS:
                 values(reader, part)
+    if "message" in error.__dict__ and "error_dict" not in state:
+        return state
+    made = dict(state)
+    if "error_list" in state:
+        made["error_list"] = _leaves(reader, state["error_list"])
+    if "error_dict" in state:
+        if type(state["error_dict"]) is not dict:
+            raise Misused("the errors of an exception are in no dict")
+        made["error_dict"] = {it: _leaves(reader, row) for it, row in state["error_dict"].items()}
+    return made
+
+
+def _leaves(reader: Reader, errors: Any) -> List[Any]:
+    """Exceptions that have a message each, in a list that the pickle doesn't have."""
+    if type(errors) is not list:
+        raise Misused("the errors of an exception are in no list")
+    reader.pay(8 * len(errors))
+    if not all(isinstance(it, BaseException) and "message" in it.__dict__ for it in errors):
+        raise Misused("an exception has others without a message")
+    return list(errors)
 
 
 def judge_error(levels: _Levels, error: Any) -> None:
     """Judges an exception as it is after it was made, or after its state was set."""
     kind: Any = type(error)
     held = []
-    for name, member in _members(kind).items():
+    for name, member in members_of(kind).items():
         if name[:2] == "__":
             continue
         try:
@@ -147,6 +168,8 @@ def _of_syntax(name: str, value: Any) -> bool:
 def _of_import(name: str, value: Any) -> bool:
     if name in ("msg", "args"):
         return True
+    if name == "path" and isinstance(value, pathlib.PurePath):
+        return True
     return value is None if name == "name_from" else _is_plain(value)
 
 
@@ -167,6 +190,6 @@ def _judge_places(error: Any) -> None:
     if not isinstance(error, (UnicodeEncodeError, UnicodeDecodeError, UnicodeTranslateError)):
         return
     kind: Any = type(error)
-    members = _members(kind)
+    members = members_of(kind)
     if any(members[name].__get__(error) < 0 for name in ("start", "end")):
         raise Misused("a UnicodeError has places before its text")

@@ -26,7 +26,7 @@ def judge_of(kind: Any) -> Optional[Callable[[Any], bool]]:
     if module in _STATELESS:
         return _refuse
     names = ((base.__module__, base.__qualname__) for base in kind.__mro__)
-    return next((_KNOWN[name] for name in names if name in _KNOWN), None)
+    return next((KNOWN[name] for name in names if name in KNOWN), None)
 
 
 def known_state(kind: Any, state: Any) -> Any:
@@ -89,12 +89,13 @@ def _is_of_cookie(state: Any) -> bool:
     )
 
 
-_KNOWN: Dict[Tuple[str, str], Callable[[Any], bool]] = {
+KNOWN: Dict[Tuple[str, str], Callable[[Any], bool]] = {
     ("collections", "UserString"): _is_of_text,
     ("django.utils.datastructures", "MultiValueDict"): _is_of_lists,
     ("http.cookies", "Morsel"): _is_of_cookie,
     ("uuid", "UUID"): _is_of_uuid,
 }
+"""What judges states, by the name of a class."""
 
 
 @functools.lru_cache(maxsize=1)

@@ -150,13 +150,17 @@ def _model(reader: Reader, *given: Any) -> Any:
     return base.model_unpickle(asked)
 
 
-def _signature(reader: Reader, *given: Any) -> Any:
-    """A signature of Celery, which goes through its tasks."""
-    import celery.canvas
-
+def judge_signature(reader: Reader, given: Tuple[Any, ...]) -> None:
+    """Refuses what no pickler gives for a signature of Celery, which goes through its tasks."""
     if not given or type(given[0]) not in (dict, str):
         raise wrong("signature")
     values(reader, given)
+
+
+def _signature(reader: Reader, *given: Any) -> Any:
+    import celery.canvas
+
+    judge_signature(reader, given)
     return celery.canvas.signature(*given)
 
 
@@ -168,14 +172,19 @@ def _raised(reader: Reader, *given: Any) -> Any:
     return rebuild_exc(*given)
 
 
-def _wrapped(reader: Reader, *given: Any) -> Any:
-    from celery.utils.serialization import UnpickleableExceptionWrapper
-
+def judge_wrapped(reader: Reader, given: Tuple[Any, ...]) -> None:
+    """Refuses what no pickler gives for an exception that couldn't be pickled."""
     if len(given) not in (3, 4) or type(given[2]) not in (list, tuple):
         raise wrong("UnpickleableExceptionWrapper")
     if any(type(it) not in (str, type(None)) for it in (*given[:2], *given[3:])):
         raise wrong("UnpickleableExceptionWrapper")
     values(reader, given)
+
+
+def _wrapped(reader: Reader, *given: Any) -> Any:
+    from celery.utils.serialization import UnpickleableExceptionWrapper
+
+    judge_wrapped(reader, given)
     return UnpickleableExceptionWrapper(*given)
 
 

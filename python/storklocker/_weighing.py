@@ -118,10 +118,22 @@ class Scales:
             if abs(part.adjusted()) > SHOWN_DIGITS:  # (`%d` writes them all)
                 raise Misused("a number that is shown has too many digits")
             return [decimal.Decimal.__str__(part)]
+        if isinstance(part, BaseException):
+            return _parts_of_error(part)
         is_lazy = hasattr(kind, "__iter__") or hasattr(kind, "__getitem__")
         if is_lazy and not isinstance(part, _ROWS):
             raise Misused(f"a {kind.__name__} is given for a plain value")
         return [it for it in gc.get_referents(part) if not isinstance(it, _NAMES)]
+
+
+def _parts_of_error(error: BaseException) -> List[Any]:
+    """What an exception has. Django's have themselves in a list, where they are the only one."""
+    held = (it for it in gc.get_referents(error) if it is not error.__dict__)
+    own = error.__dict__.values()
+    return [
+        it for it in (*held, *own)
+        if not isinstance(it, _NAMES) and not (type(it) is list and len(it) == 1 and it[0] is error)
+    ]
 
 
 def keys_of(reader: Reader, keys: Iterable[Any]) -> None:

@@ -22,6 +22,7 @@ from .._lists import AllowList, has_substitutes
 from .._names import are_old, renamed
 from .._objects import found
 from .._storklocker import walked
+from .._items import SHOWING
 from .._of_packages import PACKAGES
 from .._states import HAS_ITEMS, HAS_STATE
 from .._substitute import Class, Substitute, Value
@@ -35,6 +36,7 @@ from .source import Source
 from .stand_ins import (
     TENSORS, UNKNOWN, Answer, Named, Pair, PutOff, Storage, Tensors, Watched
 )
+from .unseen import CALLED, PLAIN, Unseen, is_enum, is_error, judge_items, judge_state
 
 _MOST, _MOST_READ = 10_000_000, 10_000
 """The most values that are looked through in a pickle, and the most different pickles of a file
@@ -199,11 +201,16 @@ class Foreseer(Reader):
     def substitute_for(self, pair: Pair) -> Optional[Substitute]:
         """The substitute for a name, if it has one, found without importing anything but NumPy."""
         own = self.own.get(pair) or TABLE.get(pair)
-        if own is not None or pair[0].partition(".")[0] != "numpy":
+        package = pair[0].partition(".")[0]
+        is_unseen = package in PACKAGES or is_enum(pair) or is_error(pair)
+        if pair in CALLED or own is None and is_unseen:
+            return Unseen(pair, self)
+        if own is not None or package != "numpy" and pair[0] not in SHOWING:
             return own
-        import numpy  # noqa: F401 # (raises ImportError, where nothing of it is known)
+        if package == "numpy":
+            import numpy  # noqa: F401 # (raises ImportError, where nothing of it is known)
 
-        it = found(*pair) if pair[0] in sys.modules else None
+        it = found(*pair) if pair[0] in sys.modules or pair[0] in SHOWING else None
         return _for_object(it)
 
     def find_class(self, module: str, name: str, /) -> Any:
@@ -212,7 +219,7 @@ class Foreseer(Reader):
         if substitute is None:
             return self._stand_in(pair)
         within = substitute.within(self)
-        if isinstance(within, Kind):
+        if isinstance(within, (Kind, Unseen)):
             return within
         if pair in TENSORS and pair not in self.own:
             return Tensors(substitute, self, TENSORS[pair])
@@ -239,6 +246,10 @@ class Foreseer(Reader):
             if len(asked) == 2 or type(asked[2]) is int and asked[2] & (HAS_STATE | HAS_ITEMS):
                 if not (_is_own(asked[0]) or self.takes_any):
                     self.put_off(f"a state or items are for what {_told(asked[0])}")
+                elif len(asked) == 2 and not self.takes_any:
+                    judge_state(self, asked[0], asked[1])
+                elif not self.takes_any and asked[2] & HAS_ITEMS:
+                    judge_items(asked[0])
             if len(asked) == 2 or type(asked[2]) is int:
                 return asked[0]
         if type(asked) is tuple and len(asked) == 2:
@@ -312,9 +323,9 @@ def _is_own(receiver: Any) -> bool:
     pair: Optional[Pair] = receiver.pair
     if isinstance(receiver, Named) or pair is None or pair in _ONE:
         return False
-    if pair[0].partition(".")[0] in _OPEN:
-        return False
     is_listed = is_in_shipped_list(*pair) and pair not in lists.ENUM
+    if pair[0].partition(".")[0] in _OPEN:
+        return is_listed and pair[0].partition(".")[0] in (*PLAIN, "sklearn")
     return bool(receiver.is_bare or pair in WRAPPERS or is_listed)
 
 

@@ -5,6 +5,7 @@ from __future__ import annotations
 import sys
 from typing import TYPE_CHECKING, Any, Optional, Tuple
 
+from .._items import SHOWING
 from .._of_packages import judge_parameter, judge_tensor
 from .._substitute import Class, Substitute
 from .joblib_cutting import WRAPPERS
@@ -80,7 +81,7 @@ class Watched(Substitute):
         own: Any = self._call
         if not self._reader.knows(given):
             return self._put_off()
-        if not isinstance(own, Class):
+        if not isinstance(own, Class) or self.name.startswith(SHOWING):
             return own.new(reader, *given)
         own.judge_new(reader, given)
         module, _, name = self.name.rpartition(".")

@@ -18,8 +18,10 @@ import trees  # noqa: E402
 from children import SECONDS, Children, begin, is_here  # noqa: E402
 from storklocker import Guard, lists  # noqa: E402
 
-MOST, PLACES = 4, 10
-"""How many findings of a name are told, and how many places of an honest pickle are tried."""
+MOST, PLACES = 4, 60
+"""How many findings of a name are told, and how many places of an honest pickle are tried: of more
+these are spread over all.
+"""
 EVERY = 50
 """After how many pickles what was there before is looked at."""
 
@@ -51,31 +53,46 @@ def cases(pair, held):
     for word, data in shapes.kinds().items():
         for form, body in forms(called, data):
             yield f"{form}: {word}", b"\x80\x04" + body
-    found = min((it for it in map(lambda root: called_in(root, pair), held) if it is not None),
+    found = min((it for it in map(lambda root: named_in(root, pair), held) if it is not None),
                 key=lambda it: it[2], default=None)
     if found is None:
         return
-    root, call, _ = found
-    shared = trees.shared(root)
-    for at, (node, _) in enumerate(trees.nodes(call)[1 : 1 + PLACES]):
+    root, node, _ = found
+    shared, places = trees.shared(root), own_places(node)
+    for at, place in enumerate(places[:: 1 + len(places) // PLACES]):
         for word, data in shapes.kinds().items():
-            instead = {id(node): trees.Node(trees.RAW, data)}
+            instead = {id(place): trees.Node(trees.RAW, data)}
             yield f"at place {at}: {word}", trees.Writer(shared, instead).written(root, 4)
 
 
-def called_in(root, pair):
-    """A tree, a node in it that calls a name, and the size of the tree; None without one."""
+def named_in(root, pair):
+    """A tree, a node in it that calls a name, or is it, and the size of the tree; None without one.
+    """
     spelled = f"c{pair[0]}\n{pair[1]}\n".encode()
-    rows = trees.nodes(root)
-    for node, _ in rows:
-        if node.kind in trees.CALLS and any(part.data == spelled for part in node.parts):
-            return root, node, len(rows)
-    return None
+    rows = [node for node, _ in trees.nodes(root)]
+    callers = (node for node in rows if node.kind in trees.CALLS
+               and any(part.data == spelled for part in node.parts))
+    node = next(callers, None) or next((it for it in rows if it.data == spelled), None)
+    return None if node is None else (root, node, len(rows))
+
+
+def own_places(node):
+    """The nodes that a call has for arguments, states and items, also within containers, but not
+    those of the calls among them, which are tried by the names of these.
+    """
+    found, left = {}, [node]
+    while left:
+        it = left.pop()
+        if id(it) not in found and (it is node or it.kind not in trees.CALLS):
+            left += [*it.parts, *(part for _, given in it.acts for part in given)]
+        found[id(it)] = it
+    places = list(found.values())
+    return places[1:] if node.kind in trees.CALLS else places
 
 
 def run(name, tried, seconds, only):
     """Tries the names of a list that weren't tried, and returns what was found."""
-    data = honest.pickles(name)
+    data = honest.pickles(name, is_quick=False)
     allow = shapes.of_here(getattr(lists, name), data)
     load = honest.loader(name, Guard(shapes.widened(allow)))
     held = [root for root in map(trees.parsed_or_none, data) if root is not None]
