@@ -153,17 +153,21 @@ def _intervals(reader: Reader, *given: Any) -> Any:
     return interval._new_IntervalIndex(kind, words)
 
 
-def _array(reader: Reader, *given: Any) -> Any:
-    """An empty array of pandas, whose state follows."""
-    from pandas._libs import arrays
+def _empty(module: str, base: str) -> Callable[..., Any]:
+    """Cython's function that makes an empty array of pandas, whose state follows."""
+    name = f"__pyx_unpickle_{base}"
 
-    if len(given) != 3 or not isinstance(given[0], type) or type(given[1]) is not int:
-        raise wrong("__pyx_unpickle_NDArrayBacked")
-    if not issubclass(given[0], arrays.NDArrayBacked) or given[2] is not None:
-        raise wrong("__pyx_unpickle_NDArrayBacked")
-    made = vars(arrays)["__pyx_unpickle_NDArrayBacked"](*given)
-    reader.unbuilt[id(made)] = made
-    return made
+    def judged(reader: Reader, *given: Any) -> Any:
+        own = vars(sys.modules[module])
+        if len(given) != 3 or not isinstance(given[0], type) or type(given[1]) is not int:
+            raise wrong(name)
+        if not issubclass(given[0], own[base]) or given[2] is not None:
+            raise wrong(name)
+        made = own[name](*given)
+        reader.unbuilt[id(made)] = made
+        return made
+
+    return judged
 
 
 def _sparse(reader: Reader, *given: Any) -> Any:
@@ -231,7 +235,8 @@ TABLE: Dict[Tuple[str, str], Substitute] = dict(
         row("pandas.core.indexes.base", "_new_Index", _index),
         row("pandas.core.indexes.datetimes", "_new_DatetimeIndex", _times),
         row("pandas.core.indexes.interval", "_new_IntervalIndex", _intervals),
-        row("pandas._libs.arrays", "__pyx_unpickle_NDArrayBacked", _array),
+        *(row(at, f"__pyx_unpickle_{base}", _empty(at, base)) for at, base in (
+            ("pandas._libs.arrays", "NDArrayBacked"), (f"{_TSLIBS}.period", "PeriodMixin"))),
         row("pandas._libs.sparse", "IntIndex", _sparse),
         _value("pandas._libs.interval", "Interval", _is_interval),
         _value(f"{_TSLIBS}.nattype", "__nat_unpickle", _are_scalars),
@@ -270,6 +275,21 @@ def array_state(reader: Reader, array: Any, state: Any) -> Any:
         if held[0].min() < -1 or held[0].max() >= len(kinds[0].categories):
             raise Misused("a code of an array of pandas is of no category")
     return (*state[:2], uncached(state[2]))
+
+
+def periods_state(reader: Reader, array: Any, state: Any) -> Any:
+    """The state of an array of periods before pandas 1.2."""
+    import numpy
+
+    if reader.unbuilt.pop(id(array), None) is not array:
+        raise Misused("the state of an array is set a second time, or of one made elsewhere")
+    if type(state) is not tuple or len(state) != 1 or type(state[0]) is not dict:
+        raise Misused("the state of an array of pandas is of no known kind")
+    judge_attributes(array, state[0].items(), True)
+    held: Any = state[0].get("_data")
+    if type(held) is not numpy.ndarray or id(held) in reader.unbuilt or held.dtype != numpy.int64:
+        raise Misused("the state of an array of pandas has another type")
+    return (uncached(dict(state[0])),)
 
 
 def check_masked(reader: Reader, array: Any) -> None:
