@@ -41,6 +41,7 @@ export class Known {
   add(header, lines) {
     const end = header.indexOf("]");
     const kind = header.slice(1, end), told = header.slice(end + 2);
+    if (kind === "text" || kind === "enum") return; // what follows pickles asks them
     if (kind === "same" || kind === "alias") {
       for (const line of lines) this.same.set(...line.split(/\s+/, 2));
     } else if (kind === "danger") {
