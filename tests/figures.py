@@ -104,7 +104,12 @@ FIGURES = [
     Figure(SCANNING, r"([\d,]+) pickles", BUDGET, r"(?m)^PICKLES = (.+)$"),
     Figure(SCANNING, r"([\d,]+) steps", BUDGET, r"(?m)^STEPS = (.+)$"),
     Figure(SCANNING, r"(\d+ MiB) unpacked", BUDGET, r"UNPACKED = (\d+ << \d+),"),
-    Figure(SCANNING, r"more than (\d+ MiB)", FORESEEING, r"(?m)^_LARGEST = (.+)$"),
+    Figure(
+        SCANNING,
+        r"more than (\d+ MiB)",
+        "python/storklocker/scanning/called.py",
+        r"(?m)^LARGEST = (.+)$",
+    ),
     Figure(SCANNING, r"([\d,]+) different", FORESEEING, r"(?m)^_MOST, _MOST_READ = \S+ (.+)$"),
     Figure("docs/FORMATS.md", r"`counted`: [^|]+\| ([\d,]+)", LIMITS, r"  counted: ([\d_]+)"),
     Figure("docs/FORMATS.md", r"`passed`: [^|]+\| ([\d,]+)", LIMITS, r"  passed: ([\d_]+)"),

@@ -163,7 +163,7 @@ def containers(stage: Stage) -> None:
     for name, data, words in (
         ("packed.bz2", bz2.compress(honest()), "can't unpack bzip2"),
         ("cut.gz", gzip.compress(honest() * 50, mtime=0)[:-9], "broken"),
-        ("cut.zip", packed.getvalue().replace(b"data.pkl", b"data.pkx", 1), "otherwise"),
+        ("cut.zip", packed.getvalue().replace(b"data.pkl", b"data.pkx", 1), "differs from"),
         ("behind.zip", packed.getvalue() + b"more", "readers may differ"),
         ("front.zip", b"N." + packed.getvalue(), "differ"),
     ):
