@@ -99,7 +99,7 @@ def _manager(reader: Reader, *given: Any) -> Any:
     if any(it.ndim != 2 or it.shape[1] != len(axes[1]) for it in blocks):
         raise wrong("BlockManager")
     _check_filled(reader, [it.mgr_locs for it in blocks], len(axes[0]))
-    return BlockManager(blocks, axes)
+    return BlockManager(blocks, list(axes))  # (the pickle may change its own list)
 
 
 class _Manager(Remembering):

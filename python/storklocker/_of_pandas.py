@@ -277,6 +277,11 @@ def array_state(reader: Reader, array: Any, state: Any) -> Any:
     return (*state[:2], uncached(state[2]))
 
 
+def index_state(reader: Reader, index: Any, state: Any) -> Any:
+    """Refuses each state of an index. Picklers set none, and others were judged by its length."""
+    raise Misused("the state of an index of pandas is of no known kind")
+
+
 def periods_state(reader: Reader, array: Any, state: Any) -> Any:
     """The state of an array of periods before pandas 1.2."""
     import numpy
