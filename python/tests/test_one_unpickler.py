@@ -12,9 +12,11 @@ import subprocess
 import sys
 import tempfile
 import unittest
+import unittest.mock
 from pathlib import Path
 
 from storklocker import AllowList
+from storklocker.scanning import kept
 from storklocker.scanning.judging import Question, reports_of
 
 READER = """
@@ -83,6 +85,15 @@ class Rows(unittest.TestCase):
                 self.assertEqual(report.status, "dangerous", report)
                 (report,) = reports(data, LISTED)
                 self.assertEqual(report.status, "refused", report)
+
+    def test_many_names_are_not_looked_for_one_by_one(self):
+        row = [PROTO + text("m") + b"\x940N."]
+        row += [PROTO + text("os") + b"\x940h\0" + text(f"N{it}") + b"\x93." for it in range(999)]
+        with unittest.mock.patch.object(kept, "check_row", wraps=kept.check_row) as checked:
+            reports(b"".join(row))
+        self.assertIn(checked.call_count, range(2, 10))
+        (report,) = reports(b"".join([*row, TEXTS, *row[1:2], SHOWN + CALLED]))
+        self.assertNotEqual(report.status, "unjudged")
 
     def test_honest_rows(self):
         """Most would be read as nonsense by one Unpickler."""

@@ -30,6 +30,10 @@ _OLD = b"\x80\0"
 """How a pickle begins whose names are those of Python 2."""
 
 
+_MOST = 8
+"""How many such names are looked for by the checker. Others are looked for by following the row."""
+
+
 class Kept(NamedTuple):
     """What one Unpickler does that loads the whole row.
 
@@ -52,8 +56,8 @@ def kept_in(
     """
     own, found = dict.fromkeys(names), {}  # type: Dict[Names, None], Dict[Names, None]
     data, is_complete = source.read(0, size), True
-    while True:
-        budget.spend(STEP + size // LOOKED_AT)
+    for _ in range(_MOST):
+        budget.spend(STEP + size // LOOKED_AT + len(own))
         verdict = check_row(
             data, permitting((*own, *found)), one_unpickler=True, limits=limits, build="any",
             fix_imports=False,
@@ -62,6 +66,8 @@ def kept_in(
         if pair is None or not may_be_imported(*pair):
             break  # (it reads them all, or ends with an error)
         found[pair[0].encode(), pair[1].encode()] = None
+    else:
+        pair = None
     if not (verdict or pair or verdict.reason in READERS_STOP):
         is_complete = _follow(source, size, found, budget)
     told = [it for it in found if not _are_in(own, it) and _counts(it)]
