@@ -7,6 +7,7 @@ compiled code takes each cache for a dict, and what is in it for what it has com
 
 from __future__ import annotations
 
+import datetime
 import functools
 from typing import Any, Callable, Dict, Optional, Tuple
 
@@ -15,7 +16,8 @@ from ._answers import Misused
 _STATELESS = frozenset(("fractions", "ipaddress", "pathlib", "pathlib._local"))
 """Modules whose objects are pickled with what they are called with."""
 _BITS = 128
-"""The bits of a UUID."""
+"""The bits of a UUID, and the most of a small number."""
+_SHORT = 1000
 
 
 def judge_of(kind: Any) -> Optional[Callable[[Any], bool]]:
@@ -89,8 +91,50 @@ def _is_of_cookie(state: Any) -> bool:
     )
 
 
+def _are_short(held: Any, more: Tuple[str, ...] = ()) -> bool:
+    """Whether these are attributes that are hashed and compared in no time: small numbers, short
+    texts, lengths of time, and objects of classes of these names, whose states are judged too.
+    """
+    return type(held) is dict and all(
+        type(it) in (bool, float, type(None), datetime.timedelta)
+        or type(it) is int and it.bit_length() <= _BITS
+        or type(it) in (str, bytes) and len(it) <= _SHORT
+        or type(it).__name__ in more and type(it).__module__.startswith("dateutil.")
+        for it in held.values()
+    )
+
+
+def _is_of_delta(state: Any) -> bool:
+    return _are_short(state, ("weekday",))
+
+
+def _is_of_weekday(state: Any) -> bool:
+    is_pair = type(state) is tuple and len(state) == 2 and state[0] is None
+    return is_pair and _are_short(state[1])
+
+
+def _is_of_zone(state: Any) -> bool:
+    """Whether a time zone of a file has rows of small numbers, and rules for them."""
+    if type(state) is not dict:
+        return False
+    rows = {name: it for name, it in state.items() if type(it) in (list, tuple)}
+    inside = dict(enumerate(it for row in rows.values() for it in row))
+    plain = {name: it for name, it in state.items() if name not in rows}
+    return _are_short({**plain, **inside}, ("_ttinfo",)) if _are_texts(state) else False
+
+
+def _are_texts(names: Any) -> bool:
+    return all(type(name) is str for name in names)
+
+
 KNOWN: Dict[Tuple[str, str], Callable[[Any], bool]] = {
     ("collections", "UserString"): _is_of_text,
+    ("dateutil._common", "weekday"): _is_of_weekday,
+    ("dateutil.relativedelta", "relativedelta"): _is_of_delta,
+    ("dateutil.tz.tz", "_ttinfo"): _are_short,
+    ("dateutil.tz.tz", "tzfile"): _is_of_zone,
+    ("dateutil.tz.tz", "tzoffset"): _are_short,
+    ("dateutil.tz.tz", "tzutc"): _are_short,
     ("django.utils.datastructures", "MultiValueDict"): _is_of_lists,
     ("http.cookies", "Morsel"): _is_of_cookie,
     ("uuid", "UUID"): _is_of_uuid,

@@ -17,13 +17,16 @@ def hint_of(pair: Tuple[str, str]) -> str:
     is_name = all(word.isascii() and word.isidentifier() for word in words)
     if not is_name or len(module) + len(name) > _LONGEST:
         return ""
+    from ._purposes import known_of
     from .scanning.dangers import danger_of  # (reading its table takes a while)
 
     danger = danger_of(pair)
     if danger:
         return f"{danger} Don't list it"
     named = f"{module}:{name}" if "." in name else f"{module}.{name}"
-    return f"to permit it: storklocker list add LIST {named}"
+    known = known_of(pair)
+    more = f"{known}; " if known else ""
+    return f"{more}to permit it: storklocker list add LIST {named}"
 
 
 def origin_of(context: Any) -> str:

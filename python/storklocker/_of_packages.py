@@ -12,17 +12,20 @@ import sys
 import types
 from typing import TYPE_CHECKING, Any, Callable, Dict, Optional, Tuple
 
-from . import _of_blocks, _of_pandas, _of_sklearn
+from . import _of_blocks, _of_numpy, _of_offsets, _of_pandas, _of_sklearn, _of_torch
 from ._answers import Misused
 from ._calls import row, shown, takes_fields, takes_row, takes_text, wrong
 from ._items import SHOWING, judging
 from ._substitute import BECOMES_REAL, Class, Remembering, Substitute, Value
-from ._weighing import CONTAINERS, SCALARS, keys_of, values
+from ._weighing import CONTAINERS, keys_of, values
 
 if TYPE_CHECKING:
     from ._substitutes import Reader
 
-PACKAGES = ("sklearn", "scipy", "pandas", "django", "celery", "kombu", "billiard")
+PACKAGES = (
+    "sklearn", "scipy", "pandas", "django", "celery", "kombu", "billiard", "torch", "pytz",
+    "dateutil", "requests", "networkx", "sqlalchemy", "rq",
+)
 _REDUCE = ("__reduce__", "__reduce_ex__")
 MOST_TOGETHER = 10_000
 """The most flags together that pickles may have Python keep of a class."""
@@ -32,7 +35,7 @@ def substitute_for(it: Any) -> Optional[Substitute]:
     """The substitute for what a name of a package means, if it has one, or for an enum."""
     module = getattr(it, "__module__", None)
     if type(module) is not str:
-        return None
+        return _of_numpy.function_of(it)
     if isinstance(it, enum.EnumMeta):
         return _members(it)
     package = module.partition(".")[0]
@@ -97,9 +100,10 @@ class _Showing(Class):
 def _found(it: Any, module: str, package: str) -> Optional[Substitute]:
     name = f"{module}.{getattr(it, '__qualname__', '')}"
     if package == "numpy":
-        numpy: Any = sys.modules["numpy"]
-        is_scalar = isinstance(it, type) and issubclass(it, numpy.generic)
-        return _scalar(name, it) if is_scalar else None
+        return _of_numpy.substitute_of(it, name)
+    if package == "torch":
+        found: Optional[Substitute] = _of_torch.substitute_of(it, module)
+        return found
     if isinstance(it, types.FunctionType):
         return Value(name) if package in ("sklearn", "scipy") else None
     if not isinstance(it, type):
@@ -124,17 +128,6 @@ def _is_filled(kind: type) -> bool:
     """Whether a class of pandas is one whose objects its own functions make for pickles."""
     names = ("Index", "ExtensionArray", "NDArrayBacked")
     return any(base.__name__ in names for base in kind.__mro__)
-
-
-def _scalar(name: str, kind: Any) -> Substitute:
-    def judged(reader: Reader, *given: Any) -> Any:
-        if len(given) > 1 or given and (
-            type(given[0]) not in SCALARS or type(given[0]) is str and len(given[0]) > 4_300
-        ):
-            raise wrong(name)
-        return kind(*given)
-
-    return Remembering(name, judged, BECOMES_REAL)
 
 
 def _model(reader: Reader, *given: Any) -> Any:
@@ -199,59 +192,13 @@ def _nothing(name: str) -> Callable[..., Any]:
     return judged
 
 
-def _hooks(name: str, given: Any) -> None:
-    """No function that is to be called later."""
-    if given is not None and not (isinstance(given, dict) and len(given) == 0):
-        raise wrong(name)
-
-
-def judge_tensor(given: Tuple[Any, ...]) -> None:
-    """Refuses a tensor that isn't within its storage."""
-    name = "_rebuild_tensor_v2"
-    if len(given) not in (6, 7) or not isinstance(given[4], bool):
-        raise wrong(name)
-    storage, offset, size, stride = given[:4]
-    if "Storage" not in type(storage).__name__ or type(offset) is not int or offset < 0:
-        raise wrong(name)
-    if type(size) is not tuple or type(stride) is not tuple or len(size) != len(stride):
-        raise wrong(name)
-    if any(type(it) is not int or not 0 <= it < 1 << 48 for it in (*size, *stride)):
-        raise wrong(name)
-    last = offset + sum((many - 1) * step for many, step in zip(size, stride))
-    if 0 not in size and last >= storage.size() or len(size) > 64:
-        raise wrong(name)
-    _hooks(name, given[5])
-
-
-def _tensor(reader: Reader, *given: Any) -> Any:
-    """A tensor within its storage."""
-    import torch._utils
-
-    judge_tensor(given)
-    maker: Any = torch._utils
-    return maker._rebuild_tensor_v2(*given)
-
-
-def judge_parameter(given: Tuple[Any, ...], tensor: type) -> None:
-    """Refuses a parameter that isn't of a tensor, which is of this class."""
-    if len(given) != 3 or type(given[0]) is not tensor or type(given[1]) is not bool:
-        raise wrong("_rebuild_parameter")
-    _hooks("_rebuild_parameter", given[2])
-
-
-def _parameter(reader: Reader, *given: Any) -> Any:
-    import torch._utils
-
-    judge_parameter(given, torch.Tensor)
-    maker: Any = torch._utils
-    return maker._rebuild_parameter(*given)
-
-
-_STORAGES = "BFloat16 Bool Byte Char ComplexDouble ComplexFloat Double Float Half Int Long Short"
 TABLE: Dict[Tuple[str, str], Substitute] = {
+    **_of_numpy.TABLE,
     **_of_sklearn.TABLE,
     **_of_pandas.TABLE,
     **_of_blocks.TABLE,
+    **_of_offsets.TABLE,
+    **_of_torch.TABLE,
     **dict(
         [
             row("django.db.models.base", "model_unpickle", _model),
@@ -259,10 +206,6 @@ TABLE: Dict[Tuple[str, str], Substitute] = {
             row("billiard.einfo", "rebuild_exc", _raised),
             row("celery.utils.serialization", "UnpickleableExceptionWrapper", _wrapped),
             row("pytz", "_UTC", _nothing("_UTC")),
-            row("torch._utils", "_rebuild_tensor_v2", _tensor),
-            row("torch._utils", "_rebuild_parameter", _parameter),
-            (("numpy", "mean"), Value("numpy.mean")),
         ]
     ),
-    **{("torch", f"{it}Storage"): Value(f"torch.{it}Storage") for it in _STORAGES.split()},
 }

@@ -21,7 +21,7 @@ if TYPE_CHECKING:
     from ._substitutes import Reader
 
 _MOST = 1 << 48
-_I8 = (1 << 63) - 1
+I8 = (1 << 63) - 1
 _INDEXES = {
     "data", "name", "names", "start", "stop", "step", "levels", "codes", "sortorder", "freq", "tz",
     "left", "right", "closed",
@@ -74,7 +74,8 @@ def _is_label(reader: Reader, it: Any) -> bool:
     return True
 
 
-def _whole(*bounds: Tuple[int, int]) -> Callable[..., bool]:
+def is_whole(*bounds: Tuple[int, int]) -> Callable[..., bool]:
+    """Says whether values are whole numbers within these bounds."""
     return lambda *given: len(given) <= len(bounds) and all(
         type(it) in (int, bool) and least <= it <= most for it, (least, most) in zip(given, bounds)
     )
@@ -198,7 +199,7 @@ def _is_offset(it: Any) -> bool:
 
 
 def _is_timestamp(*given: Any) -> bool:
-    if len(given) not in (3, 4) or not _whole((-_I8 - 1, _I8), (0, 14))(given[0], *given[3:]):
+    if len(given) not in (3, 4) or not is_whole((-I8 - 1, I8), (0, 14))(given[0], *given[3:]):
         return False
     is_zone = given[2] is None or isinstance(given[2], datetime.tzinfo)
     return is_zone and (given[1] is None or _is_offset(given[1]))
@@ -206,7 +207,7 @@ def _is_timestamp(*given: Any) -> bool:
 
 def _is_period(*given: Any) -> bool:
     return len(given) == 3 and given[0] is None and _is_offset(given[1]) and (
-        _whole((-_I8 - 1, _I8))(given[2])
+        is_whole((-I8 - 1, I8))(given[2])
     )
 
 
@@ -240,11 +241,9 @@ TABLE: Dict[Tuple[str, str], Substitute] = dict(
         row("pandas._libs.sparse", "IntIndex", _sparse),
         _value("pandas._libs.interval", "Interval", _is_interval),
         _value(f"{_TSLIBS}.nattype", "__nat_unpickle", _are_scalars),
-        _value(f"{_TSLIBS}.offsets", "Day", _whole((-_I8 - 1, _I8), (0, 1))),
-        _value(f"{_TSLIBS}.offsets", "MonthEnd", _whole((-_I8 - 1, _I8), (0, 1))),
         _value(f"{_TSLIBS}.period", "Period", _is_period),
-        _value(f"{_TSLIBS}.timedeltas", "_timedelta_unpickle", _whole((-_I8 - 1, _I8), (0, 14))),
-        _value(f"{_TSLIBS}.timedeltas", "Timedelta", _whole((-_I8 - 1, _I8))),
+        _value(f"{_TSLIBS}.timedeltas", "_timedelta_unpickle", is_whole((-I8 - 1, I8), (0, 14))),
+        _value(f"{_TSLIBS}.timedeltas", "Timedelta", is_whole((-I8 - 1, I8))),
         _value(f"{_TSLIBS}.timestamps", "Timestamp", _is_timestamp),
         _value(f"{_TSLIBS}.timestamps", "_unpickle_timestamp", _is_timestamp),
         _value("pandas.core.dtypes.dtypes", "PeriodDtype", lambda *given: (

@@ -30,13 +30,13 @@ NAMES = {
     "json.decoder": "JSONDecodeError",
     "pathlib": _PATHS,
     "pathlib._local": _PATHS,
-    "pytz": "_UTC",
     "uuid": "UUID",
     "xml.etree.ElementTree": "ParseError",
 }
 """Those of modules of which few names are dangerous."""
 PACKAGES = (
-    "numpy", "sklearn", "scipy", "pandas", "torch", "django", "celery", "kombu", "billiard"
+    "numpy", "sklearn", "scipy", "pandas", "torch", "django", "celery", "kombu", "billiard", "pytz",
+    "dateutil", "requests", "networkx", "sqlalchemy", "rq",
 )
 """Packages of which any name may be."""
 

@@ -10,12 +10,14 @@
     DECIMAL, UUID    numbers of decimal, UUIDs
     DJANGO           responses, model instances and values, as Django caches them
     CELERY           signatures and exceptions, as Celery sends them
-    NUMPY            arrays, scalars and types of NumPy
-    PANDAS           frames, series, indexes, arrays and scalars of pandas
+    NUMPY            arrays, scalars, types, generators and functions of NumPy
+    PANDAS           frames, series, indexes, arrays, scalars and offsets of pandas
     SCIKIT_LEARN     fitted estimators of scikit-learn
-    TORCH_TENSORS    state dicts of PyTorch
+    TORCH_TENSORS    checkpoints of PyTorch: states of modules, optimizers and schedulers
+    TORCH_NN         whole modules of `torch.nn`
+    PACKAGES         values of dateutil, pytz, requests and networkx; exceptions of SQLAlchemy, RQ
 
-A command takes them as `@torch`, `@sklearn`, `@standard-types`.
+A command takes them as `@torch`, `@torch-nn`, `@sklearn`, `@standard-types`.
 
 Each is a TOML file in this folder, which names the versions that it was written for and tested
 with. A list permits what these libraries write. It doesn't cover what the objects do in use.
@@ -37,10 +39,12 @@ __all__ = [
     "ENUM",
     "EXCEPTIONS",
     "NUMPY",
+    "PACKAGES",
     "PANDAS",
     "PATHLIB",
     "SCIKIT_LEARN",
     "STANDARD_TYPES",
+    "TORCH_NN",
     "TORCH_TENSORS",
     "UUID",
 ]
@@ -53,10 +57,12 @@ DJANGO: AllowList
 ENUM: AllowList
 EXCEPTIONS: AllowList
 NUMPY: AllowList
+PACKAGES: AllowList
 PANDAS: AllowList
 PATHLIB: AllowList
 SCIKIT_LEARN: AllowList
 STANDARD_TYPES: AllowList
+TORCH_NN: AllowList
 TORCH_TENSORS: AllowList
 UUID: AllowList
 

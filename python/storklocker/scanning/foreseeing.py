@@ -45,7 +45,7 @@ that are read here.
 _MAKING = ("attrgetter", "methodcaller")
 """Substitutes of a list that import nothing to judge what they are given. What they make is called
 by nobody here."""
-_OPEN = frozenset(("numpy", "operator", "_operator", "types", "torch", *PACKAGES))
+_OPEN = frozenset(("numpy", "operator", "_operator", "types", *PACKAGES))
 """Packages whose classes and functions may make arrays, types, modules or functions, or objects
 whose states a guard judges by what they hold.
 """

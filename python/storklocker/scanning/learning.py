@@ -7,6 +7,7 @@ from typing import Dict, Iterable, Iterator, List, Tuple
 
 from .._learning import LARGEST, Seen, read_log
 from .._names import today
+from .._purposes import purpose_of
 from .._writing import quoted
 from .dangers import danger_of, judged
 from .members import GETATTR, Members
@@ -93,7 +94,8 @@ class Learned:
         why, needed = danger_of((module, name)), self._needed_by((module, name))
         if self.enums and f"{module}.{name}" == GETATTR:
             why = ""  # (it has a substitute)
-        line = f"{quoted(name)},  # {needed}"
+        what = purpose_of((module, name))
+        line = f"{quoted(name)},  # {needed}" + (f". It {what}" if what else "")
         return f"  # {line}. {why}" if why else f"  {line}"
 
     def _needed_by(self, pair: Pair) -> str:

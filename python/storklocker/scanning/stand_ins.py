@@ -6,7 +6,7 @@ import sys
 from typing import TYPE_CHECKING, Any, Optional, Tuple
 
 from .._items import SHOWING
-from .._of_packages import judge_parameter, judge_tensor
+from .._of_torch import judge_parameter, judge_tensor
 from .._substitute import Class, Substitute
 from .joblib_cutting import WRAPPERS
 

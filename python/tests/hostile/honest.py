@@ -1,6 +1,7 @@
 """What honest programs pickle, by ready-made list, and what loads it."""
 
 import contextlib
+import functools
 import io
 import pickle
 import sys
@@ -10,6 +11,9 @@ from pathlib import Path
 PYTHON = Path(__file__).resolve().parents[2]
 sys.path[:0] = [str(PYTHON / "lists"), str(PYTHON / "service_tests")]
 
+sys.path[:0] = [str(PYTHON / "tests")]
+
+import honest_objects  # noqa: E402
 import of_python  # noqa: E402
 import values  # noqa: E402
 
@@ -51,6 +55,15 @@ def _estimators():
             yield next(iter(estimators.fitted(name, kind)))
 
 
+_CORPORA = {"NUMPY": "numpy", "PANDAS": "pandas", "PACKAGES": "packages", "TORCH_NN": "torch",
+            "TORCH_TENSORS": "torch"}
+"""The texts with more objects of a list."""
+
+
+def _corpus(name):
+    return (value for _, _, value in honest_objects.made(_CORPORA[name]))
+
+
 _MORE = {"DJANGO": _django, "CELERY": _celery, "SCIKIT_LEARN": _estimators,
          "TORCH_TENSORS": _states}
 
@@ -59,7 +72,8 @@ def pickles(name, is_quick=True):
     """Honest pickles under a list, each of them once; none without its library."""
     found = {}
     more = None if is_quick and name in values.LISTS else _MORE.get(name)
-    for make in (of_python.OBJECTS.get(name), values.LISTS.get(name), more):
+    corpus = functools.partial(_corpus, name) if name in _CORPORA else None
+    for make in (of_python.OBJECTS.get(name), values.LISTS.get(name), more, corpus):
         try:
             made = list(make()) if make is not None else []
         except ImportError:
@@ -73,8 +87,17 @@ def pickles(name, is_quick=True):
 
 
 def _dumped(name, value, protocol):
-    if name != "TORCH_TENSORS":
-        return pickle.dumps(value, protocol)
+    """The pickle of a value; None if it has none."""
+    try:
+        return _of_torch(value, protocol) if name in TORCH else pickle.dumps(value, protocol)
+    except Exception:  # (whatever a class raises whose objects have no pickle)
+        return None
+
+
+TORCH = ("TORCH_TENSORS", "TORCH_NN")
+
+
+def _of_torch(value, protocol):
     import torch
 
     file = io.BytesIO()
@@ -89,7 +112,7 @@ BUFFERS = (bytearray(b"A" * 8), b"A" * 16, memoryview(bytearray(24)), bytearray(
 
 def loader(name, guard):
     """What loads a pickle as those who use a list do."""
-    if name != "TORCH_TENSORS":
+    if name not in TORCH:
         return lambda data: guard.loads(data, buffers=iter(BUFFERS * 8))
     from storklocker.contrib.torch import load_torch
 
