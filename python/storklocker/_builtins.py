@@ -48,9 +48,16 @@ def _reconstructor(reader: Reader, *given: Any) -> Any:
     if isinstance(value, (tuple, frozenset)):  # (which is hashed with all that it has)
         reader.keys.weigh(value)
     reconstructor: Any = getattr(copyreg, "_reconstructor")
-    return reconstructor(kind, base, value)
+    made = reconstructor(kind, base, value)
+    if f"{kind.__module__}.{kind.__qualname__}" in _STATE_FOLLOWS:
+        reader.unbuilt[id(made)] = made
+    return made
 
 
+_STATE_FOLLOWS = frozenset(
+    f"pandas.core.internals.managers.{name}" for name in ("BlockManager", "SingleBlockManager")
+)
+"""Classes whose objects are empty until their state is set."""
 TABLE: Dict[Tuple[str, str], Substitute] = {
     ("builtins", "bytes"): Substitute("builtins.bytes", _bytes, BECOMES_REAL),
     ("builtins", "bytearray"): Substitute("builtins.bytearray", _bytearray, BECOMES_REAL),

@@ -42,12 +42,25 @@ def load_torch(source: Source, guard: Guard, *, map_location: Optional[Any] = No
     # Strings of Python 2 are decoded as torch.load does it, unless the guard says how.
     encoding = "utf-8" if guard._old_strings == "unknown" else None
     module = _Module(guard, _Storages(guard, sizes, len(data)))
-    if not is_zip:
-        return serialization._legacy_load(
-            io.BytesIO(data), map_location, module, encoding=encoding
-        )
-    with serialization._open_zipfile_reader(io.BytesIO(data)) as archive:
-        return serialization._load(archive, map_location, module, encoding=encoding)
+    try:
+        if not is_zip:
+            return serialization._legacy_load(
+                io.BytesIO(data), map_location, module, encoding=encoding
+            )
+        with serialization._open_zipfile_reader(io.BytesIO(data)) as archive:
+            return serialization._load(archive, map_location, module, encoding=encoding)
+    finally:
+        _forget_unvalidated()
+
+
+def _forget_unvalidated() -> None:
+    """Has PyTorch forget the sparse tensors of a load that failed, which it would validate with
+    those of the next one.
+    """
+    import torch._utils
+
+    held: Any = getattr(torch._utils, "_sparse_tensors_to_validate", [])
+    held.clear()
 
 
 def check_archive(data: bytes, guard: Guard) -> Dict[str, int]:
