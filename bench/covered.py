@@ -46,7 +46,11 @@ def of_joblib(value, protocol):
     joblib.dump(value, packed, compress=3, protocol=protocol)
     yield from ((it.getvalue(), joblib_loads) for it in (plain, packed))
     yield from pickled(value, protocol)
-    yield gzip.compress(pickle.dumps(value, protocol)), lambda data: pickle.loads(gzip.decompress(data))
+    yield gzip.compress(pickle.dumps(value, protocol)), gzip_loads
+
+
+def gzip_loads(data):
+    return pickle.loads(gzip.decompress(data))
 
 
 def joblib_loads(data):

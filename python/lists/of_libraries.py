@@ -215,5 +215,6 @@ def _exceptions(module):
             yield (it.__module__, it.__qualname__)
 
 
-_LATER = {"SCIKIT_LEARN": _of_sklearn, "NUMPY": _of_numpy, "PANDAS": _of_pandas, "TORCH_TENSORS": _of_torch,
+_LATER = {"SCIKIT_LEARN": _of_sklearn, "NUMPY": _of_numpy, "PANDAS": _of_pandas,
+          "TORCH_TENSORS": _of_torch,
           "TORCH_NN": _of_modules, "PACKAGES": _of_packages}

@@ -1,5 +1,5 @@
-"""Offsets, intervals and places of pandas, and time zones of pytz and dateutil: what makes them takes
-numbers, short texts, and the few objects that picklers give.
+"""Offsets, intervals and places of pandas, and time zones of pytz and dateutil: what makes them
+takes numbers, short texts, and the few objects that picklers give.
 """
 
 from __future__ import annotations
@@ -128,13 +128,12 @@ def _blocks(reader: Reader, *given: Any) -> Any:
 
 def date_offset_state(reader: Reader, offset: Any, state: Any) -> Any:
     """The state of an offset that `relativedelta` adds."""
-    from dateutil.relativedelta import relativedelta
-
+    deltas: Any = sys.modules.get("dateutil.relativedelta")
     if type(state) is not dict or not all(type(name) is str for name in state):
         raise Misused("the state of an offset is of no known kind")
     judge_attributes(offset, state.items(), False)
     for name, value in state.items():
-        if name == "_offset" and type(value) is relativedelta:
+        if name == "_offset" and deltas and type(value) is deltas.relativedelta:
             continue
         if name in ("_cache", "kwds") or not _is_part(value) and not _is_weekday(value):
             raise Misused("the state of an offset is of no known kind")
@@ -143,7 +142,8 @@ def date_offset_state(reader: Reader, offset: Any, state: Any) -> Any:
 
 def _is_weekday(it: Any) -> bool:
     held: Any = sys.modules.get("dateutil._common")
-    return held is not None and type(it) is getattr(sys.modules["dateutil.relativedelta"], "weekday")
+    kinds = (held.weekday, sys.modules["dateutil.relativedelta"].weekday) if held else ()
+    return type(it) in kinds
 
 
 def _zone(reader: Reader, *given: Any) -> Any:
@@ -174,11 +174,9 @@ def _fixed(reader: Reader, *given: Any) -> Any:
 
 def _file(reader: Reader, *given: Any) -> Any:
     """A time zone of a file, which isn't read: its state follows."""
-    from dateutil.tz import tzfile
-
     if len(given) != 2 or given[0] is not None or type(given[1]) not in (str, type(None)):
         raise wrong("tzfile")
-    return tzfile(*given)
+    return sys.modules["dateutil.tz.tz"].tzfile(*given)
 
 
 TABLE: Dict[Tuple[str, str], Substitute] = dict(

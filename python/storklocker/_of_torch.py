@@ -222,7 +222,8 @@ def _is_value(it: Any) -> bool:
     """Whether this is an attribute of a module: a plain value, or a function of `torch.nn`."""
     import torch
 
-    if type(it) in _PLAIN or type(it) in (torch.dtype, torch.device, torch.Tensor, torch.nn.Parameter):
+    kinds = (*_PLAIN, torch.dtype, torch.device, torch.Tensor, torch.nn.Parameter)
+    if type(it) in kinds:
         return True
     return any(it is vars(sys.modules[name]).get(word) for name, word in ACTIVATIONS
                if name in sys.modules)

@@ -1,5 +1,5 @@
-"""What the ready-made lists have beside arrays, frames and state dicts: it loads, and each attack on
-it works under `pickle` alone.
+"""What the ready-made lists have beside arrays, frames and state dicts: it loads, and what attacks
+it under `pickle` is refused.
 """
 
 import datetime
