@@ -164,6 +164,7 @@ def _of_pandas():
     yield ("pandas.core.arrays.numpy_", "NumpyExtensionArray")
     yield from (("pandas.core.dtypes.dtypes", word) for word in ("NumpyEADtype", "SparseDtype"))
     yield ("pandas._libs.tslibs.timedeltas", "Timedelta")
+    yield ("pandas._libs.tslibs.period", "__pyx_unpickle_PeriodMixin")
     yield ("pandas._libs.tslibs.timestamps", "Timestamp")
 
 
@@ -182,6 +183,8 @@ def _of_sklearn():
     yield from (pair for pair in _of_numpy() if pair[0].endswith("._multiarray_umath"))
     yield from (pair for pair in _of_sklearns.TABLE if "dist_metrics" in pair[0] or
                 "_tree" in pair[0] or pair[0].startswith("sklearn._loss"))
+    yield from (pair for pair in _random.TABLE)
+    yield ("numpy.ma", "MaskedArray")
     yield from _exceptions(exceptions)
     for module in (kernels, metrics, feature_selection):
         for it in vars(module).values():
