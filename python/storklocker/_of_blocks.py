@@ -123,8 +123,7 @@ def manager_state(reader: Reader, manager: Any, state: Any) -> Any:
     """The state of a series: one block, as long as its index; or that of a frame, as versions
     before 1.3 write it.
     """
-    if reader.unbuilt.pop(id(manager), None) is not manager:
-        raise Misused("the state of a frame is set a second time, or of one made elsewhere")
+    reader.unbuilt.pop(id(manager), None)  # (protocols 0 and 1 make one by `_reconstructor`)
     row: Any = state[3] if type(state) is tuple and len(state) == 4 else None
     inner = row.get("0.14.1") if type(row) is dict else None
     if type(inner) is not dict or set(inner) != {"axes", "blocks"}:

@@ -8,7 +8,7 @@ import sys
 import threading
 import types
 
-PASSING = ("__abstractmethods__", "_abc_impl", "__warningregistry__", "_cache_dtypes",
+PASSING = ("__abstractmethods__", "_abc_impl", "__warningregistry__", "_cache", "_cache_dtypes",
            "_value2member_map_", "_netmask_cache")
 """Attributes that Python sets when it likes, and caches of pandas' types, of flags together and of
 masks of networks, of which there are not many.
