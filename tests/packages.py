@@ -165,7 +165,8 @@ class Packages(unittest.TestCase):
             return None
         for it in Path(found.stdout.strip()).parent.glob("wheel*"):  # (it is found by its metadata)
             shutil.copytree(it, lent / it.name)
-        needs = "import os, setuptools, sysconfig as it; os.stat(it.get_path('include') + '/Python.h')"
+        needs = "import os, setuptools, sysconfig as it"
+        needs += "; os.stat(it.get_path('include') + '/Python.h')"
         if shutil.which(interpreter) is None or ran(interpreter, "-m", "venv", folder).returncode:
             return None
         if ran(folder / "bin" / "python", "-c", needs).returncode != 0:

@@ -1,5 +1,5 @@
-"""Members of enums that are pickled by `getattr`, as Python 3.11.0 to 3.11.3 do: they are no danger,
-and whatever else `getattr` gets is one.
+"""Members of enums that are pickled by `getattr`, as Python 3.11.0 to 3.11.3 do: they are no
+danger, and whatever else `getattr` gets is one.
 """
 
 import http
