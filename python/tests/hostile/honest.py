@@ -15,7 +15,9 @@ sys.path[:0] = [str(PYTHON / "tests")]
 
 import honest_objects  # noqa: E402
 import of_python  # noqa: E402
+import storklocker  # noqa: E402
 import values  # noqa: E402
+from storklocker import lists  # noqa: E402
 
 _LARGEST = 20_000
 """The most bytes of a pickle to begin with: a larger one has the same parts more often."""
@@ -70,7 +72,7 @@ _MORE = {"DJANGO": _django, "CELERY": _celery, "SCIKIT_LEARN": _estimators,
 
 def pickles(name, is_quick=True):
     """Honest pickles under a list, each of them once; none without its library."""
-    found = {}
+    found, listed = {}, getattr(lists, name)
     more = None if is_quick and name in values.LISTS else _MORE.get(name)
     corpus = functools.partial(_corpus, name) if name in _CORPORA else None
     for make in (of_python.OBJECTS.get(name), values.LISTS.get(name), more, corpus):
@@ -81,7 +83,8 @@ def pickles(name, is_quick=True):
         for value in made:
             for protocol in (2, 4):
                 data = _dumped(name, value, protocol)
-                if data is not None and len(data) < _LARGEST:
+                is_short = data is not None and len(data) < _LARGEST
+                if is_short and (make is not corpus or storklocker.check(data, listed)):
                     found[data] = None
     return list(found)
 
