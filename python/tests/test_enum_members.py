@@ -71,6 +71,13 @@ class Members(unittest.TestCase):
         loaded = pickle.loads(pickle.dumps(members))
         self.assertEqual(loaded, [it.member for it in members])
 
+    def test_members_by_their_own_names(self):
+        """As Python 3.11.4 and later pickle those of modules with constants."""
+        for name in ("socket\nAF_INET", "ssl\nCERT_NONE", "ssl\nOP_ALL", "socket\nMSG_PEEK"):
+            self.assertEqual(findings_of(b"c%s\n." % name.encode()), (["unjudged"], set()))
+        for name in ("socket\nsocket", "ssl\nSSLContext"):
+            self.assertEqual(findings_of(b"c%s\n." % name.encode())[0], ["warning"])
+
     def test_others(self):
         self.assertEqual(findings_of(MEMBER + b"."), (["unjudged"], set()))  # the control
         for name, data in OTHERS.items():
