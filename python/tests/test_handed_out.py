@@ -2,12 +2,14 @@
 
 import collections
 import http
+import inspect
 import io
 import pickle
 import re
 import subprocess
 import sys
 import unittest
+import zipfile
 
 import storklocker
 from common import PYTHON, needs
@@ -143,6 +145,31 @@ class Arrays(unittest.TestCase):
                                                                      "pos": wrong}}), 4)
             with self.subTest(wrong=wrong), self.assertRaises(Misused):
                 guard.loads(data)
+
+
+@needs("module:torch")
+class Tensors(unittest.TestCase):
+    def test_states(self):
+        """One would set functions that are called for a gradient, or a place in the storage."""
+        import torch
+        from storklocker.contrib.torch import load_torch
+
+        is_asked = "weights_only" in inspect.signature(torch.load).parameters
+        words = {"weights_only": False} if is_asked else {}
+        hooks = b"(\x88N}K\0ccollections\nOrderedDict\nstb."
+        for made in (torch.ones(2), torch.nn.Parameter(torch.ones(2))):
+            file, changed = io.BytesIO(), io.BytesIO()
+            torch.save(made, file)
+            with zipfile.ZipFile(file) as given, zipfile.ZipFile(changed, "w") as taken:
+                for word in given.namelist():
+                    data = given.read(word)
+                    data = data[:-1] + hooks if word.endswith("/data.pkl") else data
+                    taken.writestr(word, data)
+            loaded = torch.load(io.BytesIO(changed.getvalue()), **words)  # (the control)
+            self.assertTrue(getattr(loaded, "_backward_hooks"))
+            guard = Guard(lists.TORCH_TENSORS)
+            self.assertRaises(Misused, load_torch, io.BytesIO(changed.getvalue()), guard)
+            self.assertTrue(load_torch(io.BytesIO(file.getvalue()), guard).equal(made))
 
 
 class Enums(unittest.TestCase):
