@@ -22,7 +22,7 @@ import honest  # noqa: E402
 import shapes  # noqa: E402
 from children import SECONDS, Children, begin, is_here  # noqa: E402
 from mutating import Mutator  # noqa: E402
-from storklocker import Guard, lists  # noqa: E402
+from storklocker import Guard, Refused, lists  # noqa: E402
 
 BATCH = 250
 """How many pickles a child loads."""
@@ -37,7 +37,8 @@ def run(name, asked):
     load = honest.loader(name, Guard(allow))
     pairs = [pair for pair in allow if is_here(pair)]
     for data in held:  # (has everything imported that a load needs)
-        with contextlib.suppress(TypeError):  # (what some exceptions raise, under `pickle` too)
+        # (some exceptions raise it, under `pickle` too; and some enums are pickled by `getattr`)
+        with contextlib.suppress(TypeError, Refused):
             load(data)
     mutator = Mutator(held, pairs, shapes.fragments())
     children = Children(load, pairs, asked.seconds, BATCH)
