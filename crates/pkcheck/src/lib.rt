@@ -19,6 +19,7 @@ pub use checking::{No, Yes, check, check_as};
 pub use listening::{Listener, check_heard};
 pub use loading::Loading;
 pub use pkimport::{Asked, Import, ImportIter, ImportList, Imports, Quoted};
-pub use pkmachine::{Memo, OldStrings, Permit, Policy};
+pub use pklist::{Allow, AllowError, Where};
+pub use pkmachine::{Machine, Memo, Moved, OldStrings, Permit, Policy};
 pub use row_of_pickles::{NoAll, YesAll, check_all, check_all_loaded};
 pub use with_imports::{NoWithImports, check_with_imports};

@@ -3,8 +3,7 @@
 //!
 //! [`genops`] iterates over a slice. A [`Reader`] takes bytes from a [`Source`], lends one
 //! instruction at a time and takes no byte after STOP; [`Reader::next_head`] holds no byte payload.
-//! [`Frames`] enforces the frame rules. Refusals are a [`pkops::Refusal`]: an offset and a
-//! [`pkops::Reason`].
+//! [`Frames`] enforces the frame rules. A [`Refusal`] is an offset and a [`Reason`].
 #![tactic(auto)]
 
 // Rare paths are kept out of line: `X` is inlined, and calls `X_slowly` when it has to. It unpacks
@@ -30,6 +29,7 @@ mod walk;
 
 pub use frames::{BrokenFrame, Frames, frame_argument};
 pub use front::lend;
+pub use pkops::{Reason, Refusal};
 pub use reader::{Head, Next, Reader};
 pub use slice::genops;
 pub use source::{Input, Memory, ReadFailed, Source};

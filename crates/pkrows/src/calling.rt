@@ -5,10 +5,9 @@ ghost use Rattle.std.specs.Prelude.{◌≡◌};
 
 use crate::giving::Pieces;
 use pkcheck::{
-    Audience, Extent, Listener, Loading, Memo, OldStrings, Permit, Policy, Terms, check, check_all,
-    check_as, check_pickles,
+    Allow, Audience, Extent, Listener, Loading, Memo, OldStrings, Permit, Policy, Terms, check,
+    check_all, check_as, check_pickles,
 };
-use pklist::Allow;
 use pkops::{Inst, Limits, Op};
 use pkread::{Memory, Source};
 use std::test::Fail;

@@ -1,7 +1,8 @@
 //! Worked pickles and their JSON, or why they have none.
 
 use pkjson::{ExportError, export, export_text, export_to};
-use pkops::{Limits, Op, Reason, Refusal};
+use pkops::{Limits, Op};
+use pkread::{Reason, Refusal};
 use std::test::Fail;
 
 const VALUES: [(&[u8], &str); 12] = [

@@ -2,8 +2,8 @@
 
 use crate::giving::Pieces;
 use pkcheck::{No, OldStrings, Policy, Yes, check, check_as};
-use pkops::{Limits, Reason};
-use pkread::{Memory, Source};
+use pkops::Limits;
+use pkread::{Memory, Reason, Source};
 use std::process::Abort;
 
 /// The verdict of `check`.

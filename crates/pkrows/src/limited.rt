@@ -2,9 +2,9 @@
 
 use crate::giving::Filled;
 use crate::judging::{Verdict, judge, judge_each};
-use pkcheck::Policy;
-use pklist::Allow;
-use pkops::{Limits, Reason};
+use pkcheck::{Allow, Policy};
+use pkops::Limits;
+use pkread::Reason;
 use std::test::Fail;
 
 /// All limits but `passed`.

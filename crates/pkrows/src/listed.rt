@@ -1,11 +1,11 @@
 //! The imports that a machine and an answer list, and comparisons of two answers.
 
 use pkcheck::{
-    Asked, Import, NoWithImports, OldStrings, Permit, Policy, Yes, check, check_with_imports,
+    Asked, Import, Machine, NoWithImports, OldStrings, Permit, Policy, Yes, check,
+    check_with_imports,
 };
-use pkmachine::Machine;
-use pkops::{Arg, Inst, Limits, Op, Reason, Scan, scan};
-use pkread::Memory;
+use pkops::{Arg, Inst, Limits, Op, Scan, scan};
+use pkread::{Memory, Reason};
 use std::test::Fail;
 
 const PAIR: Import<'_> = Import::Pair {

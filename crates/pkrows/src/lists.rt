@@ -1,6 +1,7 @@
 //! Lists: what list files and arrays permit, and the texts of errors.
 
-use pklist::{Allow, AllowError, Pair, Where, pairs};
+use pkcheck::{Allow, AllowError, Where};
+use pklist::{Pair, pairs};
 use std::test::Fail;
 
 const LIST: &str = "version = 1

@@ -2,9 +2,9 @@
 //! kept memo. CPython 3.11 agrees: with one `pickle.load` per pickle, and with one `Unpickler`.
 
 use crate::giving::Pieces;
-use pkcheck::{Loading, Memo, NoAll, OldStrings, Permit, Policy, YesAll, check_all_loaded};
-use pklist::Allow;
-use pkops::{Limits, Reason};
+use pkcheck::{Allow, Loading, Memo, NoAll, OldStrings, Permit, Policy, YesAll, check_all_loaded};
+use pkops::Limits;
+use pkread::Reason;
 use std::process::Abort;
 use std::test::Fail;
 

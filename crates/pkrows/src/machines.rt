@@ -1,7 +1,8 @@
 //! The machine, step by step.
 
-use pkmachine::{Machine, Moved, Policy};
-use pkops::{Arg, Inst, Limits, Op, Reason};
+use pkcheck::{Machine, Moved, Policy};
+use pkops::{Arg, Inst, Limits, Op};
+use pkread::Reason;
 use std::test::Fail;
 
 fn step(machine: &mut Machine, inst: &Inst<'_>) -> Result<(), Fail> {

@@ -2,9 +2,9 @@
 
 use crate::giving::Pieces;
 use crate::judging::{Verdict, judge_as};
-use pklist::Allow;
-use pkmachine::{Machine, OldStrings, Policy};
-use pkops::{Limits, Reason, Scan, scan};
+use pkcheck::{Allow, Machine, OldStrings, Policy};
+use pkops::{Limits, Scan, scan};
+use pkread::Reason;
 use std::process::Abort;
 use std::test::Fail;
 

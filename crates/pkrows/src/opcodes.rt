@@ -1,9 +1,9 @@
 //! Each opcode: accepted where its needs are met, and refused for each need that isn't.
 
 use crate::judging::{Verdict, judge_each};
-use pkcheck::Policy;
-use pklist::Allow;
-use pkops::{Limits, Reason};
+use pkcheck::{Allow, Policy};
+use pkops::Limits;
+use pkread::Reason;
 use std::test::Fail;
 
 const LIST: &str = "version = 1\n[imports]\nm = [\"f\"]\n";

@@ -1,9 +1,9 @@
 //! Worked pickles and their optimized forms.
 
 use pkcheck::{Policy, check};
-use pkops::{Limits, Reason, Refusal};
+use pkops::Limits;
 use pkopt::{optimize, optimized_form};
-use pkread::Memory;
+use pkread::{Memory, Reason, Refusal};
 use std::process::Abort;
 use std::test::Fail;
 

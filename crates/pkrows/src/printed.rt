@@ -1,8 +1,8 @@
 //! Faults, reasons and refusals as they are printed.
 
 use pkcheck::{Asked, No, NoAll, Quoted};
-use pkops::{Fault, Reason, Refusal};
-use pkread::ReadFailed;
+use pkops::Fault;
+use pkread::{ReadFailed, Reason, Refusal};
 use std::alloc::{AllocError, Global};
 use std::test::Fail;
 

@@ -2,8 +2,11 @@
 
 ghost use Rattle.std.specs.Prelude.{◌≤◌, length};
 
-use pkops::{Limits, Op, Reason, Refusal};
-use pkread::{Frames, Head, Input, Memory, Next, Reader, Source, frame_argument, genops, lend};
+use pkops::{Limits, Op};
+use pkread::{
+    Frames, Head, Input, Memory, Next, Reader, Reason, Refusal, Source, frame_argument, genops,
+    lend,
+};
 use std::alloc::Global;
 use std::process::Abort;
 use std::test::Fail;

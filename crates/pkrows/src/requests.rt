@@ -4,8 +4,8 @@
 use crate::giving::{Filled, Pieces, Watched};
 use crate::judging::{Verdict, judge};
 use pkcheck::Policy;
-use pkops::{Limits, Reason};
-use pkread::Source;
+use pkops::Limits;
+use pkread::{Reason, Source};
 
 // A pickle, the most bytes that a pull returns, and the requests.
 const REQUESTS: [(&[u8], usize, &[usize], Verdict); 11] = [

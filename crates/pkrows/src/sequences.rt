@@ -4,9 +4,9 @@
 use crate::spellings::spellings;
 use pkcheck::{Policy, check};
 use pkjson::{ExportError, export};
-use pkops::{Limits, Reason};
+use pkops::Limits;
 use pkopt::optimize;
-use pkread::Memory;
+use pkread::{Memory, Reason};
 use std::alloc::{AllocError, Global};
 use std::test::Fail;
 

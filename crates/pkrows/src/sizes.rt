@@ -4,7 +4,8 @@
 use crate::giving::Filled;
 use crate::judging::{Verdict, judge};
 use pkcheck::Policy;
-use pkops::{Limits, Reason};
+use pkops::Limits;
+use pkread::Reason;
 
 // A prefix, a byte, how often it is repeated, and a suffix.
 type Sized = (&'static [u8], u8, usize, &'static [u8], Verdict);

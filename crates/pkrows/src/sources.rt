@@ -1,10 +1,9 @@
 //! The same pickle from sources that return it in pieces, fail, end early, or have more after it.
 
 use crate::judging::{Verdict, judge};
-use pkcheck::Policy;
-use pklist::Allow;
-use pkops::{Limits, Reason};
-use pkread::{Input, Memory, ReadFailed, Source};
+use pkcheck::{Allow, Policy};
+use pkops::Limits;
+use pkread::{Input, Memory, ReadFailed, Reason, Source};
 use std::io;
 use std::io::Read;
 use std::test::Fail;

@@ -1,6 +1,7 @@
 //! A stack of marks and items, and the moves on it and on a memo.
 
-use pkops::{Arg, Inst, Limits, Op, Reason};
+use pkops::{Arg, Inst, Limits, Op};
+use pkread::Reason;
 use pkstack::{MemoTable, Move, SliceRule, Slot, Takes, apply};
 use std::test::Fail;
 

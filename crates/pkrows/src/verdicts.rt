@@ -1,10 +1,9 @@
 //! Verdicts of `check` on worked pickles, under lists, under any import, and under small limits.
 
 use crate::judging::{Verdict, judge_each};
-use pkcheck::{Asked, Import, Policy, check};
-use pklist::Allow;
-use pkops::{Limits, Reason};
-use pkread::Memory;
+use pkcheck::{Allow, Asked, Import, Policy, check};
+use pkops::Limits;
+use pkread::{Memory, Reason};
 use std::test::Fail;
 
 const NOTHING: &str = "version = 1\n[imports]\n";
