@@ -10,6 +10,15 @@ use Rattle.std.specs.BTreeMap.{insert_entry, is_at}
 use Rattle.std.specs.Map.{keys_of, lookup, values_of}
 use Rattle.std.specs.Option.{unwrap_or, option_map}
 use Rattle.std.specs.Ordering.{nat_cmp}
+use Rattle.std.specs.Result.{IfErr, OnErr}
+use Rattle.std.specs.declared.result.Result.{Result}
+use Rattle.std.specs.declared.result.Result.TheVariants.{Ok, Err}
+
+-- what holds of each error, from what holds if there is one
+pub if_absent : {T E P : Type 0} {Q : E → Type 0} (r : Result T E) → OnErr r P
+    → (P → (e : E) → Q e) → IfErr r Q
+if_absent (Ok x) h f = tt
+if_absent (Err e) h f = f h e
 
 module _ {A : Type 0} where
   -- the entries with this one

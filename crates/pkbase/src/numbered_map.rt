@@ -4,8 +4,9 @@ ghost use Rattle.std.specs.BTreeMap.{insert_entry, is_at};
 ghost use Rattle.std.specs.List.Sorted.{IsStrictlySortedBy};
 ghost use Rattle.std.specs.Map.{keys_of, lookup};
 ghost use Rattle.std.specs.Ordering.{nat_cmp};
-ghost use Rattle.std.specs.Prelude.{◌≡◌, ◌↔◌, ◌<◌, ◌≤◌, [], length, IfErr, IsTrue, None, OnErr};
-ghost use Rattle.std.specs.Prelude.{OnOk};
+ghost use Rattle.std.specs.Prelude.{◌≡◌, ◌↔◌, ◌<◌, ◌≤◌, ◌^◌, [], length, IfErr, IsTrue, None};
+ghost use Rattle.std.specs.Prelude.{OnErr, OnOk};
+ghost use Rattle.pkbase.specs.Room.{LacksRoom};
 
 use crate::stack_vec::StackVec;
 use std::alloc::{AllocError, Global};
@@ -113,12 +114,14 @@ impl<V: Copy + Drop> NumberedMap<V> {
         number == next && self.rest.is_empty()
     }
 
-    /// Stores a value under a number. It replaces the value that was there. A number of more than
-    /// 32 bits that isn't the next in order is refused.
+    /// Stores a value under a number. It replaces the value that was there, which takes no memory.
+    /// A number of more than 32 bits that isn't the next in order is refused.
     #[inline(always)]
     pub fn store(&mut self, number: u64, value: V) -> Result<(), AllocError>
         ensures ok { OnOk result (self.new ≡ insert_entry nat_cmp self.old number value) }
         ensures err { OnErr result (self.new ≡ self.old) }
+        ensures absent { OnErr result (number < 2 ^ 32
+            → lookup (is_at (nat_cmp number)) self.old ≡ None) }
     {
         let next = u64::from(self.first) + self.ordered.len() as u64;
         if number == next && self.rest.is_empty() {
@@ -133,6 +136,8 @@ impl<V: Copy + Drop> NumberedMap<V> {
         ensures ok { OnOk result (self.new
             ≡ insert_entry nat_cmp self.old (length self.old) value) }
         ensures err { OnErr result (self.new ≡ self.old) }
+        ensures absent { OnErr result (length self.old < 2 ^ 32
+            → lookup (is_at (nat_cmp (length self.old))) self.old ≡ None) }
     {
         if self.low.len() as u64 == u64::from(self.first) && self.rest.is_empty() {
             return self.ordered.push(value);
@@ -150,6 +155,8 @@ impl<V: Copy + Drop> NumberedMap<V> {
         ensures kept { OnErr result (self.new ≡ self.old) }
         ensures full { IfErr result (λ why. why ≡ NotStored.Full
             → most < length (insert_entry nat_cmp self.old number value)) }
+        ensures memory { IfErr result (λ why. why ≡ NotStored.OutOfMemory → number < 2 ^ 32
+            → LacksRoom most self.old number value) }
     {
         if self.is_next(number) {
             if self.len() >= most {
@@ -168,6 +175,8 @@ impl<V: Copy + Drop> NumberedMap<V> {
         ensures kept { OnErr result (self.new ≡ self.old) }
         ensures full { IfErr result (λ why. why ≡ NotStored.Full
             → most < length (insert_entry nat_cmp self.old number value)) }
+        ensures memory { IfErr result (λ why. why ≡ NotStored.OutOfMemory → number < 2 ^ 32
+            → LacksRoom most self.old number value) }
     {
         let Ok(key) = u32::try_from(number) else {
             return Err(NotStored::OutOfMemory);
@@ -187,6 +196,8 @@ impl<V: Copy + Drop> NumberedMap<V> {
         ensures ok { OnOk result (self.new ≡ insert_entry nat_cmp self.old number value) }
         ensures kept { OnErr result (self.new ≡ self.old) }
         ensures why { IfErr result (λ why. why ≡ NotStored.OutOfMemory) }
+        ensures absent { OnErr result (number < 2 ^ 32
+            → lookup (is_at (nat_cmp number)) self.old ≡ None) }
     {
         match self.store(number, value) {
             Ok(()) => Ok(()),
@@ -199,6 +210,8 @@ impl<V: Copy + Drop> NumberedMap<V> {
     fn store_apart(&mut self, number: u64, value: V) -> Result<(), AllocError>
         ensures ok { OnOk result (self.new ≡ insert_entry nat_cmp self.old number value) }
         ensures err { OnErr result (self.new ≡ self.old) }
+        ensures absent { OnErr result (number < 2 ^ 32
+            → lookup (is_at (nat_cmp number)) self.old ≡ None) }
     {
         if number > u64::from(u32::MAX) {
             return Err(AllocError);
@@ -242,6 +255,7 @@ fn put<V: Copy + Drop>(tree: &mut BTreeMap<u32, V>, number: u32, value: V) -> Re
     ensures ok { OnOk result (tree.new.entries
         ≡ insert_entry nat_cmp tree.old.entries number value) }
     ensures err { OnErr result (tree.new.entries ≡ tree.old.entries) }
+    ensures absent { OnErr result (lookup (is_at (nat_cmp number)) tree.old.entries ≡ None) }
 {
     match tree.insert(number, value) {
         Ok(_) => Ok(()),

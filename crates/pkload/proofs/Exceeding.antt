@@ -113,17 +113,18 @@ module _ (memo : Memo) (tolls : Tolls) (excess : Excess) (at : ℕ) (n : Meterin
       pub unkept : excess ≡ OutOfMemory → (2 ^ 64 ≤ m.pickle) ⊎ CantBeKept last earlier
 
     -- a payload that is skipped is that of an object, which is pushed
-    passed_object : (o : Op) → IsTrue (is_passed o) → LeavesNoMore (effect_of o) → ⊥
-    passed_object op.BinBytes h w = w
-    passed_object op.ShortBinBytes h w = w
-    passed_object op.BinBytes8 h w = w
-    passed_object op.ByteArray8 h w = w
-    passed_object _ h w = cc h
+    passed_object : (o : Op) (i : Instruction) (b : Bill) → IsTrue (is_passed o)
+        → LeavesNoMore (effect_of o) i b → ⊥
+    passed_object op.BinBytes i b h w = w
+    passed_object op.ShortBinBytes i b h w = w
+    passed_object op.BinBytes8 i b h w = w
+    passed_object op.ByteArray8 i b h w = w
+    passed_object _ i b h w = cc h
 
     unkept_told : (i : Instruction) (b : Bill) (passed : Bool) → is_passed i.op ≡ passed
         → CantBeTold (cond passed (Skipped i.op (length (spelling i))) (Whole i)) b
         → CantBeKept i b
-    unkept_told i b true e h w = absurd (passed_object i.op e w)
+    unkept_told i b true e h w = absurd (passed_object i.op i b e w)
     unkept_told i b false e h w = h w
 
     unkept_at : (i : Instruction) (r : Report) (m : Metering) → r.told ≡ told_of false i

@@ -3,23 +3,23 @@ use Rattle.std.proofs.Common.{◌≡◌, ◌+◌, ◌≤◌, ◌^◌, ℕ, suc, 
 use Rattle.std.proofs.Common.{length, Option, None, Some, Result, Ok, Err, refl, sym, ap, arith}
 use Rattle.std.proofs.Common.{inl, inr, subst}
 use Rattle.std.specs.Prelude.{◌⊎◌, ⊤, IsErr, OnErr}
+use Rattle.pkops.specs.Operands.{memo_number}
 use Rattle.pkops.specs.Spelling.{Argument, Instruction, Nothing, instruction}
 use Rattle.pkops.specs.declared.Op.{Op}
 use Rattle.pkops.specs.declared.Op.TheVariants as op
 use Rattle.pkmachine.specs.Effects.{AnySlice, Effect, EvenSlice, Operates, effect_of}
 use Rattle.pkmachine.specs.declared.effect.Gives.{Gives}
 use Rattle.pkmachine.specs.declared.effect.Gives.TheVariants.{Answers}
-use Rattle.pkstack.specs.Faults.{MoveMayWantMemory}
 use Rattle.pkstack.specs.Shape.{Breach, Entry, Item, Mark, NoItem, Taken, and_then, breaks, items}
 use Rattle.pkstack.specs.Shape.{slice, top, unless}
 use Rattle.pkstack.specs.declared.SliceRule.{SliceRule}
-use Rattle.pkstack.specs.declared.Move.TheVariants.{Pops, PopsMark, NoOp}
+use Rattle.pkstack.specs.declared.Move.TheVariants.{Pops, PopsMark, NoOp, Stores, StoresNext}
 use Rattle.pkload.specs.Bill.{Bill, billed_by, moved_by, operation_billed, stop_billed}
 use Rattle.pkload.specs.Heft.{Heft}
 use Rattle.pkload.specs.Memory.{held_memory, operation_memory}
 use Rattle.pkload.specs.Private.Billing.{HasSlice, action_of, op_billed}
 use Rattle.pkload.specs.Private.Lost.{IsTooMuch, LacksSum}
-use Rattle.pkload.specs.Unkept.{CantBeKept, IsLost, LeavesNoMore}
+use Rattle.pkload.specs.Unkept.{CantBeKept, IsLost, LeavesNoMore, MayAdd}
 use Rattle.pkload.specs.declared.action.Action.{Action}
 use Rattle.pkload.specs.declared.action.Action.TheVariants as action
 use Rattle.pkload.specs.declared.halt.Halt.{Halt}
@@ -204,34 +204,45 @@ answer_lost o b count more (Err halt) h w = answer_sum o b count more w h
 -- ---- an instruction by its action
 
 -- what the machine knows if an action fails
-abbrev pub LostBy : Op → Action → Bill → Type 0
-LostBy o action.TiesOne b = IsLost (op_billed op.Tuple1 b) b
-LostBy o action.TiesTwo b = IsLost (op_billed op.Tuple2 b) b
-LostBy o action.TiesThree b = IsLost (op_billed op.Tuple3 b) b
-LostBy o action.TiesSlice b = IsLost (op_billed op.Tuple b) b
-LostBy o action.FreezesSlice b = IsLost (op_billed op.FrozenSet b) b
-LostBy o action.Operates b = IsLost (op_billed o b) b
-LostBy o action.Appends b = IsLost (op_billed op.Append b) b
-LostBy o action.AppendsSlice b = IsLost (op_billed op.Appends b) b
-LostBy o action.AddsSlice b = IsLost (op_billed op.AddItems b) b
-LostBy o action.Sets b = IsLost (op_billed op.SetItem b) b
-LostBy o action.SetsSlice b = IsLost (op_billed op.SetItems b) b
-LostBy o action.Builds b = IsLost (op_billed op.Build b) b
-LostBy o action.Pops b = MoveMayWantMemory Pops ⊎ IsLost (moved_by Pops 0 b) b
-LostBy o action.PopsMark b = MoveMayWantMemory PopsMark ⊎ IsLost (moved_by PopsMark 0 b) b
-LostBy o action.Passes b = MoveMayWantMemory NoOp ⊎ IsLost (moved_by NoOp 0 b) b
-LostBy o action.Stops b = IsLost (stop_billed b (top b.shape.entries)) b
-LostBy o _ b = ⊤
+abbrev pub LostBy : Instruction → Action → Bill → Type 0
+LostBy i action.TiesOne b = IsLost (op_billed op.Tuple1 b) b
+LostBy i action.TiesTwo b = IsLost (op_billed op.Tuple2 b) b
+LostBy i action.TiesThree b = IsLost (op_billed op.Tuple3 b) b
+LostBy i action.TiesSlice b = IsLost (op_billed op.Tuple b) b
+LostBy i action.FreezesSlice b = IsLost (op_billed op.FrozenSet b) b
+LostBy i action.Operates b = IsLost (op_billed i.op b) b
+LostBy i action.Appends b = IsLost (op_billed op.Append b) b
+LostBy i action.AppendsSlice b = IsLost (op_billed op.Appends b) b
+LostBy i action.AddsSlice b = IsLost (op_billed op.AddItems b) b
+LostBy i action.Sets b = IsLost (op_billed op.SetItem b) b
+LostBy i action.SetsSlice b = IsLost (op_billed op.SetItems b) b
+LostBy i action.Builds b = IsLost (op_billed op.Build b) b
+LostBy i action.Stores b =
+    MayAdd Stores (memo_number i) b.shape ⊎ IsLost (moved_by Stores (memo_number i) b) b
+LostBy i action.StoresNext b =
+    MayAdd StoresNext 0 b.shape ⊎ IsLost (moved_by StoresNext 0 b) b
+LostBy i action.Pops b = MayAdd Pops 0 b.shape ⊎ IsLost (moved_by Pops 0 b) b
+LostBy i action.PopsMark b = MayAdd PopsMark 0 b.shape ⊎ IsLost (moved_by PopsMark 0 b) b
+LostBy i action.Passes b = MayAdd NoOp 0 b.shape ⊎ IsLost (moved_by NoOp 0 b) b
+LostBy i action.Stops b = IsLost (stop_billed b (top b.shape.entries)) b
+LostBy i _ b = ⊤
 
 -- the bill behind an instruction of a pickle that goes on is lost, unless it leaves more entries
 abbrev LostFor : Op → Argument → Bill → Type 0
-LostFor o a b = LeavesNoMore (effect_of o) → IsLost (billed_by (effect_of o) (instruction o a) b) b
+LostFor o a b =
+    LeavesNoMore (effect_of o) (instruction o a) b
+    → IsLost (billed_by (effect_of o) (instruction o a) b) b
 
 moves_none : {A : Type 0} → ⊥ ⊎ A → A
 moves_none (inl h) = absurd h
 moves_none (inr h) = h
 
-lost_for : (o : Op) (a : Argument) (b : Bill) → LostBy o (action_of o) b → LostFor o a b
+moves_but : {A B : Type 0} → A ⊎ B → (A → ⊥) → B
+moves_but (inl h) not = absurd (not h)
+moves_but (inr h) not = h
+
+lost_for : (o : Op) (a : Argument) (b : Bill) → LostBy (instruction o a) (action_of o) b
+    → LostFor o a b
 lost_for op.Tuple1 a b h w = h
 lost_for op.Tuple2 a b h w = h
 lost_for op.Tuple3 a b h w = h
@@ -266,10 +277,10 @@ lost_for op.Mark a b h w = absurd (w tt)
 lost_for op.Get a b h w = absurd (w tt)
 lost_for op.BinGet a b h w = absurd (w tt)
 lost_for op.LongBinGet a b h w = absurd (w tt)
-lost_for op.Put a b h w = absurd (w tt)
-lost_for op.BinPut a b h w = absurd (w tt)
-lost_for op.LongBinPut a b h w = absurd (w tt)
-lost_for op.Memoize a b h w = absurd (w tt)
+lost_for op.Put a b h w = moves_but h w
+lost_for op.BinPut a b h w = moves_but h w
+lost_for op.LongBinPut a b h w = moves_but h w
+lost_for op.Memoize a b h w = moves_but h w
 lost_for _ a b h w = absurd w
 
 going : (i : Instruction) (b : Bill) → b.ended ≡ false → LostFor i.op i.arg b → CantBeKept i b
@@ -278,13 +289,13 @@ going i b e h w = subst (λ q. IsLost (cond q (Err NoItem) (billed_by (effect_of
 
 -- an action that fails
 pub failed_by : (i : Instruction) (b : Bill) (a : Action) (x : Result Bool Halt) → b.ended ≡ false
-    → action_of i.op ≡ a → OnErr x (LostBy i.op a b) → IsErr x → CantBeKept i b
+    → action_of i.op ≡ a → OnErr x (LostBy i a b) → IsErr x → CantBeKept i b
 failed_by i b a (Err halt) e is h w = going i b e
-    (lost_for i.op i.arg b (subst (λ c. LostBy i.op c b) (sym is) h))
+    (lost_for i.op i.arg b (subst (λ c. LostBy i c b) (sym is) h))
 failed_by i b a (Ok noted) e is h w = cc w
 
 -- an action whose step may allocate
 pub failed_room : (i : Instruction) (b : Bill) (a : Action) → b.ended ≡ false → action_of i.op ≡ a
-    → LostBy i.op a b → CantBeKept i b
+    → LostBy i a b → CantBeKept i b
 failed_room i b a e is h =
-    going i b e (lost_for i.op i.arg b (subst (λ c. LostBy i.op c b) (sym is) h))
+    going i b e (lost_for i.op i.arg b (subst (λ c. LostBy i c b) (sym is) h))

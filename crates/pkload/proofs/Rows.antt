@@ -304,3 +304,26 @@ a_list_is_kept h = none (h tt)
 
 an_empty_list_may_not_be : CantBeKept (bare op.EmptyList) no_bill
 an_empty_list_may_not_be w = absurd w
+
+-- a number that is in use needs no memory
+abbrev put : ℕ → Instruction
+put number = instruction op.BinPut (Number 1 number)
+
+abbrev bill_in : Result Bill Breach → Bill
+bill_in (Ok bill) = bill
+bill_in (Err breach) = no_bill
+
+abbrev stored_once : Bill
+stored_once = bill_in (all_billed (bare op.None ∷ put 0 ∷ []) no_bill)
+
+a_used_number_is_kept : CantBeKept (put 0) stored_once → ⊥
+a_used_number_is_kept h = none (h (λ unused. cc unused))
+  where
+    none : IsLost (billed (put 0) stored_once) stored_once → ⊥
+    none (inl many) = omega (arith, many)
+    none (inr (inl great)) = omega (arith, great)
+    none (inr (inr (inl great))) = omega (arith, great)
+    none (inr (inr (inr great))) = omega (arith, great)
+
+a_new_number_may_not_be : CantBeKept (put 1) stored_once
+a_new_number_may_not_be w = absurd (w refl)

@@ -1,26 +1,38 @@
 -- When a bill can't be kept behind an instruction that the check accepts.
-use Rattle.std.specs.Prelude.{◌≤◌, ◌^◌, ◌⊎◌, ⊤, zero, IfOk, List, Result, length}
+use Rattle.std.specs.Prelude.{ℕ, ◌≡◌, ◌≤◌, ◌^◌, ◌⊎◌, ⊤, zero, IfOk, List, None, Result, length}
+use Rattle.pkops.specs.Operands.{memo_number}
 use Rattle.pkops.specs.Spelling.{Instruction}
 use Rattle.pkmachine.specs.Effects.{Effect, Operates, Moves, Stops, Raises, effect_of}
 use Rattle.pkmachine.specs.RowRuns.{Pickle}
 use Rattle.pkstack.specs.Faults.{MoveMayWantMemory}
-use Rattle.pkstack.specs.Shape.{Breach}
+use Rattle.pkstack.specs.Shape.{Breach, Shape, recalled}
+use Rattle.pkstack.specs.declared.Move.{Move}
+use Rattle.pkstack.specs.declared.Move.TheVariants.{Stores, StoresNext}
 use Rattle.pkstack.specs.declared.Takes.{Takes}
 use Rattle.pkstack.specs.declared.Takes.TheVariants.{Objects}
 use Rattle.pkload.specs.Bill.{Bill, billed}
+use Rattle.pkload.specs.Heft.{Heft}
 
 -- an operation that takes this takes an entry at least. It leaves one
 abbrev pub TakesSome : Takes → Type 0
 TakesSome (Objects zero) = ⊥
 TakesSome takes = ⊤
 
+-- a move with this number may add an entry. One that stores adds none if the number is in use
+abbrev pub MayAdd : Move → ℕ → Shape Heft → Type 0
+MayAdd Stores number shape = recalled number shape.memo ≡ None
+MayAdd StoresNext number shape =
+    (2 ^ 32 ≤ length shape.memo) ⊎ (recalled (length shape.memo) shape.memo ≡ None)
+MayAdd move number shape = MoveMayWantMemory move
+
 -- with this effect there are no more entries behind an instruction than before it, on the stack and
 -- in the memo
-abbrev pub LeavesNoMore : Effect → Type 0
-LeavesNoMore (Operates takes names gives) = TakesSome takes
-LeavesNoMore (Moves move) = MoveMayWantMemory move → ⊥
-LeavesNoMore Stops = ⊤
-LeavesNoMore Raises = ⊤
+abbrev pub LeavesNoMore : Effect → Instruction → Bill → Type 0
+LeavesNoMore (Operates takes names gives) instruction bill = TakesSome takes
+LeavesNoMore (Moves move) instruction bill =
+    MayAdd move (memo_number instruction) bill.shape → ⊥
+LeavesNoMore Stops instruction bill = ⊤
+LeavesNoMore Raises instruction bill = ⊤
 
 -- a sum of this bill doesn't fit 64 bits
 abbrev pub HasGreatSum : Bill → Type 0
@@ -34,7 +46,8 @@ IsLost behind bill = (2 ^ 50 ≤ length bill.shape.entries) ⊎ IfOk behind HasG
 -- the bill can't be kept behind this instruction: it leaves more entries, or something is too great
 abbrev pub CantBeKept : Instruction → Bill → Type 0
 CantBeKept instruction bill =
-    LeavesNoMore (effect_of instruction.op) → IsLost (billed instruction bill) bill
+    LeavesNoMore (effect_of instruction.op) instruction bill
+    → IsLost (billed instruction bill) bill
 
 -- likewise behind these pickles, whose number must fit too
 abbrev pub IsUnkept : List Pickle → Instruction → Bill → Type 0

@@ -4,11 +4,10 @@ ghost use Rattle.std.specs.Prelude.{◌≡◌, ◌⊎◌, IfOk, Ok, OnErr, OnOk,
 ghost use Rattle.pkops.specs.Inst.{instruction_of};
 ghost use Rattle.pkops.specs.Operands.{memo_number};
 ghost use Rattle.pkcheck.specs.Reports.{Skipped};
-ghost use Rattle.pkstack.specs.Faults.{MoveMayWantMemory};
 ghost use Rattle.pkstack.specs.Shape.{top};
 ghost use Rattle.pkload.specs.Bill.{billed, moved_by, no_bill, stop_billed};
 ghost use Rattle.pkload.specs.Private.Billing.{IfBilled, IsQuiet, pushed};
-ghost use Rattle.pkload.specs.Unkept.{CantBeKept, IsLost};
+ghost use Rattle.pkload.specs.Unkept.{CantBeKept, IsLost, MayAdd};
 ghost use Rattle.pkload.specs.Private.Told.{next_in, told_billed};
 
 mod answering;
@@ -154,7 +153,7 @@ impl Machine {
     fn go(&mut self, what: Move, number: u32) -> Result<bool, Halt>
         ensures billed { OnOk result (moved_by what number self.old ≡ Ok self.new) }
         ensures quiet { OnOk result (IsQuiet self.old self.new) }
-        ensures lost { OnErr result (MoveMayWantMemory what
+        ensures lost { OnErr result (MayAdd what number self.old.shape
             ⊎ IsLost (moved_by what number self.old) self.old) }
     {
         let kept = number_kept(what, number, &self.memo)?;
@@ -171,6 +170,9 @@ impl Machine {
         ensures billed { OnOk result (moved_by what (memo_number (instruction_of inst.now)) self.old
             ≡ Ok self.new) }
         ensures quiet { OnOk result (IsQuiet self.old self.new) }
+        ensures lost { OnErr result
+            (MayAdd what (memo_number (instruction_of inst.now)) self.old.shape
+            ⊎ IsLost (moved_by what (memo_number (instruction_of inst.now)) self.old) self.old) }
     {
         self.go(what, inst.memo_number().unwrap_or(0))
     }
@@ -180,7 +182,7 @@ impl Machine {
     fn go_rarely(&mut self, what: Move) -> Result<bool, Halt>
         ensures billed { OnOk result (moved_by what 0 self.old ≡ Ok self.new) }
         ensures quiet { OnOk result (IsQuiet self.old self.new) }
-        ensures lost { OnErr result (MoveMayWantMemory what
+        ensures lost { OnErr result (MayAdd what 0 self.old.shape
             ⊎ IsLost (moved_by what 0 self.old) self.old) }
     {
         self.go(what, 0)

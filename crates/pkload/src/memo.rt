@@ -1,7 +1,7 @@
 //! The memo: what the objects stored under numbers cost.
 
-ghost use Rattle.std.specs.Prelude.{◌≡◌, length, IfErr, IfOk, OnOk};
-ghost use Rattle.pkstack.specs.Shape.{stored};
+ghost use Rattle.std.specs.Prelude.{◌≡◌, length, IfErr, IfOk, None, OnErr, OnOk};
+ghost use Rattle.pkstack.specs.Shape.{recalled, stored};
 ghost use Rattle.pkload.specs.Private.Lost.{HasNoNumber};
 
 use crate::halt::Halt;
@@ -24,9 +24,10 @@ pub fn next_number(memo: &MemoTable) -> Result<u32, Halt>
     Ok(next as u32)
 }
 
-/// Stores what an object costs.
+/// Stores what an object costs. Under a number that is in use it needs no memory.
 pub fn store(memo: &mut MemoTable, number: u32, heft: PackedHeft) -> Result<(), Halt>
-    ensures { OnOk result (memo.new ≡ stored number heft memo.old) }
+    ensures ok { OnOk result (memo.new ≡ stored number heft memo.old) }
+    ensures absent { OnErr result (recalled number memo.old ≡ None) }
 {
     match memo.store(u64::from(number), heft) {
         Ok(()) => Ok(()),

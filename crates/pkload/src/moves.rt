@@ -1,8 +1,8 @@
 //! Actions that look at no object.
 
 ghost use Rattle.std.specs.Prelude.{◌≡◌, ◌⊎◌, Err, IsErr, OnErr, OnOk, Ok};
-ghost use Rattle.pkstack.specs.Faults.{MoveMayWantMemory};
 ghost use Rattle.pkstack.specs.Shape.{NoItem, NoMark, moved};
+ghost use Rattle.pkload.specs.Unkept.{MayAdd};
 
 use crate::halt::Halt;
 use crate::memo::{self, MemoTable};
@@ -47,9 +47,12 @@ fn duplicate(stack: &mut Stack, memo: &MemoTable) -> Result<(), Halt>
 /// Stores the top under a number.
 #[inline(always)]
 fn store(stack: &Stack, memo: &mut MemoTable, number: u32) -> Result<(), Halt>
-    ensures { OnOk result
+    ensures ok { OnOk result
         (moved Move.Stores number (record { entries = stack.now; memo = memo.old })
         ≡ Ok (record { entries = stack.now; memo = memo.new })) }
+    ensures err { OnErr result
+        (MayAdd Move.Stores number (record { entries = stack.now; memo = memo.old })
+        ⊎ IsErr (moved Move.Stores number (record { entries = stack.now; memo = memo.old }))) }
 {
     match stack.top() {
         Some(heft) => memo::store(memo, number, heft),
@@ -60,9 +63,12 @@ fn store(stack: &Stack, memo: &mut MemoTable, number: u32) -> Result<(), Halt>
 /// Stores the top under the next number.
 #[inline(always)]
 fn store_next(stack: &Stack, memo: &mut MemoTable) -> Result<(), Halt>
-    ensures { OnOk result
+    ensures ok { OnOk result
         (moved Move.StoresNext 0 (record { entries = stack.now; memo = memo.old })
         ≡ Ok (record { entries = stack.now; memo = memo.new })) }
+    ensures err { OnErr result
+        (MayAdd Move.StoresNext 0 (record { entries = stack.now; memo = memo.old })
+        ⊎ IsErr (moved Move.StoresNext 0 (record { entries = stack.now; memo = memo.old }))) }
 {
     let Some(heft) = stack.top() else {
         return Err(Halt::Lost);
@@ -92,7 +98,8 @@ pub fn apply(stack: &mut Stack, memo: &mut MemoTable, what: Move, number: u32) -
     ensures ok { OnOk result
         (moved what number (record { entries = stack.old; memo = memo.old })
         ≡ Ok (record { entries = stack.new; memo = memo.new })) }
-    ensures err { OnErr result (MoveMayWantMemory what
+    ensures err { OnErr result
+        (MayAdd what number (record { entries = stack.old; memo = memo.old })
         ⊎ IsErr (moved what number (record { entries = stack.old; memo = memo.old }))) }
 {
     match what {

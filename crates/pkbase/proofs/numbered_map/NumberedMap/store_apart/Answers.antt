@@ -1,12 +1,12 @@
 -- A number goes to its part, and each part keeps the numbers that belong to it.
-use Rattle.std.proofs.Common.{◌+◌, ◌-◌, ◌<◌, ◌≤◌, ◌^◌, arith, length}
+use Rattle.std.proofs.Common.{◌+◌, ◌-◌, ◌<◌, ◌≤◌, ◌^◌, ◌∙◌, arith, length, sym}
 use Rattle.std.proofs.lemmas.Map.Views.{All-keys-insert_entry}
-use Rattle.std.proofs.lemmas.Result.{on_ok_weaker}
+use Rattle.std.proofs.lemmas.Result.{on_err_weaker, on_ok_weaker}
 use Rattle.std.specs.Ordering.{nat_cmp}
 use Rattle.std.specs.Result.{OnErr, OnOk}
 use Rattle.std.specs.declared.result.Result.{Result}
 use Rattle.std.specs.declared.result.Result.TheVariants.{Ok, Err}
-use Rattle.pkbase.proofs.Entries.{put_low, put_ordered, put_rest}
+use Rattle.pkbase.proofs.Entries.{at_low, at_rest, put_low, put_ordered, put_rest}
 use Rattle.pkbase.proofs.numbered_map.NumberedMap.store_apart.Goals as goal
 
 -- what follows from either outcome
@@ -66,3 +66,19 @@ returns-clause-ok g c =
     (λ h. rw h
     (put_rest m.low.entries m.first m.ordered m.rest.entries c.self.invariant
     c.args.number c.args.value (omega arith))) c.put-2.ensures.ok)
+
+pub returns-then-number-self-clause-absent : goal.returns-then-number-self-clause-absent
+returns-then-number-self-clause-absent g c =
+    let m = c.self.inside in
+    rw (← c.self.view_is)
+    (on_err_weaker c.put.result
+    (λ none narrow. sym (at_low m.low.entries m.first m.ordered m.rest.entries c.self.invariant
+    c.args.number (omega arith)) ∙ none) c.put.ensures.absent)
+
+pub returns-clause-absent : goal.returns-clause-absent
+returns-clause-absent g c =
+    let m = c.self.inside in
+    rw (← c.self.view_is)
+    (on_err_weaker c.put-2.result
+    (λ none narrow. sym (at_rest m.low.entries m.first m.ordered m.rest.entries c.self.invariant
+    c.args.number (omega arith)) ∙ none) c.put-2.ensures.absent)

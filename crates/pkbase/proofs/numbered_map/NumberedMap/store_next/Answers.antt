@@ -1,7 +1,7 @@
 -- Where only the row follows the numbers below it, the number of entries is the one behind the row.
 use Rattle.std.proofs.Common.{◌≡◌, rules, arith, length}
-use Rattle.std.proofs.lemmas.Result.{on_ok_weaker}
-use Rattle.pkbase.proofs.Entries.{entries, length-entries, put_next}
+use Rattle.std.proofs.lemmas.Result.{on_err_weaker, on_ok_weaker}
+use Rattle.pkbase.proofs.Entries.{entries, length-entries, next_is_none, put_next}
 use Rattle.pkbase.proofs.numbered_map.NumberedMap.store_next.Goals as goal
 
 pub returns-then-is_empty-clause-ok : goal.returns-then-is_empty-clause-ok
@@ -21,3 +21,20 @@ returns-then-is_empty-clause-ok g c =
       c.if-len-from.true,
       none,
     )))) c.push.ensures.ok)
+
+pub returns-then-is_empty-clause-absent : goal.returns-then-is_empty-clause-absent
+returns-then-is_empty-clause-absent g c =
+    let m = c.self.inside in
+    let none : length m.rest.entries ≡ 0 = search (rules, c.if-is_empty.ensures) in
+    rw (← c.self.view_is)
+    (on_err_weaker c.push.result
+    (λ same narrow. next_is_none m.low.entries m.first m.ordered m.rest.entries c.self.invariant
+    (length (entries m.low.entries m.first m.ordered m.rest.entries)) none
+    (omega (
+      arith,
+      length-entries m.low.entries m.first m.ordered m.rest.entries,
+      c.len.ensures.len,
+      c.from.ensures,
+      c.if-len-from.true,
+      none,
+    ))) c.push.ensures.err)

@@ -1,7 +1,7 @@
 -- At the limit only a number that is in use may be stored, and then the count stays.
 use Rattle.std.proofs.Common.{◌≡◌, true, false, is_some, sym, arith}
 use Rattle.std.proofs.lemmas.Result.{on_ok_weaker}
-use Rattle.pkbase.proofs.Stored.{as_many, at_most_one_more, one_more, recalled}
+use Rattle.pkbase.proofs.Stored.{as_many, at_most_one_more, if_absent, one_more, recalled}
 use Rattle.pkbase.proofs.numbered_map.NumberedMap.store_other_within.Goals as goal
 
 pub returns-then-len-most-clause-room : goal.returns-then-len-most-clause-room
@@ -28,3 +28,10 @@ returns-clause-room g c =
     let as_before = as_many c.args.self.now c.args.number c.args.value c.len.ensures.rising some in
     on_ok_weaker c.store_allowed-2.result (λ h. rw h (omega (arith, as_before, c.requires)))
     c.store_allowed-2.ensures.ok
+
+pub returns-then-len-most-clause-memory : goal.returns-then-len-most-clause-memory
+returns-then-len-most-clause-memory g c =
+    let more = at_most_one_more c.args.self.now c.args.number c.args.value c.len.ensures.rising in
+    let room = c.if-len-most.true in
+    if_absent c.store_allowed.result c.store_allowed.ensures.absent
+    (λ absent why same narrow. (absent narrow, omega (arith, more, room, c.len.ensures.value)))
