@@ -28,6 +28,7 @@ pub mod BehindStop
 pub mod Exclusive
 pub mod ExclusiveRows
 pub mod RefusedBehind
+pub mod SameImports
 pub mod EachSetting
 pub mod Unlisted
 pub mod NewRuns

@@ -7,6 +7,7 @@ ghost use Rattle.pkcheck.specs.Ends.{SameEvents, WellCarriesOver, WellIsFree};
 ghost use Rattle.pkcheck.specs.Exclusive.{OneBegins, RefusedBehind, YesExcludesNo};
 ghost use Rattle.pkcheck.specs.Exclusive.{YesOfRowExcludesNo};
 ghost use Rattle.pkcheck.specs.NewRuns.{FaultlessIsRun};
+ghost use Rattle.pkcheck.specs.SameImports.{SameImports};
 
 use pkmachine::laws::steps;
 use pkops::laws::{growth, one_answer};
@@ -29,6 +30,15 @@ pub fn yes_of_row_excludes_no()
 {
     growth();
     one_answer();
+    one_sequence();
+}
+
+/// Two yeses to the same bytes, whose runs begin alike, list the same imports, whatever permits
+/// them and whatever the limits are. So what a check of a pickle shows is what a guarded load
+/// imports.
+pub fn same_imports()
+    ensures { SameImports }
+{
     one_sequence();
 }
 
