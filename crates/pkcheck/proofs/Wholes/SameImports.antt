@@ -1,7 +1,8 @@
 -- Two yeses to the same bytes list the same imports: each says what every run imports at an
 -- instruction that some run reaches.
-use Rattle.std.proofs.Common.{◌≡◌, ◌≢◌, ℕ, List, [], ◌∷◌, ◌++◌, length, Option, Some, None, inl, inr}
+use Rattle.std.proofs.Common.{◌≡◌, ◌≢◌, ℕ, List, [], ◌∷◌, ◌++◌, length, Option, Some, None}
 use Rattle.std.proofs.Common.{refl, sym, ap, subst, ◌∙◌, arith, append_assoc, length-append}
+use Rattle.std.proofs.Common.{inl, inr}
 use Rattle.std.proofs.lemmas.List.{append_cancel_left}
 use Rattle.pkops.specs.Payloads.{payload_limit}
 use Rattle.pkops.specs.Spelling.{Instruction}

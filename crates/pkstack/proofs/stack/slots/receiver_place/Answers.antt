@@ -11,7 +11,8 @@ use Rattle.pkstack.proofs.stack.slots.receiver_place.Goals as goal
 pub returns-in_default-slot-clause-err : goal.returns-in_default-slot-clause-err
 returns-in_default-slot-clause-err g c =
     let e = items_at_bar c.args.stack.now c.in-Some.place (c.in-Some.place - 1) _ (omega arith)
-    (omega (arith, c.in-Some.ensures.value.0)) 1 0 refl (sym c.index-stack-place.is ∙ sym c.slot.ensures ∙ c.in_default-slot.is) in (
+    (omega (arith, c.in-Some.ensures.value.0)) 1 0 refl
+    (sym c.index-stack-place.is ∙ sym c.slot.ensures ∙ c.in_default-slot.is) in (
       NoItem,
       receiver_missing c.args.rule (shown c.args.stack.now []) _ c.in-Some.ensures.value.1 NoItem e,
       refl,
@@ -20,7 +21,8 @@ returns-in_default-slot-clause-err g c =
 pub returns-in-Some-rule_fault-clause-err : goal.returns-in-Some-rule_fault-clause-err
 returns-in-Some-rule_fault-clause-err g c =
     let e = items_at_object c.args.stack.now c.in-Some.place (c.in-Some.place - 1) _ (omega arith)
-    (omega (arith, c.in-Some.ensures.value.0)) 1 0 _ refl (sym c.index-stack-place.is ∙ sym c.slot.ensures ∙ c.in-Object.is) in
+    (omega (arith, c.in-Some.ensures.value.0)) 1 0 _ refl
+    (sym c.index-stack-place.is ∙ sym c.slot.ensures ∙ c.in-Object.is) in
     let f = c.in-Some-rule_fault.ensures in
     let by = breaks_by_count c.args.rule (values_of (drop c.in-Some.place c.args.stack.now)) _
     (omega (arith, c.in-Some.ensures.count)) in (
@@ -33,7 +35,8 @@ returns-in-Some-rule_fault-clause-err g c =
 pub returns-in-None-clause-ok : goal.returns-in-None-clause-ok
 returns-in-None-clause-ok g c =
     let e = items_at_object c.args.stack.now c.in-Some.place (c.in-Some.place - 1) _ (omega arith)
-    (omega (arith, c.in-Some.ensures.value.0)) 1 0 _ refl (sym c.index-stack-place.is ∙ sym c.slot.ensures ∙ c.in-Object.is) in (
+    (omega (arith, c.in-Some.ensures.value.0)) 1 0 _ refl
+    (sym c.index-stack-place.is ∙ sym c.slot.ensures ∙ c.in-Object.is) in (
       omega (arith, c.in-Some.ensures.value.0),
       receiver_fits c.args.rule
           (shown c.args.stack.now []) _ c.in-Some.ensures.value.1 _ e
@@ -44,5 +47,6 @@ returns-in-None-clause-ok g c =
 pub returns-in-None-clause-marks : goal.returns-in-None-clause-marks
 returns-in-None-clause-marks g c =
     let e = marks_over_object c.args.stack.now c.in-Some.place (c.in-Some.place - 1) _ _
-    (omega arith) (omega (arith, c.in-Some.ensures.value.0)) (sym c.index-stack-place.is ∙ sym c.slot.ensures ∙ c.in-Object.is) in
+    (omega arith) (omega (arith, c.in-Some.ensures.value.0))
+    (sym c.index-stack-place.is ∙ sym c.slot.ensures ∙ c.in-Object.is) in
     rw (← e) c.in-Some.ensures.marks

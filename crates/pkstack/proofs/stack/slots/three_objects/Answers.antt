@@ -10,4 +10,6 @@ pub returns-in_default-slot : goal.returns-in_default-slot
 returns-in_default-slot g c =
     let found = c.in-Some.ensures in
     mark_below c.args.slots.now c.in-Some.second (c.in-Some.second - 1) 3 _ (omega (arith, found.0))
-    (omega (arith, found.0)) (sym c.index-slots-second.is ∙ sym c.slot.ensures ∙ c.in_default-slot.is) found.1 (omega (arith, found.0))
+    (omega (arith, found.0))
+    (sym c.index-slots-second.is ∙ sym c.slot.ensures ∙ c.in_default-slot.is)
+    found.1 (omega (arith, found.0))

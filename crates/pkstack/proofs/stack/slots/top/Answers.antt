@@ -9,4 +9,5 @@ returns-in_default g c = top_mark c.args.slots.now _ (search (rules, c.if-is_emp
 
 pub returns : goal.returns
 returns g c = top_object c.args.slots.now _ c.in-Object.value
-    (search (rules, c.if-is_empty.ensures)) (sym c.index-slots-slots.is ∙ sym c.slot.ensures ∙ c.in-Object.is)
+    (search (rules, c.if-is_empty.ensures))
+    (sym c.index-slots-slots.is ∙ sym c.slot.ensures ∙ c.in-Object.is)

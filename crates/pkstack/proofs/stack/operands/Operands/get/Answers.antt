@@ -22,7 +22,8 @@ pub loop-slot-preserved : goal.loop-slot-preserved
 loop-slot-preserved g c =
     elim c.match-slot.branch [
       | in-Object+else-before-index w ↦ let e = count_object c.self.inside.slots.now
-          c.loop-slot.slot-index _ _ (omega arith) (sym c.slot-item.is ∙ sym c.slot.ensures ∙ w.in-Object.is) in (
+          c.loop-slot.slot-index _ _ (omega arith)
+          (sym c.slot-item.is ∙ sym c.slot.ensures ∙ w.in-Object.is) in (
             omega (arith, w.before-is),
             omega (arith, w.before-is, w.if-before-index.false),
             omega (arith, w.before-is, e),
