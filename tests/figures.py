@@ -86,6 +86,7 @@ class Figure(NamedTuple):
 
 GUARD, BUDGET = "python/storklocker/_guard.py", "python/storklocker/scanning/budget.py"
 LIMITS, SCANNING = "crates/pkops/src/limits.rt", "docs/SCANNING.md"
+CALLED = "python/storklocker/scanning/called.py"
 FORESEEING = "python/storklocker/scanning/foreseeing.py"
 FIGURES = [
     Figure("docs/PYTHON.md", r"max_bytes=(\d+ << \d+)", GUARD, r"(?m)^MAX_BYTES = (.+)$"),
@@ -104,12 +105,8 @@ FIGURES = [
     Figure(SCANNING, r"([\d,]+) pickles", BUDGET, r"(?m)^PICKLES = (.+)$"),
     Figure(SCANNING, r"([\d,]+) steps", BUDGET, r"(?m)^STEPS = (.+)$"),
     Figure(SCANNING, r"(\d+ MiB) unpacked", BUDGET, r"UNPACKED = (\d+ << \d+),"),
-    Figure(
-        SCANNING,
-        r"more than (\d+ MiB)",
-        "python/storklocker/scanning/called.py",
-        r"(?m)^LARGEST = (.+)$",
-    ),
+    Figure(SCANNING, r"more than (\d+ MiB)", CALLED, r"(?m)^LARGEST = (.+)$"),
+    Figure(SCANNING, r"up to (\d+ MiB)", CALLED, r"(?m)^LARGEST = (.+)$"),
     Figure(SCANNING, r"([\d,]+) different", FORESEEING, r"(?m)^_MOST, _MOST_READ = \S+ (.+)$"),
     Figure("docs/FORMATS.md", r"`counted`: [^|]+\| ([\d,]+)", LIMITS, r"  counted: ([\d_]+)"),
     Figure("docs/FORMATS.md", r"`passed`: [^|]+\| ([\d,]+)", LIMITS, r"  passed: ([\d_]+)"),
