@@ -15,6 +15,7 @@ import platform
 import resource
 import sys
 from pathlib import Path
+from pickle import UnpicklingError
 
 sys.path[:0] = [str(Path(__file__).resolve().parent)]
 
@@ -22,7 +23,7 @@ import honest  # noqa: E402
 import shapes  # noqa: E402
 from children import SECONDS, Children, begin, is_here  # noqa: E402
 from mutating import Mutator  # noqa: E402
-from storklocker import Guard, Refused, lists  # noqa: E402
+from storklocker import Guard, lists  # noqa: E402
 
 BATCH = 250
 """How many pickles a child loads."""
@@ -37,8 +38,9 @@ def run(name, asked):
     load = honest.loader(name, Guard(allow))
     pairs = [pair for pair in allow if is_here(pair)]
     for data in held:  # (has everything imported that a load needs)
-        # (some exceptions raise it, under `pickle` too; and some enums are pickled by `getattr`)
-        with contextlib.suppress(TypeError, Refused):
+        # (some exceptions raise it, under `pickle` too; some enums are pickled by `getattr`; and a
+        # checkpoint lacks some storages, or has other indices)
+        with contextlib.suppress(TypeError, UnpicklingError, RuntimeError):
             load(data)
     mutator = Mutator(held, pairs, shapes.fragments())
     children = Children(load, pairs, asked.seconds, BATCH)
