@@ -53,8 +53,8 @@ PICKLES = {
     "items of an exception": ("EXCEPTIONS", VALUE + b"(K\1e"),
     "places": ("EXCEPTIONS", name("builtins", "UnicodeEncodeError") + b"(" + text("utf-8")
                + text("x") + whole(-(10**15)) + whole(1) + text("why") + b"tR"),
-    "the name of an attribute": ("EXCEPTIONS", name("builtins", "AttributeError") + b")R"
-                                 + state(obj=b"]", name=b"]")),
+    "the name of a module": ("EXCEPTIONS", name("builtins", "ImportError") + b")R"
+                             + state(name=b"]")),
     "a member of a rope": ("ENUM", name("http", "HTTPStatus") + ROPE + b"\x85R"),
     "an item of cookies": ("DJANGO", COOKIE + text("a") + b"K\1s"),
     "an item of a cookie": ("DJANGO", MORSEL + text("a") + ROPE + b"s"),
