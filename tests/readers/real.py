@@ -7,6 +7,7 @@ of JSON for each: the pairs of a reader and a name that it asked for.
 
 import bz2
 import gzip
+import inspect
 import io
 import json
 import lzma
@@ -177,8 +178,11 @@ def libraries():
     try:
         import torch
 
-        found["torch"] = lambda data: torch.load(io.BytesIO(data))
-        found["torch file"] = lambda data: torch.load(put(data))
+        # (since 2.6 it loads only weights, unless it is told not to; before 1.13 it can't be told)
+        is_told = "weights_only" in inspect.signature(torch.load).parameters
+        words = {"weights_only": False} if is_told else {}
+        found["torch"] = lambda data: torch.load(io.BytesIO(data), **words)
+        found["torch file"] = lambda data: torch.load(put(data), **words)
     except ImportError:
         pass
     return found
