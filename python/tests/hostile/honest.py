@@ -117,8 +117,10 @@ def loader(name, guard):
     """What loads a pickle as those who use a list do."""
     if name not in TORCH:
         return lambda data: guard.loads(data, buffers=iter(BUFFERS * 8))
+    import torch
     from storklocker.contrib.torch import load_torch
 
+    torch.set_num_threads(1)  # (a forked process waits for those that it lacks)
     return lambda data: load_torch(_zipped(data), guard)
 
 
