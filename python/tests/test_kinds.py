@@ -1,13 +1,23 @@
 """What files are in which no reading finds a pickle."""
 
+import contextlib
 import io
 import json
+import pathlib
 import pickle
+import random
+import shutil
+import socket
 import struct
+import subprocess
+import tempfile
+import time
 import unittest
+import zlib
 
 from storklocker.scanning.judging import Question, reports_of
 from storklocker.scanning.kinds import is_safetensors
+from storklocker.scanning.redis_dumps import unpacked_by_lzf
 from storklocker.scanning.severity import DANGER, UNRECOGNIZED
 from storklocker.scanning.source import in_memory
 from storklocker.scanning.summary import Summary
@@ -90,11 +100,66 @@ class Kinds(unittest.TestCase):
             ("ZODB", lambda data: b"FS21" + bytes(40) + data),
             ("SequenceFile", lambda data: b"SEQ\6\x21org.apache.hadoop.io" + bytes(40) + data),
             ("msgpack-numpy", lambda data: b"\x85\xc4\2nd\xc3\xc4\4kind\xc4\1O" + data),
+            ("Redis", lambda data: b"REDIS0010\0\1k" + bytes([len(data)]) + data),
+            ("Redis, a log", lambda data: b"*3\r\n$3\r\nSET\r\n$1\r\nk\r\n$99\r\n" + data),
         ):
             bad = [it.severity for report in told(make(EVIL)) for it in report.findings]
             self.assertIn(DANGER, bad, name)
             good = [it for report in told(make(GOOD)) for it in report.findings]
             self.assertEqual([], good, name)
+
+    @unittest.skipUnless(shutil.which("redis-server"), "redis-server isn't here")
+    def test_what_redis_keeps(self):
+        """The control asks Redis itself, which has read its files again."""
+        data = EVIL[:-1] + b"0X\x50\0\0\0" + b"abcd" * 20 + b"."
+        with tempfile.TemporaryDirectory() as folder:
+            with redis(folder) as ask:
+                ask(b"SET", b"other", b"some text, " * 9)
+                ask(b"SET", b"packed", data)
+                ask(b"HSET", b"job", b"data", zlib.compress(data))
+                ask(b"SAVE")
+            with redis(folder) as ask:
+                self.assertEqual(ask(b"GET", b"packed"), data)
+                self.assertEqual(zlib.decompress(ask(b"HGET", b"job", b"data")), data)
+            dump = pathlib.Path(folder, "dump.rdb").read_bytes()
+        self.assertNotIn(data, dump)
+        reports = told(dump)
+        kinds = {report.kind for report in reports if ("posix", "system") in report.imports}
+        self.assertLessEqual({"Redis, packed", "dump of Redis, packed"}, kinds)
+        self.assertIn(DANGER, {it.severity for report in reports for it in report.findings})
+
+    def test_what_looks_packed_by_redis(self):
+        chosen = random.Random(1)
+        for _ in range(300):
+            data = bytes(chosen.choice((0xC3, 3, 32, 64, 0xE0, 9)) for _ in range(200))
+            made, end = unpacked_by_lzf(data, 150)
+            self.assertLessEqual(end, len(data) + 33)
+            self.assertLess(len(made), 150 + 264)
+            self.assertFalse([it for it in told(b"REDIS0010" + data) if it.is_finding])
+
+
+@contextlib.contextmanager
+def redis(folder):
+    """Redis with the files of a folder, as a function that asks it."""
+    path = pathlib.Path(folder, "socket")
+    words = ["--port", "0", "--unixsocket", str(path), "--dir", folder, "--save", ""]
+    with subprocess.Popen(["redis-server", *words], stdout=subprocess.DEVNULL) as server:
+        while not path.exists() and server.poll() is None:
+            time.sleep(0.01)
+        with socket.socket(socket.AF_UNIX) as opened, opened.makefile("rb") as file:
+            opened.connect(str(path))
+
+            def ask(*asked):
+                parts = [b"$%d\r\n%b\r\n" % (len(it), it) for it in asked]
+                opened.sendall(b"*%d\r\n%b" % (len(parts), b"".join(parts)))
+                line = file.readline()
+                return file.read(int(line[1:]) + 2)[:-2] if line[:1] == b"$" else line
+
+            try:
+                yield ask
+            finally:
+                server.kill()
+    path.unlink()
 
 
 if __name__ == "__main__":

@@ -2,12 +2,14 @@
 
 import base64
 import bz2
+import dbm.dumb
 import gzip
 import hashlib
 import json
 import lzma
 import pathlib
 import pickle
+import quopri
 import random
 import sqlite3
 import struct
@@ -15,9 +17,13 @@ import sys
 import tempfile
 import unittest
 import unittest.mock
+import urllib.parse
 import zlib
 
 from storklocker import AllowList
+from storklocker.scanning.files import File
+from storklocker.scanning.judging import Question
+from storklocker.scanning.scan import scan_file
 from storklocker.scanning.severity import UNREADABLE
 from test_readings import reports
 
@@ -59,6 +65,15 @@ def twice(pack):
     return lambda data: pack(data[:5]) + pack(data[5:])
 
 
+def of_named(value):
+    return zlib.decompress(value.partition(b":")[2])
+
+
+def raw(data):
+    packer = zlib.compressobj(wbits=-15)
+    return packer.compress(data) + packer.flush()
+
+
 B64, UN64 = base64.b64encode, base64.b64decode
 FORMS = {
     "Base64": (B64, UN64),
@@ -88,12 +103,34 @@ FORMS = {
         lambda data: B64(hashlib.sha1(data).hexdigest().encode() + b":" + data),
         lambda value: UN64(value).split(b":", 1)[1],
     ),
+    "Base32": (base64.b32encode, base64.b32decode),
+    "Base85": (base64.b85encode, base64.b85decode),
+    "Ascii85": (base64.a85encode, base64.a85decode),
+    "Ascii85 of Adobe": (
+        lambda data: base64.a85encode(data, adobe=True),
+        lambda value: base64.a85decode(value, adobe=True),
+    ),
+    "Base85, zlib": (
+        lambda data: base64.b85encode(zlib.compress(data)),
+        lambda value: zlib.decompress(base64.b85decode(value)),
+    ),
+    "quoted-printable": (quopri.encodestring, quopri.decodestring),
+    "percent": (
+        lambda data: urllib.parse.quote(data).encode(), urllib.parse.unquote_to_bytes
+    ),
     "JSON": (lambda data: json.dumps({"n": 1, "body": B64(data).decode()}).encode(), of_body),
     "a character for a byte": (
         lambda data: data.decode("latin-1").encode(), lambda value: value.decode().encode("latin-1")
     ),
 }
 """How each is made, and how a program reads it."""
+BEHIND = {
+    "zlib behind a name": (lambda data: b"zlib:" + zlib.compress(data), of_named),
+    "gzip behind a number": (
+        lambda data: bytes(8) + gzip.compress(data), lambda value: gzip.decompress(value[8:])
+    ),
+}
+"""What has more in front of it."""
 
 
 class Packed(unittest.TestCase):
@@ -123,6 +160,30 @@ class Packed(unittest.TestCase):
                     found = reports(self.base([b"text", pack(data)], encoding), AllowList([]))
                     names = {it for report in found for it in report.imports}
                     self.assertIn(("colorsys", "rgb_to_hls"), names, (name, data, encoding))
+
+    def test_deflated_ones_without_a_header(self):
+        """Of protocol 2 and later: any bytes may begin so."""
+        for data in EVIL[:2]:
+            self.assertEqual(zlib.decompress(raw(data), -15), data)
+            found = reports(self.base([b"text", raw(data)]), AllowList([]))
+            names = {it for report in found for it in report.imports}
+            self.assertIn(("colorsys", "rgb_to_hls"), names, data)
+        found = reports(self.base([raw(it) for it in HONEST]), AllowList([]))
+        self.assertFalse(any(it.is_finding for it in found), found[:3])
+
+    def test_stores_that_are_looked_through(self):
+        """Values whose letters aren't one run, or which are spelled in others, are told by SQLite
+        alone.
+        """
+        for name, (pack, unpack) in {**FORMS, **BEHIND}.items():
+            for make in (in_zodb, in_gdbm, in_dumb) if name not in IN_SQLITE else ():
+                for data in EVIL[:2]:
+                    self.assertTrue(unpack(pack(data)).startswith(data), name)
+                    found = make([b"text", pack(data), HONEST[4]], AllowList([]))
+                    names = {it for report in found for it in report.imports}
+                    self.assertIn(("colorsys", "rgb_to_hls"), names, (name, make, data))
+                found = make([b"text", *map(pack, HONEST)], AllowList([]))
+                self.assertFalse(any(it.is_finding for it in found), (name, found[:3]))
 
     def test_honest_ones_are_no_finding(self):
         for name, (pack, _) in FORMS.items():
@@ -156,6 +217,30 @@ class Packed(unittest.TestCase):
             told = [it for report in found for it in report.findings]
             self.assertEqual([it.kind for it in told], ["unread-pickles"], value)
             self.assertEqual({it.severity for it in told}, {UNREADABLE}, value)
+
+
+IN_SQLITE = (
+    *(it for it in FORMS if it.startswith(("other bytes", "letters of", "Base32", "Base85"))),
+    *("Ascii85", "Ascii85 of Adobe", "quoted-printable", "percent", "a character for a byte"),
+    *("Base16, spaces", "LZMA", "behind the end"),
+)
+
+
+def in_zodb(values, allow):
+    return reports(b"FS21" + bytes(40) + b"\0\1 ".join(values) + b"\0", allow)
+
+
+def in_gdbm(values, allow):
+    return reports(b"\xce\x9a\x57\x13" + bytes(60) + b"\0key\0".join(values) + b"\0", allow)
+
+
+def in_dumb(values, allow):
+    with tempfile.TemporaryDirectory() as folder:
+        path = pathlib.Path(folder, "base")
+        with dbm.dumb.open(str(path), "n") as base:
+            for number, data in enumerate(values):
+                base[b"key %d" % number] = data
+        return list(scan_file(File(str(path.with_suffix(".dat"))), Question(allow)))
 
 
 def text_of(data):

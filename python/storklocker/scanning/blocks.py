@@ -61,6 +61,7 @@ FIRST = 1 << 12
 _SEARCHED_AT = 16
 """For so many bytes in one step the patterns are looked for."""
 _STEP = 1 << 16
+"""So many places of a block are its own: the bytes behind them show what begins there."""
 _WALKED, _LEAST, _TIMES = 1 << 18, 16, 3
 """So many bytes of a block are walked through for what isn't a whole value, each for this many at
 the least; and how often whole values are looked for.
@@ -80,10 +81,12 @@ class Block:
     are those in the source.
 
     plain: where plain values begin that are told later, and where each ends.
+    shown: the bytes without what is in these.
+    gap: the most bytes between two of these.
     end: behind what was found so far.
     """
 
-    end = 0
+    end, size = 0, _STEP
 
     def __init__(self, start: int, data: bytes, is_hiding: bool, values: Values) -> None:
         self.start, self.data, self.values = start, data, values
@@ -98,6 +101,7 @@ class Block:
         self._groups: List[Tuple[Sequence[_Part], int]] = []
         self._taken: Set[int] = set()
         self._quiet = self._passed_over = 0
+        self.shown, self.gap = data, len(data)
         self._walks = _WALKED
 
     def look_ahead(self, known: Iterable[_Part]) -> None:
@@ -213,7 +217,9 @@ class Block:
         these values.
         """
         start, plain = self.start, self.plain if are_passed else {}
-        texts = texts_in(self.data if is_all or not self.plain else self._outside())
+        if self.plain and self.shown is self.data:
+            self.shown = self._outside()
+        texts = texts_in(self.data if is_all else self.shown)
         places = [(start + at, False) for at in self._begun if start + at not in plain]
         places += [(start + at, True) for at in texts if at < _STEP]
         places.sort()
@@ -222,12 +228,15 @@ class Block:
     def _outside(self) -> bytes:
         """The block without what is in plain values, as far as a text in front doesn't need it."""
         made, before = bytearray(self.data), 0
+        self.gap = 0
         for start, end in sorted(self.plain.items()):
             at, end = start - self.start, end - self.start
+            self.gap = max(self.gap, at - before)
             if _BEFORE.search(self.data, max(before, at - _REACH), at):
                 at = min(at + _AFTER, end)
             made[at:end] = _NOTHING[: end - at]
             before = end
+        self.gap = max(self.gap, min(len(made), _STEP) - before)
         return bytes(made)
 
 

@@ -10,6 +10,7 @@ from typing import Any, Dict, List, Optional, Tuple
 
 from .marks import RECORDS
 from .readings import Found, Piece, Place, is_text
+from .redis_dumps import packed_strings
 from .severity import UNRECOGNIZED
 from .source import BLOCK, Source
 from .stores import imports_at, is_value, searched
@@ -29,10 +30,13 @@ RECOGNIZED: Tuple[Tuple[bytes, str], ...] = (
 )
 """How files begin that are known to hold no pickle, and what they are."""
 
+REDIS = "dump of Redis"
 STORES: Tuple[Tuple[bytes, str], ...] = (
     (rb"FS(?:21|20|30)", "Data.fs of ZODB"),
     (rb"SEQ[\4-\6]", "SequenceFile of Hadoop"),
     (rb"[\x81-\x8f\xde].{0,9}(?:\xa2|\xc4\x02)nd\xc3", "msgpack of msgpack-numpy"),
+    (rb"REDIS[0-9]{4}", REDIS),
+    (rb"\*[1-9][0-9]{0,9}\r\n\$[0-9]", "append-only file of Redis"),
 )
 """How files begin that are looked through for pickles."""
 
@@ -56,6 +60,8 @@ def stored_reading(place: Place) -> Found:
     for begun, name in _STORED:
         if begun.match(front):
             yield from searched(place, name)
+            if name == REDIS:
+                yield from packed_strings(place)
             return True
     return False
 

@@ -32,7 +32,7 @@ READERS = (
     "dbm.dumb",  # the first, because it says where the pickles are
     *("pickle", "cachelib", "distcp", "npy", "tar", "gzip", "bzip2", "xz", "lzma", "zlib", "ZF"),
     *("packed file", "SQLite", "Berkeley DB", "HDF5", "GDBM", "LMDB", "Arrow", "Parquet"),
-    "other stores",  # of ZODB, Hadoop, logging and msgpack-numpy
+    "other stores",  # of ZODB, Hadoop, logging, msgpack-numpy and Redis
     "zip",  # the last, because it leaves out what a member holds
 )
 """What all readers read, in the order in which they are asked."""
@@ -64,7 +64,7 @@ MARKED: Dict[str, bytes] = {
     "Berkeley DB": b".{12}(?:%b)" % b"|".join(map(re.escape, BERKELEY_ORDERS)),
     "LMDB": b".{16}" + LMDB,
     "other stores": RECORDS + rb"|FS(?:21|20|30)|SEQ[\4-\6]"
-    rb"|[\x81-\x8f\xde].{0,9}(?:\xa2|\xc4\x02)nd\xc3",
+    rb"|[\x81-\x8f\xde].{0,9}(?:\xa2|\xc4\x02)nd\xc3|REDIS|\*[1-9]",
 }
 """A pattern of the first bytes of all files that a reader takes."""
 

@@ -30,11 +30,14 @@ from .readings import Found, Piece, Place, Reading, is_text
 from .source import BLOCK, Source, in_memory
 from .spelled import LENGTHS
 from .trails import Trail, Trails
+from .value_packing import packed_in
 from .values import Values
 
 if TYPE_CHECKING:
     from .._pairs import Names
 
+_APART, _LEAST = ("HDF5", "SQLite"), 16
+"""What is unpacked in other ways; and the fewest bytes of what is packed and imports something."""
 _NEAR = 64
 """How many bytes in front of a trail are tried as the beginning of its pickle."""
 _MOST, _FOOTER = 1 << 20, 1 << 20
@@ -101,9 +104,23 @@ def searched(
                 yield from _looked_at(place, kind, at, block, end_of)
         block.count()
         end = block.end
+        if not kind.startswith(_APART) and block.gap >= _LEAST:
+            yield from _packed(place, kind, block)
     for trail in trails.followed(source.size):
         yield _piece(place, kind, _start_of(trail, place))
     yield from values.told()
+    return True
+
+
+def _packed(place: Place, kind: str, block: Block) -> Found:
+    """The values that are packed, each as a whole, and begin in a block."""
+    source, budget = place.source, place.budget
+    for at, made in packed_in(source, block.start, block.shown, block.size, budget):
+        if not made.size or not is_value(made, budget):
+            continue
+        if made.size > BLOCK or block.values.taken(made.front()) != made.size:
+            where = f"{place.path}!at {block.start + at}"
+            yield Piece(where, f"{kind}, packed", made, True, 1, is_remnant=True)
     return True
 
 

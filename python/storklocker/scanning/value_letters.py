@@ -1,13 +1,15 @@
 """Values that are spelled in letters: by Base64, as Django's caches and sessions have them, by
-Base16, or with a character for each byte.
+Base16, 32 or 85, or with a character for each byte.
 """
 
 from __future__ import annotations
 
+import base64
 import binascii
 import pickletools
 import re
-from typing import Dict, Iterator, List
+import urllib.parse
+from typing import Callable, Dict, FrozenSet, Iterator, List, Pattern, Tuple
 
 _LETTERS = b"ABCDEFGHIJKLMNOPQRSTUVWXYZabcdefghijklmnopqrstuvwxyz0123456789+/"
 _ANY, _STRAY = rb"[A-Za-z0-9+/_-]", rb"[^A-Za-z0-9+/]*"
@@ -62,9 +64,58 @@ _OF_DIGITS = rb"(?:[MNOYZ][2DGTWjmz]%b{2}){9}" % _ANY
 """Digits of Base16, in Base64."""
 _LETTER, _FRONT = re.compile(rb"[A-Za-z0-9+/]"), re.compile(_fronts(_STRAY))
 _RUN = re.compile(rb"%b{16,}={0,2}" % _ANY)
-_RUN_FRONT = re.compile(rb"%b|%b" % (_fronts(b""), _OF_DIGITS))
-"""Base64 that stands in a text."""
+_RUN_FRONT = re.compile(rb"%b|%b|80(?:0[0-5])%b" % (_fronts(b""), _OF_DIGITS, _DIGIT * 9))
+"""Base64 that stands in a text, or digits of PROTO and more."""
+_FRONTS = (*_PROTOCOLS, *_STREAMS, b"c", b"(")
+"""How a pickle begins, if most do, and what is packed."""
+_Read = Callable[[bytes], bytes]
+
+
+def _heads(letters: bytes, base: int, width: int, count: int) -> FrozenSet[bytes]:
+    """The first letters, so many, of what begins like a pickle or packed, if so many bytes are
+    digits to a base.
+    """
+    digits, found = 1, set()
+    while base**digits < 1 << 8 * width:
+        digits += 1
+    for front in _FRONTS:
+        ends = (int.from_bytes(front[:width].ljust(width, it), "big") for it in (b"\0", b"\xff"))
+        first, last = (it // base ** (digits - count) for it in ends)
+        for number in range(first, last + 1):
+            places = (number // base**place % base for place in reversed(range(count)))
+            found.add(bytes(letters[it] for it in places))
+    return frozenset(found)
+
+
+def _base32_of_hex(data: bytes) -> bytes:
+    return base64.b32decode(data.translate(_BASE32_OF_HEX))
+
+
+def _ascii85(data: bytes) -> bytes:
+    return base64.a85decode(data, adobe=data.startswith(b"<~"))
+
+
+_DIGITS32, _DIGITS85 = b"0123456789ABCDEFGHIJKLMNOPQRSTUV", bytes(range(33, 33 + 85))
+_LETTERS32 = b"ABCDEFGHIJKLMNOPQRSTUVWXYZ234567"
+_LETTERS85 = b"0123456789" + _LETTERS[:26] + _LETTERS[26:52] + b"!#$%&()*+-;<=>?@^_`{|}~"
+_BASE32_OF_HEX = bytes.maketrans(_DIGITS32, _LETTERS32)
+_OTHERS: Tuple[Tuple[FrozenSet[bytes], int, _Read], ...] = (
+    (_heads(_LETTERS32, 32, 5, 3), 3, lambda data: base64.b32decode(data, True)),
+    (_heads(_LETTERS32.lower(), 32, 5, 3), 3, lambda data: base64.b32decode(data, True)),
+    (_heads(_DIGITS32, 32, 5, 3), 3, _base32_of_hex),
+    (_heads(_LETTERS85, 85, 4, 2), 2, base64.b85decode),
+    (_heads(_DIGITS85, 85, 4, 2), 2, _ascii85),
+    (frozenset(b"<~" + it for it in _heads(_DIGITS85, 85, 4, 2)), 4, _ascii85),
+)
+"""Other ways in which all of a value may be spelled: its first letters, and what reads it."""
+_ESCAPES: Tuple[Tuple[Pattern[bytes], _Read], ...] = (
+    (re.compile(rb"[^=]{0,16}=(?:\r?\n)?[0-9A-Fa-f]{2}"), binascii.a2b_qp),
+    (re.compile(rb"[^%]{0,16}%[0-9A-Fa-f]{2}"), urllib.parse.unquote_to_bytes),
+)
+"""Ways in which some bytes are escaped: how the first are, and what reads them."""
 _LONG = re.compile(rb"%b{16}" % _ANY)
+_SHORTEST = b"A" * 16
+_AS_LETTERS = bytes(_SHORTEST[0] if re.match(_ANY, bytes([it])) else 0 for it in range(256))
 _WHOLE = re.compile(rb"[A-Za-z0-9+/_\r\n-]{8,}={0,2}\s*")
 """Nothing but Base64, in which Base64 may be packed again."""
 _NO_TEXT, _SOON = re.compile(rb"[\0-\x08\x0e-\x1f\x7f]"), 256
@@ -93,7 +144,17 @@ def may_hold(data: bytes, at: int, end: int) -> bool:
         return True
     if _NO_TEXT.search(data, at, min(end, at + _SOON)):
         return False
-    return any(_RUN_FRONT.match(data, it.start()) for it in _RUN.finditer(data, at, end))
+    return any(True for _ in runs_in(data[at:end]))
+
+
+def runs_in(data: bytes, end: int = 1 << 62) -> Iterator[Tuple[int, bytes]]:
+    """The letters that may spell a pickle and begin in front of an end, and where they begin."""
+    first = data.translate(_AS_LETTERS).find(_SHORTEST, 0, end + len(_SHORTEST))
+    for it in _RUN.finditer(data, first) if first >= 0 else ():  # (a pattern takes far longer)
+        if it.start() >= end:
+            break
+        if _RUN_FRONT.match(data, it.start()):
+            yield it.start(), it.group()
 
 
 def is_whole(data: bytes) -> bool:
@@ -107,13 +168,13 @@ def of_letters(data: bytes, is_text: bool) -> Iterator[bytes]:
     if may_begin(data, 0, len(data)) or is_whole(data):
         texts[data] = None
     if is_text:
-        runs = (it.group() for it in _RUN.finditer(data))
-        texts.update((it, None) for it in runs if _RUN_FRONT.match(it))
+        texts.update((run, None) for _, run in runs_in(data))
     for text in texts:
         for made in of_base64(text):
             signed = _SIGNED.match(made)
             yield made[signed.end() :] if signed else made
     yield from _of_base16(data)
+    yield from of_others(data)
     if _BYTES.search(data):
         try:
             yield data.decode().encode("latin-1")
@@ -132,6 +193,22 @@ def of_base64(text: bytes) -> Iterator[bytes]:
                 break
             except binascii.Error:
                 continue
+
+
+def of_others(data: bytes) -> Iterator[bytes]:
+    """What Base32, Base85, quoted-printable and their like make of a value, if it may be a pickle
+    or packed.
+    """
+    text = data.strip()
+    reads = [read for heads, count, read in _OTHERS if text[:count] in heads]
+    reads += [read for begun, read in _ESCAPES if begun.match(data)]
+    for read in reads:
+        try:
+            made = read(text)
+        except ValueError:
+            continue
+        if made.startswith(_FRONTS):
+            yield made
 
 
 def _of_base16(data: bytes) -> Iterator[bytes]:

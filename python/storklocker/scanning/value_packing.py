@@ -8,14 +8,17 @@ import re
 import zlib
 from typing import Any, Callable, Iterator, Optional, Tuple
 
-from .budget import LOOKED_AT, Budget
+from .budget import LOOKED_AT, STEP, Budget
 from .names import NOTHING, imports_within
 from .packed import UNREAD, streams_at, unpack
 from .reaching import READERS_STOP
 from .readings import is_text
+from .rows import CLAIM
 from .source import Source, in_memory
 from .spelled import LENGTHS
-from .value_letters import ZLIB_FRONTS, is_whole, may_begin, may_hold, of_letters
+from .value_letters import (
+    ZLIB_FRONTS, is_whole, may_begin, may_hold, of_letters, of_others, runs_in
+)
 
 _STREAM = re.compile(
     rb"\x1f\x8b\x08|BZh[1-9]|\xfd7zXZ\0|[\0-\xe0].{4}(?:\xff{8}|.{4}[\0-\x3f]\0{3})"
@@ -32,6 +35,25 @@ _IMPORTING = re.compile(_IMPORTS.pattern + rb"|[A-Za-z0-9+/_-]{16}")
 _BY_LINES = (b"c", b"i", b"")
 """Instructions of which readers take more than the checker."""
 _Stream = Tuple[str, Callable[[], Any], int]
+_ANYWHERE = tuple(
+    re.compile(begun, re.DOTALL)
+    for begun in (
+        *(b"%b[%b]" % (re.escape(first), re.escape(b"".join(it[1:] for it in ZLIB_FRONTS
+                                                             if it[:1] == first)))
+          for first in sorted({it[:1] for it in ZLIB_FRONTS})),
+        rb"\x1f\x8b\x08",
+        rb"BZh[1-9]1AY&SY",
+        rb"\xfd7zXZ\0",
+        rb"\]\0\0.{2}(?:\xff{8}|.{4}[\0-\x3f]\0{3})",
+    )
+)
+"""How streams begin that are looked for anywhere: a pattern each, because the search for a first
+byte is fast.
+"""
+_GOING_ON, _LINES = (b"", b"\r", b"\n"), re.compile(rb"[A-Za-z0-9+/_\r\n-]+={0,2}")
+"""What is behind letters that may go on: the end of a block, or that of a line."""
+_TRIED, _LONGEST_RUN = 64, 1 << 20
+"""So many bytes are tried of what may be a stream of zlib's; and the most letters of a value."""
 _PLAIN, _DEFLATED = b"gA", (b"\x78\x9c", b"\x78\x01", b"\x78\x5e", b"\x78\xda")
 """How a pickle begins in Base64, and what zlib packs."""
 _SHORT = 1 << 12
@@ -51,7 +73,10 @@ def is_packed(data: bytes, at: int, end: int) -> bool:
     """Whether a value may be packed as a whole."""
     if _STREAM.match(data, at, end):
         return True
-    return may_begin(data, at, end) and any(map(_may_go_on, of_letters(data[at:end], False)))
+    if may_begin(data, at, end) and any(map(_may_go_on, of_letters(data[at:end], False))):
+        return True
+    made = any(map(_may_go_on, of_others(data[at:end])))
+    return made or _deflated(data[at:end]) is not None
 
 
 def _may_go_on(data: bytes) -> bool:
@@ -75,6 +100,54 @@ def unpacked(source: Source, budget: Budget, depth: int = _DEPTH) -> Iterator[So
             if front[0] in LENGTHS:
                 yield made
             yield from unpacked(made, budget, depth - 1)
+
+
+def packed_in(
+    source: Source, start: int, block: bytes, end: int, budget: Budget
+) -> Iterator[Tuple[int, Source]]:
+    """What may be unpacked of what begins in a block of a store, in front of an end: where that is,
+    and what it unpacks to.
+    """
+    for begun in _ANYWHERE:
+        for found in begun.finditer(block):
+            at = found.start()
+            if at >= end:
+                break
+            budget.spend(3)
+            if _is_begun(block[at : at + _TRIED]):
+                budget.spend()
+                for first in streams_at(block[at : at + _HEADER]):
+                    part = source.part(start + at, source.size)
+                    yield from ((at, it) for it in _deeper(part, first, budget))
+    for at, run in runs_in(block, end):
+        budget.spend(STEP + len(run) // LOOKED_AT)
+        if any(map(_may_go_on, of_letters(run, True))):
+            more = block[at + len(run) : at + len(run) + 1] in _GOING_ON
+            lines = _LINES.match(source.read(start + at, _LONGEST_RUN)) if more else None
+            text = lines.group() if lines else run
+            yield from ((at, it) for it in unpacked(in_memory(io.BytesIO(text)), budget))
+
+
+def _is_begun(front: bytes) -> bool:
+    """Whether a stream may begin so: of zlib's, the first bytes show it."""
+    if not front.startswith(ZLIB_FRONTS):
+        return True
+    try:
+        zlib.decompressobj().decompress(front)
+    except zlib.error:
+        return False
+    return True
+
+
+def _deeper(source: Source, first: _Stream, budget: Budget) -> Iterator[Source]:
+    """What a stream at the front unpacks to, also again."""
+    try:
+        made = _unpacked(source, first, budget)
+    except ImportError:
+        return
+    if made.size and made.front()[0] in LENGTHS:
+        yield made
+    yield from unpacked(made, budget, _DEPTH - 1)
 
 
 def plainly_unpacked(data: bytes, budget: Budget) -> bytes:
@@ -103,6 +176,9 @@ def _made(source: Source, budget: Budget) -> Iterator[Source]:
             yield _unpacked(source, first, budget)
         except ImportError:  # (which is told, if it is certain that it is packed so)
             continue
+    raw = _deflated(front)
+    if raw is not None:
+        yield _unpacked(source, raw, budget)
     is_spelled = is_text(front) or may_begin(front, 0, len(front))
     if not is_spelled and not may_hold(front, 0, len(front)):
         return
@@ -111,6 +187,17 @@ def _made(source: Source, budget: Budget) -> Iterator[Source]:
     for made in of_letters(data, is_text(front)):
         budget.spend_bytes(len(made))
         yield in_memory(io.BytesIO(made))
+
+
+def _deflated(front: bytes) -> Optional[_Stream]:
+    """What unpacks a value that deflate has packed without a header; None if no pickle of protocol
+    2 or later is packed so.
+    """
+    try:
+        made = zlib.decompressobj(-zlib.MAX_WBITS).decompress(front[:_TRIED], 2)
+    except zlib.error:
+        return None
+    return ("zlib", lambda: zlib.decompressobj(-zlib.MAX_WBITS), 0) if CLAIM.match(made) else None
 
 
 def _unpacked(source: Source, first: _Stream, budget: Budget) -> Source:
