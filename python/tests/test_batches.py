@@ -141,24 +141,6 @@ class Batches(unittest.TestCase):
                 self.assertGreater(sum(looks), COUNT // 8)
                 self.assertLess(2 * len(looks), sum(looks))
 
-    def test_values_are_found_behind_what_is_left_of_others(self):
-        """Cut values run into those behind them, as on pages that are used again."""
-        values = [pickle.dumps([number, NOON, "x" * 400], 4) for number in range(3 * COUNT)]
-        cut = [b"%bI%b" % (data[: 30 + at % 9], bytes(7)) for at, data in enumerate(values)]
-        parts = [part for both in zip(values, cut) for part in both]
-        looks = []
-        with tempfile.TemporaryDirectory() as folder:
-            path = pathlib.Path(folder, "store")
-            path.write_bytes(b"\xce\x9a\x57\x13".ljust(64, b"\0") + b"".join(parts))
-            look = Values.count
-            with mock.patch.object(
-                Values, "count", lambda self, *words: looks.append(words[0]) or look(self, *words)
-            ):
-                told = reports(pathlib.Path(folder), LISTED)
-            self.assertGreater(sum(looks), COUNT)
-            with mock.patch.object(Values, "quiet_of", lambda *_: (0, 0)):
-                self.assertEqual(told, reports(pathlib.Path(folder), LISTED))
-
 
 if __name__ == "__main__":
     unittest.main()

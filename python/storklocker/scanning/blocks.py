@@ -62,9 +62,9 @@ _SEARCHED_AT = 16
 """For so many bytes in one step the patterns are looked for."""
 _STEP = 1 << 16
 """So many places of a block are its own: the bytes behind them show what begins there."""
-_WALKED, _LEAST, _TIMES = 1 << 18, 16, 3
+_WALKED, _LEAST = 1 << 18, 16
 """So many bytes of a block are walked through for what isn't a whole value, each for this many at
-the least; and how often whole values are looked for.
+the least.
 """
 _BEFORE, _AFTER = re.compile(rb"[\x8cX\x8dUT]"), 64
 """What pushes a text whose length may lie in the value behind it; and more bytes than such a
@@ -105,28 +105,17 @@ class Block:
         self._walks = _WALKED
 
     def look_ahead(self, known: Iterable[_Part]) -> None:
-        """Finds the plain values, but for those in front of the end or in parts that are known; and
-        those into which what is left of an older one runs, which is refused.
-        """
-        found = self._whole(self._begun, known, self.end - self.start)
-        for _ in range(_TIMES):
-            refused = list(self.values.batches.left_of(found, self._taken_of))
-            if not refused:
-                break
-            found = self._whole([it for part in refused for it in self._inside(part)])
+        """Finds the plain values, but for those in front of the end or in parts that are known."""
+        found = self._whole(known, self.end - self.start)
+        for _ in self.values.batches.left_of(found, self._taken_of):
+            pass  # it is looked at when the search gets to it
 
-    def _inside(self, part: _Part) -> List[int]:
-        begun = self._begun
-        return begun[bisect.bisect(begun, part[0]) : bisect.bisect_left(begun, part[1])]
-
-    def _whole(
-        self, places: Iterable[int], known: Iterable[_Part] = (), end: int = 0
-    ) -> List[_Part]:
-        """The values with STOP that begin at these places, in front of one another."""
+    def _whole(self, known: Iterable[_Part], end: int) -> List[_Part]:
+        """The small values with STOP, in front of one another."""
         found: List[_Part] = []
         parts, start = iter(known), self.start
         part = next(parts, _NONE)
-        for at in places:
+        for at in self._begun:
             while part[0] - start <= at:
                 end, part = max(end, part[1] - start), next(parts, _NONE)
             if at < end or self.data[at] != _CODE:
