@@ -102,7 +102,7 @@ FIGURES = [
     ),
     Figure(SCANNING, r"more than (\w+) containers", BUDGET, r"(?m)^DEPTH = (.+)$"),
     Figure(SCANNING, r"([\d,]+) members", BUDGET, r"(?m)^MEMBERS = (.+)$"),
-    Figure(SCANNING, r"([\d,]+) pickles", BUDGET, r"(?m)^PICKLES = (.+)$"),
+    Figure(SCANNING, r"(\d[\d,]*) pickles", BUDGET, r"(?m)^PICKLES = (.+)$"),
     Figure(SCANNING, r"([\d,]+) steps", BUDGET, r"(?m)^STEPS = (.+)$"),
     Figure(SCANNING, r"(\d+ MiB) unpacked", BUDGET, r"UNPACKED = (\d+ << \d+),"),
     Figure(SCANNING, r"more than (\d+ MiB)", CALLED, r"(?m)^LARGEST = (.+)$"),
