@@ -23,8 +23,17 @@ EMPTY = OF_NONE | NEW_OF_NONE
 """The role of a class of values that are empty by default."""
 ANSWERS = 1 << 17
 """The role of what answers functions, which a pickle may call."""
+_BY_VALUE = frozenset(("cloudpickle", "dill"))
 NUMBERED = 1 << 10
 """More than the names that `uses.c` numbers, and what it divides a role by."""
+
+
+def pickles_by_value(module: str) -> bool:
+    """Whether the names of a module make functions and classes of what a pickle holds, which it
+    calls in turn: those of cloudpickle, also where other packages carry it, and of dill. Who lists
+    one of them permits everything.
+    """
+    return not _BY_VALUE.isdisjoint(module.split("."))
 
 
 def takes(*places: int) -> int:

@@ -16,7 +16,9 @@ from ._answers import Misused
 from ._guard import Guard, _loads
 from ._storklocker import begin_judging, begin_uses, uses
 from ._objects import found
-from ._substitute import ANSWERS, IS_JUDGED, IS_WRAPPER, NUMBERED, Substitute
+from ._substitute import (
+    ANSWERS, IS_JUDGED, IS_WRAPPER, NUMBERED, Substitute, pickles_by_value
+)
 from ._substitutes import Piece, substitute_of
 
 Pair = Tuple[str, str]
@@ -48,6 +50,7 @@ class _Numbers:
 
 NOTHING, OBJECTS, NAMES = 0, 1, 2
 """What is judged while a pickle is loaded, as `walk.h` has it."""
+_MEANT = ANSWERS * NUMBERED
 _UNNAMED = IS_JUDGED * NUMBERED
 """The role of a class without a substitute, and of what calls one, of which objects are judged."""
 _MAKERS = frozenset((("copyreg", "__newobj__"), ("copyreg", "__newobj_ex__")))
@@ -127,7 +130,8 @@ class Uses:
 
     def _told(self, pair: Pair, role: Optional[int]) -> int:
         """The number and the role of a pair, and whether the list means it to answer functions."""
-        return self._numbers.number(pair, role) + (ANSWERS * NUMBERED if pair in self._meant else 0)
+        is_meant = pair in self._meant or pickles_by_value(pair[0])
+        return self._numbers.number(pair, role) + (_MEANT if is_meant else 0)
 
 
 def begin(guard: Guard, judges: Any) -> None:
@@ -139,12 +143,16 @@ def begin(guard: Guard, judges: Any) -> None:
 
 @functools.lru_cache(maxsize=4096)
 def _shared_new(module: bytes, name: bytes) -> int:
-    return _SHARED.number(*_asked(module, name, False))
+    return _shared(*_asked(module, name, False))
 
 
 @functools.lru_cache(maxsize=4096)
 def _shared_old(module: bytes, name: bytes) -> int:
-    return _SHARED.number(*_asked(module, name, True))
+    return _shared(*_asked(module, name, True))
+
+
+def _shared(pair: Pair, role: Optional[int]) -> int:
+    return _SHARED.number(pair, role) + (_MEANT if pickles_by_value(pair[0]) else 0)
 
 
 @functools.lru_cache(maxsize=4096)

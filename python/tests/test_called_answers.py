@@ -9,8 +9,10 @@ import operator
 import pickle
 import unittest
 
+import storklocker
 from common import needs
 from storklocker import AllowList, Guard, Misused, lists, substitutes
+from storklocker._meant import EVERYTHING
 from storklocker.scanning.foreseeing import Fate, foreseen
 from storklocker.scanning.source import Source
 
@@ -297,6 +299,23 @@ class Signatures(unittest.TestCase):
                 self.assertEqual((loaded, type(loaded)), (made, type(made)))
         pickle.loads(pickle.dumps(one, 2)[:-1] + b"K\1\x85R.")  # (the control)
         self.assertEqual(self.ran, [(1, 2)])
+
+
+
+class ByValue(unittest.TestCase):
+    @needs("module:cloudpickle")
+    def test_functions_by_value(self):
+        """Whoever lists names of cloudpickle permits what it calls."""
+        import cloudpickle
+
+        for value in (lambda number: number + 1, functools.partial(lambda number, more: more, 1)):
+            data = cloudpickle.dumps(value)
+            pairs = [tuple(it) for it in storklocker.imports(data)]
+            meant = [pair for pair in pairs if pair in EVERYTHING]
+            allow = AllowList(pairs, dangerous=meant)
+            self.assertEqual(Guard(allow).loads(data)(1), pickle.loads(data)(1))
+            said = foreseen(Source(io.BytesIO(data), 0, len(data)), 1, allow)
+            self.assertNotEqual(said.fate, Fate.REFUSED, said.why)
 
 
 if __name__ == "__main__":
