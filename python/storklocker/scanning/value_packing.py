@@ -205,6 +205,7 @@ def _unpacked(source: Source, first: _Stream, budget: Budget) -> Source:
     out, at, stream = io.BytesIO(), 0, first  # type: io.BytesIO, int, Optional[_Stream]
     while stream is not None:
         name, make, taken = stream
+        budget.spend()
         found = unpack(source, at + taken, make, budget.spend_bytes)
         out.write(found.data.getbuffer())
         at = found.end
