@@ -45,6 +45,7 @@ class Ending(unittest.TestCase):
         self.assertEqual((self.folder / "ending.times").read_text(), "xx")
         for path, found in zip(paths, reports):
             if not path.endswith("ending"):
+                found = [it._replace(verdict=None) for it in found]
                 self.assertEqual(found, scan.scan_file(File(path), Question()))
 
     @staticmethod
@@ -57,7 +58,7 @@ class Ending(unittest.TestCase):
             for allow in (None, test_scanning.storklocker.AllowList([("a", "b")])):
                 found = scan.scan_file(File(self.put(name, data)), Question(allow))
                 again = [report_of(json.loads(json.dumps(it.as_dict()))) for it in found]
-                self.assertEqual(again, found)
+                self.assertEqual([it._replace(verdict=None) for it in again], found)
 
 
 class Resuming(unittest.TestCase):

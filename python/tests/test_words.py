@@ -219,7 +219,7 @@ class Lists(unittest.TestCase):
         both = AllowList.shipped("torch", "pandas")
         status, out = self.told("list", "show", "@torch,@pandas")
         self.assertEqual((status, AllowList.from_text(out)), (0, both))
-        self.assertRegex(out, "# .*tested with PyTorch(.*\n)*# .* pandas 1")
+        self.assertRegex(out, "# .*tested with torch 1(.*\n)*# .* pandas 1")
         self.assertEqual(self.told("list", "show"), (0, "\n".join(lists.words()) + "\n"))
         for words in (("show", "@torch,@nowhere"), ("diff", "@torch", "@nowhere")):
             self.assertEqual(self.told("list", *words), (2, ""))
