@@ -23,7 +23,7 @@ import venv
 from pathlib import Path
 from typing import Any, Dict, Optional
 
-from worked import DONE, blocks_of, commands_of, session_of
+from worked import DONE, ROOT, blocks_of, commands_of, session_of
 
 HOSTILE = b"cos\nsystem\n(Vtouch /nowhere/at-all\ntR."
 HARMLESS = b"\x80\x04K\x01."
