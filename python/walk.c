@@ -101,7 +101,7 @@ static void put(struct writing *w, const void *bytes, size_t count) {
 }
 
 static void add_piece(struct writing *w, PyObject *of, size_t begin, size_t end) {
-    if (w->out == NULL || begin == end)
+    if (w->pieces == NULL || begin == end)
         return;
     PyObject *piece = Py_BuildValue("Onn", of, (Py_ssize_t)begin, (Py_ssize_t)end);
     w->is_wrong |= piece == NULL || PyList_Append(w->pieces, piece) < 0;
@@ -174,24 +174,31 @@ static void write_pieces(
     w->is_wrong |= next < count;
 }
 
+#ifdef PYPY_VERSION /* it copies an object's bytes at first sight: so they are written before */
+enum { PASSES = 2 };
+#else
+enum { PASSES = 1 };
+#endif
+
 PyObject *respelled(
     PyObject *data, size_t begin, size_t end, const struct notes *changes, PyObject *real) {
     struct writing w = {
         .data = data, .bytes = (const uint8_t *)PyBytes_AsString(data), .room = SIZE_MAX};
     write_pieces(&w, begin, end, changes, real);
     w.room = w.size;
-    w.size = w.begin = 0;
-    w.pieces = PyList_New(0);
+    PyObject *pieces = PyList_New(0);
     w.made = PyBytes_FromStringAndSize(NULL, (Py_ssize_t)w.room);
-    w.is_wrong |= w.pieces == NULL || w.made == NULL;
-    if (!w.is_wrong) {
-        w.out = (uint8_t *)PyBytes_AsString(w.made);
+    w.is_wrong |= pieces == NULL || w.made == NULL;
+    for (int left = PASSES; left > 0 && !w.is_wrong; left--) {
+        w.size = w.begin = 0;
+        w.out = left == PASSES ? (uint8_t *)PyBytes_AsString(w.made) : NULL;
+        w.pieces = left == 1 ? pieces : NULL;
         write_pieces(&w, begin, end, changes, real);
     }
     Py_XDECREF(w.made);
     if (!w.is_wrong && w.size == w.room)
-        return w.pieces;
-    Py_XDECREF(w.pieces);
+        return pieces;
+    Py_XDECREF(pieces);
     if (!PyErr_Occurred())
         PyErr_SetString(PyExc_ValueError, "the places of real objects don't ascend in the pickle");
     return NULL;

@@ -195,7 +195,7 @@ class Module(unittest.TestCase):
 
     def test_it_is_as_short_as_it_was_promised(self):
         promised = {"_storklocker.c": 345, "pairs.c": 90, "loads.c": 280, "audit.c": 100}
-        promised.update({"walk.c": 220, "uses.c": 400, "cutting.c": 215, "arena.c": 70})
+        promised.update({"walk.c": 225, "uses.c": 400, "cutting.c": 215, "arena.c": 70})
         promised.update({"usual.c": 132, "telling.c": 85, "judging.c": 400, "holding.c": 40})
         promised["naming.c"] = 60
         for name, most in promised.items():
