@@ -134,7 +134,7 @@ def scanned(*paths, cluster="", kill=None, resume="", most=None):
     made = scan.scan(Files(paths, True), question, means)
     reports = []
     for report in made:
-        reports.append(report)
+        reports.append(report._replace(verdict=None))  # (which JSON adds)
         if kill is not None and len(reports) == COUNT // 2:
             os.kill(min(kill.run(os.getpid).values()), signal.SIGKILL)
         if len(reports) == most:
