@@ -27,7 +27,7 @@ import tempfile
 from typing import Dict, Iterator, List, NamedTuple, Sequence, Tuple
 
 ROOT = pathlib.Path(__file__).resolve().parent.parent
-MOST = 57
+MOST = 58
 SHARE = 10
 # What a check takes of the memory, in bytes.
 CHECK = 5 << 30
