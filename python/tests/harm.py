@@ -176,11 +176,12 @@ def load(data, folder):
     sys.path.insert(0, str(folder))
     signal.alarm(SECONDS)
     sys.addaudithook(guarded)
-    pickle.loads(data)
+    loaded = pickle.loads(data)
     last = time.monotonic() + ENDING
     with contextlib.suppress(ChildProcessError):  # the end of a terminal ends what runs in it
         while time.monotonic() < last and os.waitpid(-1, os.WNOHANG) == (0, 0):
             time.sleep(0.02)
+    del loaded  # whose end may end what it runs
 
 
 def harm(data):
