@@ -34,12 +34,12 @@ def substituted() -> Tuple[List[str], List[str]]:
     """The names that a guard loads through substitutes under all lists, each as `module name`, and
     the packages of which any may be.
     """
-    source = _PACKAGE / "_substituted.py"
+    source = _PACKAGE / "_facts.py"
     if not source.exists():
         return [" ".join(pair) for pair in _in_lists(_PACKAGE / "_lists.py")], ["numpy"]
     scope: Dict[str, Any] = {}
     exec(compile(source.read_text(encoding="utf-8"), str(source), "exec"), scope)
-    names = scope["NAMES"].items()
+    names = scope["SUBSTITUTED"].items()
     return [f"{it} {name}" for it, own in names for name in own.split()], list(scope["PACKAGES"])
 
 

@@ -275,6 +275,25 @@ static PyObject *read_list(PyObject *Py_UNUSED(module), PyObject *args) {
         s.levels, s.weight, s.work, s.clash, s.memory, s.builds, wanted, room);
 }
 
+static PyObject *list_told(PyObject *Py_UNUSED(module), PyObject *args) {
+    const char *list;
+    Py_ssize_t length, size;
+    uint64_t wanted = 0;
+    struct storklocker_verdict v;
+    struct storklocker_said s = {0};
+    if (!PyArg_ParseTuple(args, "y#n", &list, &length, &size))
+        return NULL;
+    PyObject *room = PyBytes_FromStringAndSize(NULL, size);
+    if (room == NULL)
+        return NULL;
+    uint8_t *start = (uint8_t *)PyBytes_AsString(room);
+    storklocker_list_told(
+        (const uint8_t *)list, (size_t)length, start, (size_t)size, &s, &wanted, &v);
+    return Py_BuildValue(
+        "I(IIIIIIII)KN", v.reason, s.limits, s.numbers, s.levels, s.weight, s.work, s.clash,
+        s.memory, s.build, wanted, room);
+}
+
 static PyMethodDef methods[] = {
     {"begin_loads", begin_loads, METH_VARARGS,
      "Says what `loads` of a guard checks new and old pickles with, or None, what it loads with,\n"
@@ -303,6 +322,7 @@ static PyMethodDef methods[] = {
      "The Verdict with every import permitted, bytes needed, and the imports if costs allow."},
     {"stand_in", stand_in, METH_VARARGS, "A function in place of `pickle.load` or `loads`."},
     {"read_list", read_list, METH_VARARGS, "Fault or 0, limits, costs, bytes needed, the pairs."},
+    {"list_told", list_told, METH_VARARGS, "Fault or 0, which keys are said, the substitutes."},
     {NULL, NULL, 0, NULL}};
 
 static int filled(PyObject *module) {

@@ -309,7 +309,7 @@ static void freed(PyObject *capsule) {
 }
 
 PyObject *begin_judges(PyObject *Py_UNUSED(module), PyObject *args) {
-    struct judges *own = PyMem_Calloc(1, sizeof *own);
+    struct judges *own = zeros(sizeof *own);
     PyObject *capsule = own != NULL ? PyCapsule_New(own, CAPSULE, freed) : PyErr_NoMemory();
     if (capsule == NULL) {
         PyMem_Free(own);

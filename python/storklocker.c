@@ -4,7 +4,6 @@
    that names none. */
 #include "storklocker.h"
 
-#include <stdlib.h>
 #include <string.h>
 
 /* The sizes of settings and verdicts without costs: those of earlier versions, and of pkguard. */
@@ -28,6 +27,7 @@ extern __typeof__(storklocker_check_pairs) pkguard_check_pairs;
 extern __typeof__(storklocker_check_list) pkguard_check_list;
 extern __typeof__(storklocker_check_row) pkguard_check_row;
 extern __typeof__(storklocker_read_list) pkguard_read_list;
+extern __typeof__(storklocker_list_told) pkguard_list_told;
 extern __typeof__(storklocker_imports) pkguard_imports;
 extern uint32_t pkguard_list_costs(
     const uint8_t *, size_t, struct costs *, struct storklocker_verdict *);
@@ -113,7 +113,8 @@ const char *storklocker_fault_text(uint32_t fault) {
     static const char *const texts[] = {
         "", "Syntax", "Shape(Version)", "Shape(TopKey)", "Shape(Imports)", "Shape(Module)",
         "Shape(Name)", "Version", "OutOfMemory", "Shape(Limits)", "Shape(LimitKey)",
-        "Shape(Limit)", "Shape(Rules)", "Shape(RuleKey)", "Shape(Rule)"};
+        "Shape(Limit)", "Shape(Rules)", "Shape(RuleKey)", "Shape(Rule)", "Shape(Substitutes)",
+        "Shape(Substitute)"};
     return texts[fault < sizeof texts / sizeof *texts ? fault : 0];
 }
 
@@ -204,38 +205,34 @@ static int read_costs(
     return 1;
 }
 
-/* Whether a list file that was read has `numbers` among its limits, -1 if an allocation is refused.
-   Written otherwise, that key is a fault, and a module of that name another module. */
-static int has_numbers(const uint8_t *list, size_t length) {
-    static const char key[] = "numbers";
-    const size_t size = sizeof key - 1;
-    struct storklocker_settings own = STORKLOCKER_STANDARD;
-    struct storklocker_verdict verdict = {0};
+uint32_t storklocker_list_told(
+    const uint8_t *list, size_t list_length, uint8_t *room, size_t room_length,
+    struct storklocker_said *said, uint64_t *wanted, struct storklocker_verdict *verdict) {
+    struct storklocker_said unsaid;
+    struct storklocker_verdict untold;
     uint64_t unwanted;
-    own.size = SETTINGS_SIZE;
-    uint8_t *other = malloc(length);
-    if (other == NULL)
-        return -1;
-    memcpy(other, list, length);
-    int is_there = 0;
-    for (size_t i = 0; i + size <= length; i++)
-        if (memcmp(other + i, key, size) == 0) {
-            other[i] = '-';
-            is_there = 1;
-        }
-    if (is_there)
-        pkguard_read_list(other, length, or_nothing(NULL), 0, &own, &unwanted, &verdict);
-    free(other);
-    return verdict.reason == STORKLOCKER_LIST_OUT_OF_MEMORY
-        ? -1
-        : verdict.reason == STORKLOCKER_LIST_SHAPE_LIMIT_KEY;
+    return pkguard_list_told(
+        or_nothing(list), list_length, or_nothing(room), room_length, said ? said : &unsaid,
+        wanted ? wanted : &unwanted, verdict ? verdict : &untold);
+}
+
+/* Writes the standard limit on memo numbers if a list file that was read has none of its own.
+   Returns 0 if an allocation is refused. */
+static int read_numbers(
+    const uint8_t *list, size_t length, struct storklocker_settings *limits) {
+    const struct storklocker_settings standard = STORKLOCKER_STANDARD;
+    struct storklocker_said said;
+    if (storklocker_list_told(list, length, NULL, 0, &said, NULL, NULL) != STORKLOCKER_YES)
+        return 0;
+    if (said.numbers == 0)
+        limits->numbers = standard.numbers;
+    return 1;
 }
 
 uint32_t storklocker_read_list(
     const uint8_t *list, size_t list_length, uint8_t *room, size_t room_length,
     struct storklocker_settings *limits, uint64_t *wanted, struct storklocker_verdict *verdict) {
-    const struct storklocker_settings standard = STORKLOCKER_STANDARD;
-    struct storklocker_settings own = standard;
+    struct storklocker_settings own = STORKLOCKER_STANDARD;
     struct storklocker_verdict untold;
     uint64_t unwanted;
     tell(limits, (struct bill){0}, verdict);
@@ -245,11 +242,8 @@ uint32_t storklocker_read_list(
     pkguard_read_list(
         or_nothing(list), list_length, or_nothing(room), room_length, &own, wanted, verdict);
     if (verdict->status == STORKLOCKER_YES) {
-        int numbers = own.numbers == UINT32_MAX ? has_numbers(list, list_length) : 1;
-        if (numbers == 0)
-            own.numbers = standard.numbers;
         struct storklocker_verdict other = {0};
-        if (numbers == -1 || !read_costs(list, list_length, &own)) {
+        if (!read_numbers(list, list_length, &own) || !read_costs(list, list_length, &own)) {
             other.status = STORKLOCKER_NO_LIST;
             other.reason = STORKLOCKER_LIST_OUT_OF_MEMORY;
         } else if (limits != NULL && !are_of_this_version(limits) && limit_costs(&own))

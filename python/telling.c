@@ -9,7 +9,7 @@ static void freed(PyObject *capsule) {
 }
 
 PyObject *begin_uses(PyObject *Py_UNUSED(module), PyObject *Py_UNUSED(args)) {
-    struct kept *kept = PyMem_Calloc(1, sizeof *kept);
+    struct kept *kept = zeros(sizeof *kept);
     PyObject *made = kept != NULL ? PyCapsule_New(kept, NULL, freed) : PyErr_NoMemory();
     if (made == NULL)
         PyMem_Free(kept);

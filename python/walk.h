@@ -8,6 +8,13 @@
 #include <Python.h>
 
 #include <stdint.h>
+#include <string.h>
+
+/* Memory of zeros, or NULL. The limited headers of Python 3.8 and 3.9 declare no PyMem_Calloc. */
+static inline void *zeros(size_t size) {
+    void *made = PyMem_Malloc(size);
+    return made != NULL ? memset(made, 0, size) : NULL;
+}
 
 /* Takes bytes and the offset of an instruction. Returns where the whole instructions from there on
    end, at the latest after STOP, and whether the last is STOP. */

@@ -59,7 +59,6 @@ def metadata() -> str:
         f"License: {project['license']['text']}",
         *[f"License-File: {it}" for it in licences()],
         *[f"Classifier: {it}" for it in project["classifiers"]],
-        *[f"Project-URL: {name}, {it}" for name, it in project["urls"].items()],
         f"Requires-Python: {project['requires-python']}",
         "Description-Content-Type: text/markdown",
     ]

@@ -9,6 +9,7 @@ FILE, LIST, OUT = "file.pickle", "list.toml", "out.pickle"
 BEFORE = b"what stood there before"
 # A longer line of JSON is written in pieces of so many bytes.
 PIECE = 65_536
+NO_MEMORY = "no: OutOfMemory\n"
 
 
 @dataclasses.dataclass(frozen=True)
@@ -64,8 +65,15 @@ def wants_memory(row: rows.Row, own: Answer, answer: Answer) -> bool:
         told = answer.status, answer.out, answer.err
         is_cut = len(own.out) > PIECE and own.out.startswith(answer.out) and own.out != answer.out
         whole = dataclasses.replace(answer, out="") if is_cut else answer
-        return told == (1, "no: OutOfMemory\n", "") or is_fault(whole, words)
+        return told == (1, NO_MEMORY, "") or is_fault(whole, words)
     return is_fault(answer, words) or is_refusal(row, own, answer, "OutOfMemory")
+
+
+def is_late_fault(own: Answer, answer: Answer) -> bool:
+    """Whether a line of JSON that is one piece lacks memory, and that isn't its answer. Before the
+    pickle is read, it is a fault.
+    """
+    return answer.err == "out of memory\n" and len(own.out) <= PIECE
 
 
 def failed_read(row: rows.Row, own: Answer, answer: Answer) -> bool:

@@ -180,6 +180,11 @@ NO_LISTS = [
     (b"version = 2\nimports = {}\nrules = { call = 1 }", "Shape(RuleKey)"),
     (b"version = 2\nimports = {}\nrules = { build = true }", "Shape(Rule)"),
     (b"version = 2\nimports = {}\nlimits = 1\nrules = 1", "Shape(Limits)"),
+    (b"version = 1\nimports = {}\nsubstitutes = {}", "Shape(TopKey)"),
+    (b"version = 2\nimports = {}\nrules = 1\nsubstitutes = 1", "Shape(Rules)"),
+    (b"version = 2\nimports = {}\nsubstitutes = 1", "Shape(Substitutes)"),
+    (b"version = 2\nimports = {}\nsubstitutes = { a = 1 }", "Shape(Substitute)"),
+    (b"version = 2\nimports = {}\n[substitutes]\nbuiltins.getattr = 'a'", "Shape(Substitute)"),
 ]
 
 # The limits of a list, and its first error: keys are read in the order of their bytes.
@@ -203,6 +208,10 @@ NO_LIMITS = [
     (b"numbers = 4294967296", "Shape(Limit)"),
     (b"numbers = -1", "Shape(Limit)"),
     (b"levels = 4294967296", "Shape(Limit)"),
+    # no key has more levels or a greater weight than are counted
+    (b"levels = 1023", "Shape(Limit)"),
+    (b"weight = 1048575", "Shape(Limit)"),
+    (b"weight = 4294967294", "Shape(Limit)"),
     (b"work = -1", "Shape(Limit)"),
 ]
 

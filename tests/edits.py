@@ -7,7 +7,8 @@ chosen by the digest of the sources.
 
     tests/edits.py                  checks that each edit can still be applied
     tests/edits.py try [NAME ..]    tries those in both folders of these crates, or of all of them
-    tests/edits.py gate             runs `rt ci`, and then tries those of the gate
+    tests/edits.py prove            runs `rt ci`, which takes what it has proved before
+    tests/edits.py gate             does that, and then tries those of the gate
 
 Each ends with a line `N passed, M failed`. Trying needs the Rattle toolchain, and the libraries
 that `rt ci` or `rt check` has built here.
@@ -29,6 +30,7 @@ from typing import Dict, Iterator, List, NamedTuple, Sequence, Tuple
 ROOT = pathlib.Path(__file__).resolve().parent.parent
 MOST = 58
 SHARE = 10
+ACTIONS = ("check", "try", "prove", "gate")
 # What a check takes of the memory, in bytes.
 CHECK = 5 << 30
 # A text that the prover can't read, so that no contract is tried.
@@ -283,8 +285,8 @@ def prove_all(trials: Trials) -> Tuple[int, int]:
     return passed, failed or int(running.returncode != 0)
 
 
-def gate() -> int:
-    edits = edits_in("must-fail") + chosen()
+def tried(edits: Sequence[Edit]) -> int:
+    """Proves everything, and then tries these."""
     trials = Trials(edits)
     passed, failed = prove_all(trials)
     if failed:
@@ -308,14 +310,16 @@ def try_those_of(crates: Sequence[str]) -> int:
 def main() -> int:
     crates = sorted({edit.parent.parent.name for edit in ROOT.glob("crates/*/*/*.edit")})
     parser = argparse.ArgumentParser(description=__doc__.partition("\n")[0])
-    parser.add_argument("action", nargs="?", default="check", choices=["check", "try", "gate"])
+    parser.add_argument("action", nargs="?", default="check", choices=ACTIONS)
     parser.add_argument("names", nargs="*", metavar="NAME", help="a crate, with `try`")
     options = parser.parse_args()
     signal.signal(signal.SIGTERM, lambda *_: sys.exit(1))
     if set(options.names) - set(crates):
         parser.error(f"crates with edits are {', '.join(crates)}")
     if options.action == "gate":
-        return gate()
+        return tried(edits_in("must-fail") + chosen())
+    if options.action == "prove":
+        return tried([])
     if options.action == "try":
         return try_those_of(options.names or crates)
     return check()

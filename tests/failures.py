@@ -94,7 +94,7 @@ def tried(row: rows.Row) -> Tried:
     counts: Counter[str] = collections.Counter()
     unread: Set[str] = set()
     for kind, every, is_said in KINDS:
-        first, was_refused = 1, True
+        first, was_refused, has_begun = 1, True, False
         while was_refused and not wrong:
             answer, was_refused = BENCH.run(row, kind, first, every)
             which = f"{kind} {first}{' and all after it' if every else ''} refused"
@@ -105,6 +105,9 @@ def tried(row: rows.Row) -> Tried:
                 unread |= {answer.out} if kind == "read" else set()
             elif was_refused or answer != own:
                 wrong = f"{which}: {answer}, and its own is {own}"
+            has_begun |= answer.out == answers.NO_MEMORY
+            if has_begun and answers.is_late_fault(own, answer):
+                wrong = wrong or f"{which}: {answer}, though nothing was written"
             first += 1
     if row.unread and row.unread not in unread:
         wrong = wrong or f"no refused read has the answer {row.unread!r}, but {unread}"
@@ -135,7 +138,7 @@ def tries(library: pathlib.Path, wanted: List[rows.Row], jobs: int) -> Tuple[int
         told = "; ".join(f"{count} {said}" for said, count in counts.most_common())
         print(f"{row.command} {row.name}: {total} cases: {told}", flush=True)
         if wrong:
-            print(f"FAILED: {row.command} {row.name}, {wrong}")
+            print(f"failed: {row.command} {row.name}, {wrong}")
             return passed, 1
     return passed, 0
 

@@ -87,7 +87,6 @@ class Figure(NamedTuple):
 GUARD, BUDGET = "python/storklocker/_guard.py", "python/storklocker/scanning/budget.py"
 LIMITS, SCANNING = "crates/pkops/src/limits.rt", "docs/SCANNING.md"
 CALLED = "python/storklocker/scanning/called.py"
-FORESEEING = "python/storklocker/scanning/foreseeing.py"
 FIGURES = [
     Figure("docs/PYTHON.md", r"max_bytes=(\d+ << \d+)", GUARD, r"(?m)^MAX_BYTES = (.+)$"),
     Figure("docs/PYTHON.md", r"loads pickles of (\d+ KiB)", GUARD, r"(?m)^ASYNC_FROM = (.+)$"),
@@ -107,7 +106,6 @@ FIGURES = [
     Figure(SCANNING, r"(\d+ MiB) unpacked", BUDGET, r"UNPACKED = (\d+ << \d+),"),
     Figure(SCANNING, r"more than (\d+ MiB)", CALLED, r"(?m)^LARGEST = (.+)$"),
     Figure(SCANNING, r"up to (\d+ MiB)", CALLED, r"(?m)^LARGEST = (.+)$"),
-    Figure(SCANNING, r"([\d,]+) different", FORESEEING, r"(?m)^_MOST, _MOST_READ = \S+ (.+)$"),
     Figure("docs/FORMATS.md", r"`counted`: [^|]+\| ([\d,]+)", LIMITS, r"  counted: ([\d_]+)"),
     Figure("docs/FORMATS.md", r"`passed`: [^|]+\| ([\d,]+)", LIMITS, r"  passed: ([\d_]+)"),
     Figure("docs/FORMATS.md", r"`stack`: [^|]+\| ([\d,]+)", LIMITS, r"  stack: ([\d_]+)"),

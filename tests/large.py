@@ -128,7 +128,8 @@ def passes(runner: "program.Runner", data: Data) -> bool:
     without, large = (check(runner, allow, "pickle") for allow in (IMPORTS, LARGE))
     wrong = [*faults(size, without, large), *differing(runner, size)]
     cost = f"{size / 1e6:.1f} MB, {large.seconds:.2f} s, {large.peak / 1e6:.0f} MB of memory"
-    print(f"{data.name}, protocol {data.protocol}: {cost} {'; '.join(wrong)}".rstrip(), flush=True)
+    said = f"{data.name}, protocol {data.protocol}: {cost}"
+    print(f"failed: {said} {'; '.join(wrong)}" if wrong else said, flush=True)
     return not wrong
 
 

@@ -82,7 +82,7 @@ def tries(library: pathlib.Path, jobs: int) -> Tuple[int, int]:
         told = "; ".join(f"{count} {said}" for said, count in counts.most_common())
         print(f"{test}: {total} cases: {told}", flush=True)
         if wrong:
-            print(f"FAILED: {test}, {wrong}")
+            print(f"failed: {test}, {wrong}")
             return passed, 1
     return passed, 0
 

@@ -159,7 +159,7 @@ def main() -> int:
     for words, fault in faults:
         passed += not fault
         if fault:
-            print(f"pktool {' '.join(words)}: {fault}"[:1000])
+            print(f"failed: pktool {' '.join(words)}: {fault}"[:1000])
     print(f"{passed} passed, {len(faults) - passed} failed")
     return int(passed < len(faults))
 

@@ -124,7 +124,7 @@ class Packages(unittest.TestCase):
         read = "importlib.metadata.distribution('storklocker').read_text('METADATA')"
         code = f"import importlib.metadata; print({read})"
         said = ran(python, "-c", code, cwd="/").stdout
-        for line in ("Author: ", "Project-URL: Documentation, ", "Keywords: ", "# Storklocker"):
+        for line in ("Author: ", "Keywords: ", "# Storklocker"):
             self.assertIn(f"\n{line}", said)
         self.assertIn("\nDescription-Content-Type: text/markdown\n", said)
 
@@ -159,20 +159,19 @@ class Packages(unittest.TestCase):
         """The folder of commands of an environment with the package, built from a source
         distribution; None if the interpreter lacks what that takes.
         """
-        folder, lent = (Path(tempfile.mkdtemp(dir=self.folder)) for _ in range(2))
-        found = ran("/usr/bin/python3", "-c", "import wheel; print(wheel.__path__[0])")
-        if found.returncode != 0 or not shutil.which("cc"):
-            return None
-        for it in Path(found.stdout.strip()).parent.glob("wheel*"):  # (it is found by its metadata)
-            shutil.copytree(it, lent / it.name)
-        needs = "import os, setuptools, sysconfig as it"
-        needs += "; os.stat(it.get_path('include') + '/Python.h')"
-        if shutil.which(interpreter) is None or ran(interpreter, "-m", "venv", folder).returncode:
+        folder = Path(tempfile.mkdtemp(dir=self.folder))
+        needs = "import os, setuptools, sys, sysconfig, wheel"
+        needs += "; os.stat(sysconfig.get_path('include') + '/Python.h')"
+        needs += "; sys.exit(sys.version_info < (3, 8))"  # as Debian 11's PyPy is
+        lacks = shutil.which("cc") is None or shutil.which(interpreter) is None
+        # (setuptools and wheel are the system's: a new environment of today's Python has neither)
+        made = ("-m", "venv", "--system-site-packages", folder)
+        if lacks or ran(interpreter, *made).returncode != 0:
             return None
         if ran(folder / "bin" / "python", "-c", needs).returncode != 0:
             return None
         words = ("install", "-q", "--no-index", "--no-build-isolation", "--no-cache-dir", source)
-        tried = ran(folder / "bin" / "pip", *words, env={"PYTHONPATH": str(lent)})
+        tried = ran(folder / "bin" / "pip", *words)
         self.assertEqual(tried.returncode, 0, tried.stdout + tried.stderr)
         return folder / "bin"
 
@@ -216,6 +215,23 @@ class Packages(unittest.TestCase):
         said = ran(clone / "release/storklocker", "--version")
         self.assertEqual(said.returncode, 2)
         self.assertIn("doesn't match SHA256SUMS", said.stderr)
+
+    def test_a_clone_of_another_user(self) -> None:
+        """That can't be written to, or was used by somebody else before."""
+        files, clone, temporary = self.files(), self.clone(), Path(tempfile.mkdtemp())
+        self.addCleanup(shutil.rmtree, temporary)
+        out = clone / "release" / "out"
+        out.touch()  # root writes to any folder
+        for name, status in (("good.pickle", 0), ("bad.pkl", 1)):
+            named: Dict[str, Any] = {"cwd": files, "env": {"TMPDIR": str(temporary), "HOME": "/no"}}
+            said = ran(clone / "release/storklocker", "scan", name, **named)
+            self.assertEqual((said.returncode, said.stderr), (status, ""), said.stdout)
+            self.assertEqual(list(temporary.iterdir()), [])
+        out.unlink()
+        words = ("sh", "-c", 'umask 022; exec "$1" --version', "sh", clone / "release/storklocker")
+        self.assertEqual(ran(*words).returncode, 0)
+        (unpacked,) = out.iterdir()
+        self.assertEqual(oct(unpacked.stat().st_mode & 0o777), oct(0o755))
 
     def test_workflow(self) -> None:
         jobs: Dict[str, Any] = parsed("examples/ci/github-workflow.yml")["jobs"]
@@ -285,6 +301,8 @@ def main() -> int:
     failed, skipped = len(result.failures) + len(result.errors), len(result.skipped)
     for test, why in result.skipped:
         print(f"skipped: {test}: {why}")
+    for test, trace in result.failures + result.errors:
+        print(f"failed: {test}: {trace.strip().splitlines()[-1][:500]}")
     passed = max(0, result.testsRun - failed - skipped)
     print(f"{passed} passed, {failed} failed, {skipped} skipped")
     return 0 if not failed else 1

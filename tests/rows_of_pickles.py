@@ -330,7 +330,7 @@ def judge_all(asked: argparse.Namespace) -> Judged:
             kept = pathlib.Path(asked.keep, f"row-{asked.seed}-{number}")
             kept.write_bytes(b"".join(row_of(asked.seed, number).pickles))
             told = f"--all {word}".strip()
-            print(f"FAILED: {told} of row {number}, in {kept}: {'; '.join(wrong)}", flush=True)
+            print(f"failed: {told} of row {number}, in {kept}: {'; '.join(wrong)}", flush=True)
     return whole
 
 

@@ -16,6 +16,8 @@ CLAUSES = r"\s(?:requires|ensures|where|ghost)\b"
 class Place(NamedTuple):
     crate: str
     name: str
+    # How the declaring crate writes a type for which the name stands, if not so.
+    written: str = ""
 
 
 @lru_cache(maxsize=None)
@@ -44,7 +46,8 @@ def place_of(crate: str, name: str) -> Optional[Place]:
         if name in re.findall(r"\w+", names):
             first = path.split("::")[0]
             return place_of(first, name) if first in own_crates() else Place(crate, name)
-    return None
+    found = re.search(rf"pub type {name} = (\w+)::(\w+)<\w+::(\w+)>;", root_of(crate))
+    return Place(found[1], found[2], f"{found[2]}<{found[3]}>") if found else None
 
 
 def parts(text: str) -> List[str]:
@@ -115,7 +118,8 @@ def method(place: Place, name: str) -> Optional[str]:
     for body in blocks_of(place):
         found = re.search(rf"(?m)^\s*(?:pub )?fn {name}\b", body)
         if found:
-            return signature_at(body, found.end())
+            signature = signature_at(body, found.end())
+            return signature.replace(place.written or place.name, place.name)
     return None
 
 

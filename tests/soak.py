@@ -146,7 +146,7 @@ def soak(asked: argparse.Namespace) -> Tuple[Ended, int]:
         for number, command, why, pickle in failed:
             kept = pathlib.Path(asked.keep, f"soak-{asked.seed}-{number}.pickle")
             kept.write_bytes(pickle)
-            print(f"FAILED: {command} of pickle {number}, in {kept}: {why}", flush=True)
+            print(f"failed: {command} of pickle {number}, in {kept}: {why}", flush=True)
     print(f"slowest run {slowest:.2f} of {SECONDS} s; peak {peak / 1e6:.0f} of {PEAK / 1e6:.0f} MB")
     return ended, wrong
 

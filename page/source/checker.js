@@ -15,7 +15,7 @@ export const REASONS = [
 export const FAULTS = [
   "", "Syntax", "Shape(Version)", "Shape(TopKey)", "Shape(Imports)", "Shape(Module)", "Shape(Name)",
   "Version", "OutOfMemory", "Shape(Limits)", "Shape(LimitKey)", "Shape(Limit)", "Shape(Rules)",
-  "Shape(RuleKey)", "Shape(Rule)",
+  "Shape(RuleKey)", "Shape(Rule)", "Shape(Substitutes)", "Shape(Substitute)",
 ];
 export const YES = 0, NO = 1, NO_LIST = 2;
 
@@ -146,7 +146,10 @@ export class Checker {
       const pairs = this.records(this.reading(source, places), places.wanted);
       return { ...this.verdict(places.verdict, 0), pairs, ...this.limitsAt(places.settings) };
     });
-    return found.status !== YES || this.hasLimits(source) ? found : { ...found, passed: PASSED };
+    if (found.status !== YES) return found;
+    const said = this.said(source);
+    const numbers = said.numbers ? found.numbers : NUMBERS;
+    return { ...found, numbers, passed: said.limits ? found.passed : PASSED };
   }
 
   reading(source, places) {
@@ -160,15 +163,17 @@ export class Checker {
     const view = new DataView(this.exports.memory.buffer, at, SETTINGS);
     const word = (name) => view.getBigUint64(8 + 8 * LIMITS.indexOf(name), true);
     const found = Object.fromEntries(LIMITS.map((name) => [name, word(name)]));
-    if (found.numbers >= ANY_NUMBER) found.numbers = NUMBERS;
     return { ...found, isLarge: view.getUint32(56, true) === 1 };
   }
 
-  // Whether a list file has the table `limits`: TOML permits no second one.
-  hasLimits(source) {
+  // Which limits a list file has whose defaults are this page's own.
+  said(source) {
     return this.call((places) => {
-      this.reading(`${source}\n[limits]\n`, places)(places.bill, 0);
-      return this.verdict(places.verdict, 0).reason === "Syntax";
+      const bytes = this.put(encoder.encode(source));
+      this.exports.pkguard_list_told(
+        bytes.at, bytes.length, places.bill, 0n, places.costs, places.wanted, places.verdict);
+      const view = new DataView(this.exports.memory.buffer, places.costs, COSTING);
+      return { limits: view.getUint32(0, true) === 1, numbers: view.getUint32(4, true) === 1 };
     });
   }
 

@@ -19,9 +19,11 @@ from storklocker._names import renamed
 from storklocker._substitutes import TABLE, substitute_of
 from storklocker.scanning.dangers import danger_of
 
-sys.path.append(str(Path(__file__).resolve().parents[1] / "tests"))
+sys.path += [str(Path(__file__).resolve().parents[1] / it) for it in ("tests", "catalogue")]
 
 import honest_objects  # noqa: E402
+import rows as catalogue  # noqa: E402
+from shipping import word_of  # noqa: E402
 
 CORPORA = {"NUMPY": "numpy", "PANDAS": "pandas", "TORCH_TENSORS": "torch", "TORCH_NN": "torch",
            "PACKAGES": "packages"}
@@ -35,21 +37,8 @@ PACKAGES = {
     "SCIKIT_LEARN": ("sklearn", "scipy", "numpy"),
 }
 """The packages whose names a list has, beside those of Python's library that other lists have."""
-_PLAIN = frozenset(
-    (("types", "SimpleNamespace"), ("argparse", "Namespace"), ("datetime", "tzinfo"))
-)
-"""Classes of Python's library of which a call makes an empty object, and that no other list has."""
 _STANDARD = ("STANDARD_TYPES", "DATETIME", "COLLECTIONS", "DECIMAL", "PATHLIB", "UUID",
              "EXCEPTIONS", "ENUM")
-_UNJUDGED = (
-    "pandas.core.window.", "pandas.core.groupby.", "pandas.core.resample.",
-    "pandas.core.indexers.", "pandas.tseries.", "dateutil.rrule.", "requests.sessions.",
-    "requests.adapters.", "sklearn.compose._column_transformer.make_column_selector",
-    "scipy.stats.",
-)
-"""What these do with hostile parts when they are used isn't judged: windows and groups of compiled
-code, rules that repeat, connections, patterns of texts, distributions.
-"""
 
 
 def versions(name):
@@ -90,11 +79,27 @@ def is_judged(name, pair):
     """Whether it is known what a name does: nothing that wasn't judged."""
     pair = renamed(pair)
     dotted = ".".join(pair)
-    if danger_of(pair) or dotted.startswith(_UNJUDGED):
+    if danger_of(pair) or dotted.startswith(_unlisted()):
         return False
-    if pair[0].partition(".")[0] in PACKAGES[name]:
-        return substitute_of(pair) is not None or _is_value(pair)
-    return substitute_of(pair) is not None or pair in _shipped() or pair in _PLAIN
+    if word_of(name) in catalogued(dotted).lists.split(",") or substitute_of(pair) is not None:
+        return True
+    return _is_value(pair) if pair[0].partition(".")[0] in PACKAGES[name] else pair in _shipped()
+
+
+@functools.lru_cache(maxsize=None)
+def _rows():
+    return catalogue.rows()
+
+
+def catalogued(dotted):
+    """What the catalogue knows of a name."""
+    return _rows().get(dotted, catalogue.Row(dotted))
+
+
+@functools.lru_cache(maxsize=None)
+def _unlisted():
+    """What names begin with that are in no list, whatever writes them."""
+    return tuple(row.name.rstrip("*") for row in _rows().values() if row.unlisted)
 
 
 def _is_value(pair):
@@ -132,8 +137,8 @@ def found(name):
 
 
 def later(name):
-    """Names that other versions of the libraries write, and those of a kind of which few are made
-    here: functions, exceptions, types, modules.
+    """Names of a kind of which few are made here: functions, exceptions, types, modules. Those
+    that only other versions of a library write stand in the catalogue, and stay there.
     """
     made = _LATER[name]() if name in _LATER else ()
     return [pair for pair in made if renamed(pair) == pair]
@@ -145,15 +150,8 @@ def _of_numpy():
     ufuncs = [word for word, it in vars(numpy).items() if type(it) is numpy.ufunc]
     for at in ("numpy.core", "numpy._core"):
         yield from ((f"{at}._multiarray_umath", word) for word in ufuncs)
-        yield from ((f"{at}.multiarray", word) for word in ("_reconstruct", "scalar"))
-        yield (f"{at}.numeric", "_frombuffer")
     yield from (pair for pair in _of_numpys.TABLE)
     yield from (pair for pair in _random.TABLE)
-    yield from (("numpy.rec", word) for word in ("recarray", "record"))
-    yield ("numpy.char", "chararray")
-    yield ("numpy.ma", "MaskedArray")
-    yield from (("numpy.exceptions", word) for word in
-                ("AxisError", "ComplexWarning", "VisibleDeprecationWarning"))
 
 
 def _of_pandas():
@@ -161,11 +159,6 @@ def _of_pandas():
 
     yield from _of_numpy()
     yield from _exceptions(pandas.errors)
-    yield ("pandas.core.arrays.numpy_", "NumpyExtensionArray")
-    yield from (("pandas.core.dtypes.dtypes", word) for word in ("NumpyEADtype", "SparseDtype"))
-    yield ("pandas._libs.tslibs.timedeltas", "Timedelta")
-    yield ("pandas._libs.tslibs.period", "__pyx_unpickle_PeriodMixin")
-    yield ("pandas._libs.tslibs.timestamps", "Timestamp")
 
 
 def _of_torch():
@@ -184,7 +177,6 @@ def _of_sklearn():
     yield from (pair for pair in _of_sklearns.TABLE if "dist_metrics" in pair[0] or
                 "_tree" in pair[0] or pair[0].startswith("sklearn._loss"))
     yield from (pair for pair in _random.TABLE)
-    yield ("numpy.ma", "MaskedArray")
     yield from _exceptions(exceptions)
     for module in (kernels, metrics, feature_selection):
         for it in vars(module).values():

@@ -58,20 +58,6 @@ def _made(kind):
             return
 
 
-LATER = {
-    "DJANGO": (
-        ("datetime", "timedelta"), ("datetime", "timezone"),
-        ("django.utils.safestring", "SafeText"),
-    ),
-    "EXCEPTIONS": (
-        ("configparser", "InvalidWriteError"), ("configparser", "UnnamedSectionDisabledError")
-    ),
-}
-"""Names of other versions than most have, by list: they stand in it whoever makes it. Here they are
-of Django 4 and 2, and of Python 3.14.
-"""
-
-
 def enum_classes():
     """The enums of the library that other libraries hand out."""
     for module in ENUMS:

@@ -53,7 +53,10 @@ def run(name):
             text = mark.read_text()[:2000] if mark.is_file() else ""
             said += f"{name}: a mark: {mark.name} {text}\n"
         is_good = ran == 0 and not left
-        return f"{said}{name}: {'passed' if is_good else 'FAILED'}, {took:.1f} s", is_good
+        if not is_good:
+            # The last line says what went wrong.
+            said += f"failed: {name}: {(said.strip().splitlines() or [ran])[-1]}\n"
+        return f"{said}{name}: {'passed' if is_good else 'failed'}, {took:.1f} s", is_good
 
 
 def ended(words, environment):

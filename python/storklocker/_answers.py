@@ -66,6 +66,8 @@ LIST_FAULTS = {
     12: "Shape(Rules)",
     13: "Shape(RuleKey)",
     14: "Shape(Rule)",
+    15: "Shape(Substitutes)",
+    16: "Shape(Substitute)",
 }
 
 SHOWN = 64

@@ -23,7 +23,7 @@ def _bytes(*given: Any) -> bytes:
 
 def _bytearray(*given: Any) -> bytearray:
     """`bytearray` of bytes, of a text or of nothing, not of a length."""
-    is_text = len(given) == 2 and type(given[0]) is str and given[1] in _CODECS
+    is_text = len(given) == 2 and type(given[0]) is type(given[1]) is str and given[1] in _CODECS
     is_data = len(given) == 1 and isinstance(given[0], (bytes, bytearray))
     if given and not (is_text or is_data):
         raise Misused("bytearray is called with other arguments")
@@ -32,9 +32,11 @@ def _bytearray(*given: Any) -> bytearray:
 
 def _encode(*given: Any) -> bytes:
     """`_codecs.encode` of a text by a codec that takes linear time."""
-    if len(given) != 2 or type(given[0]) is not str or given[1] not in _CODECS:
+    if list(map(type, given)) != [str, str] or given[1] not in _CODECS:
         raise Misused("_codecs.encode is called with other arguments")
-    return given[0].encode(given[1])
+    text, codec = given
+    made: bytes = text.encode(codec)
+    return made
 
 
 def _reconstructor(reader: Reader, *given: Any) -> Any:

@@ -9,11 +9,11 @@ import array
 from typing import TYPE_CHECKING, Any, Callable, Dict, Tuple
 
 from ._answers import Misused
+from ._facts import SUBSTITUTED
 from ._substitute import (
     BECOMES_REAL, EMPTY, IS_JUDGED, NEW_OF_NONE, OF_NONE, OF_TEXT, OF_TEXTS, Class, Remembering,
     Substitute,
 )
-from ._substituted import TIMES
 from ._weighing import CONTAINERS, SCALARS, keys_of, values
 
 if TYPE_CHECKING:
@@ -169,6 +169,29 @@ def _fraction(reader: Reader, *given: Any) -> Any:
     return Fraction(*given)
 
 
+_SIGNALS = 100
+
+
+def _context(reader: Reader, *given: Any) -> Any:
+    """A context of decimal: numbers, how to round, and few signals in lists."""
+    import decimal
+
+    if len(given) > 8 or any(
+        type(it) not in (int, str, type(None)) and not (type(it) is list and len(it) <= _SIGNALS)
+        for it in given
+    ):
+        raise wrong("Context")
+    return decimal.Context(*given)
+
+
+def _namespace(*given: Any) -> Any:
+    import types
+
+    if given:  # (since Python 3.13 it copies a dict)
+        raise wrong("SimpleNamespace")
+    return types.SimpleNamespace()
+
+
 def _address(name: str) -> Callable[..., Any]:
     def judged(reader: Reader, *given: Any) -> Any:
         import ipaddress
@@ -280,6 +303,7 @@ TABLE: Dict[Tuple[str, str], Substitute] = dict(
         row("builtins", "slice", _slice),
         row("array", "array", _array),
         row("array", "_array_reconstructor", _array_reconstructor),
+        row("decimal", "Context", _context),
         row("decimal", "Decimal", _decimal, OF_NONE | OF_TEXT),
         row("fractions", "Fraction", _fraction),
         *(row("ipaddress", name, _address(name)) for name in _ADDRESSES),
@@ -290,8 +314,10 @@ TABLE: Dict[Tuple[str, str], Substitute] = dict(
         ),
         *(((at, name), shown(at, name)) for at in _SHOWN for name in _SHOWN[at].split()),
         *((pair, _copying(*pair, *how)) for pair, how in _COPYING.items()),
-        *(row("datetime", name, _of_time(name)) for name in TIMES.split()),
+        *(row("datetime", name, _of_time(name)) for name in SUBSTITUTED["datetime"].split()),
         (("decimal", "DecimalTuple"), Class("decimal.DecimalTuple", news=takes_fields)),
+        (("types", "SimpleNamespace"), Class(
+            "types.SimpleNamespace", call=_namespace, role=EMPTY)),
         (("uuid", "UUID"), Class("uuid.UUID", call=_uuid, role=OF_TEXT | NEW_OF_NONE)),
     ]
 )

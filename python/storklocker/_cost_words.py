@@ -16,5 +16,3 @@ WHY = {
 ALL = "at byte {at:,} all keys weigh more than the limit work, {work:,}: hashing them takes long"
 """Of HeavyKeys, where no key alone is too heavy."""
 BILL = "; bill: levels {levels:,}{deeper}, weight {weight:,}{more}, work {work:,}{more}"
-COUNTED = {"levels": 1_023, "weight": 1_048_575}
-"""As far as levels and weights are counted; behind such a one is a `+`."""

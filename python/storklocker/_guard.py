@@ -130,7 +130,7 @@ class Guard(Loads):
         self._enforce = flag("enforce", enforce)
         self._max_bytes = number("max_bytes", max_bytes)
         self._build = build
-        _later("_meant").require(allow)
+        _later("_unjudged").look_at(allow)
         self._has_substitutes = has_substitutes(allow)
         self._is_plain = not len(allow) and old_strings != "bytes"
         self._new = allow._for_loading()._under(settings)

@@ -34,6 +34,8 @@ storklocker.h.
 """
 MOST_SAID = {name: min(most, (1 << 63) - 1) for name, (_, most) in COSTS.items()}
 """The numbers that stand for none in a list file: the greatest that each may have there."""
+FURTHEST = {"levels": 1_023, "weight": 1_048_575}
+"""As far as levels and weights are counted: no key exceeds a limit of as many."""
 NO_COSTS: "Dict[str, Any]" = dict.fromkeys(COSTS)
 """The words that ask `Limits` for no limit on what loading costs."""
 BUILDS = ("made", "any")
@@ -48,7 +50,7 @@ class Limits(Named):
         >>> str(storklocker.check(deep, storklocker.AllowList([]), limits=limits))
         'no at 6: DeepKey'
 
-    A limit above its greatest value means that value.
+    A limit above its greatest value means that value; one of `levels` or `weight` is a ValueError.
 
     counted: bytes in the payload of an argument with a length; default and greatest 16,777,216.
     stack: stack entries, marks included; default and greatest 1,000,000.
@@ -73,10 +75,10 @@ class Limits(Named):
     limits off. Pass it once, to the list or to the guard: if one of the two is at its default, the
     other applies; otherwise the smaller does.
 
-    levels: levels of tuples in a key, since each takes C stack to hash; default 1,000. From 1,023
-        on, there is no limit.
-    weight: the weight of a key; default 1,000,000. From 1,048,575 on, there is no limit, and a
-        heavier key adds that number to `work`.
+    levels: levels of tuples in a key, since each takes C stack to hash; default 1,000, greatest
+        1,022.
+    weight: the weight of a key; default 1,000,000, greatest 1,048,574. A heavier key adds 1,048,575
+        to `work`.
     work: the weight of all keys of a pickle together; default 100,000,000.
     clash: the weight of all keys that can be made to collide: those other than texts, bytes, and
         the results of calls and imports; default None.
@@ -124,10 +126,7 @@ class Limits(Named):
             number("passed", passed),
             number("numbers", numbers),
             large,
-            *(
-                None if given is None else number(name, given)
-                for name, given in zip(COSTS, (levels, weight, work, clash, memory))
-            ),
+            *map(_cost, COSTS, (levels, weight, work, clash, memory)),
         )
         return cls._make(values)
 
@@ -149,6 +148,18 @@ def number(name: str, given: int) -> int:
     if not 0 <= operator.index(given) < 1 << 64:
         raise ValueError(f"{name} must be a number from 0 to 2 ** 64 - 1, not {given!r:.80}")
     return int(given)
+
+
+def _cost(name: str, given: "Optional[int]") -> "Optional[int]":
+    """A limit on what loading costs. One that no key can exceed would only look like one, but for
+    the number that says none in a list file.
+    """
+    limit = None if given is None else number(name, given)
+    if name not in FURTHEST or limit is None or limit < FURTHEST[name]:
+        return limit
+    if limit != UNBOUND:
+        raise ValueError(f"{name} must be below {FURTHEST[name]:,}, or None, not {limit:,}")
+    return None
 
 
 def _limits_with(fields: "Dict[str, Any]") -> Limits:

@@ -9,7 +9,7 @@ from ._answers import LIST_FAULTS, ListFault
 from ._limits import BUILDS, COSTS, MOST_SAID, OLD_STRINGS, Limits, least, limits_of, packed
 from ._pairs import bytes_of, bytes_of_pair, encoded, is_pair, records, with_room
 from ._storklocker import Pairs as _Pairs
-from ._storklocker import pairs_of, read_list
+from ._storklocker import list_told, pairs_of, read_list
 
 TYPE_CHECKING = False
 if TYPE_CHECKING:
@@ -107,9 +107,9 @@ class AllowList(_Pairs):
             >>> ("datetime", "date") in storklocker.AllowList.from_text(text)
             True
 
-        If its limits leave out `numbers` or a limit on costs, that of `STANDARD` applies. The
-        greatest value turns a limit on costs off. A name that only Python 2 has means its Python 3
-        name, which is logged once.
+        If its limits leave out `numbers` or a limit on costs, that of `STANDARD` applies. A limit
+        on costs is off at 4,294,967,295 for `levels` and `weight`, at 2 ** 63 - 1 for the others.
+        A name that only Python 2 has means its Python 3 name, which is logged once.
         """
         return cls._parsed(text, "")
 
@@ -118,26 +118,21 @@ class AllowList(_Pairs):
         if not isinstance(text, (str, bytes, bytearray)):
             raise TypeError(f"the text of a list file must be str or bytes, not {type(text)!r}")
         data = bytes_of(text) if isinstance(text, str) else bytes(text)
-        said: Tuple[Any, Any] = ({}, ())
-        if b"substitutes" in data:
-            from ._sections import split
-
-            data, said = split(data)
         (fault, numbers, costs), room = with_room(lambda size: read_list(data, size))
-        if fault != 0:
-            raise _fault_of(data, LIST_FAULTS[fault])
+        (late, said), rows = with_room(lambda size: list_told(data, size))
+        if fault or late:
+            raise _fault_of(data, LIST_FAULTS[fault or late])
         pairs = ((module or b"", name or b"") for module, name in records(room))
         *costs, builds = costs
-        heard = (_heard(data, name, number) for name, number in zip(COSTS, costs))
+        has_limits, _, *are_said, is_ruled = said
+        heard = map(_heard, COSTS, costs, are_said)
         own = limits_of(*numbers)._replace(**dict(zip(COSTS, heard)))
-        limits = own if _has_limits(data) else None
-        is_ruled = builds == 0 or _says(data, b"build", "Shape(RuleKey)")
-        made = cls._of(pairs, limits, BUILDS[builds] if is_ruled else None)
+        made = cls._of(pairs, own if has_limits else None, BUILDS[builds] if is_ruled else None)
         if made._for_loading() is not made:
             from ._old_lines import tell
 
             tell(made, data, file)
-        return cls._saying(made, *said)
+        return cls._saying(made, *_substitutes_in(data, rows))
 
     @classmethod
     def from_file(cls, file: "Union[str, os.PathLike[str]]") -> "AllowList":
@@ -297,29 +292,22 @@ def _fault_of(text: bytes, fault: str) -> Exception:
     return ListFault(fault, "", *place_of(text, fault))
 
 
-def _has_limits(text: bytes) -> bool:
-    """Whether a list file has the table `limits`: TOML permits no second one."""
-    (fault, *_), _ = with_room(lambda size: read_list(text + b"\n[limits]\n", size))
-    return bool(LIST_FAULTS.get(fault) == "Syntax")
-
-
-def _says(text: bytes, key: bytes, fault: str) -> bool:
-    """Whether a list file has a key, which written otherwise is this fault. False if it is escaped:
-    then a default applies, which permits less.
-    """
-    if key not in text:
-        return False
-    other = text.replace(key, b"-" + key[1:])
-    (found, *_), _ = with_room(lambda size: read_list(other, size))
-    return LIST_FAULTS.get(found) == fault
-
-
-def _heard(text: bytes, name: str, number: int) -> "Optional[int]":
+def _heard(name: str, number: int, is_said: int) -> "Optional[int]":
     """The limit on costs of a list file: the number that was read; by default if it has none."""
     usual, most = COSTS[name]
-    if number == most and not _says(text, name.encode(), "Shape(LimitKey)"):
+    if not is_said:
         return usual
     return None if number in (most, MOST_SAID[name]) else number
+
+
+def _substitutes_in(text: bytes, rows: bytes) -> "Tuple[Any, Any]":
+    """The substitutes of a list file, and the names that are meant to be dangerous."""
+    if not rows:
+        return {}, ()
+    from ._sections import said_in
+
+    pairs = [((name or b"").decode(), (its or b"").decode()) for name, its in records(rows)]
+    return said_in(text, pairs)
 
 
 def has_substitutes(allow: AllowList) -> bool:

@@ -4,32 +4,13 @@ from __future__ import annotations
 
 from typing import Any, Dict, FrozenSet, Iterable, Iterator, Mapping, NamedTuple, Tuple
 
+from ._facts import EVERYTHING as _NAMES
 from ._lists import AllowList
 from ._names import today
 from ._substitute import Substitute
 
 Pair = Tuple[str, str]
 
-_NAMES = {
-    "builtins": "getattr setattr eval exec compile __import__",
-    "functools": "partial",
-    "importlib": "import_module __import__",
-    "marshal": "loads load",
-    "numpy": "load",
-    "operator": "attrgetter methodcaller",
-    "_operator": "attrgetter methodcaller",
-    "os": "system popen execv execve",
-    "posix": "system execv execve",
-    "pickle": "loads load _loads _load Unpickler",
-    "_pickle": "loads load Unpickler",
-    "pkgutil": "resolve_name",
-    "pydoc": "locate",
-    "runpy": "run_path run_module",
-    "subprocess": "Popen call run check_call check_output getoutput getstatusoutput",
-    "torch": "load",
-    "torch.storage": "_load_from_bytes",
-    "types": "FunctionType CodeType",
-}
 EVERYTHING = frozenset((module, name) for module in _NAMES for name in _NAMES[module].split())
 """Names that permit everything, or that call any listed name in ways that a pickle can't."""
 

@@ -60,7 +60,12 @@ def _block(reader: Reader, *given: Any) -> Any:
         _check_places(reader, given[1], len(values) if own == 2 else 1)
     else:
         _check_places(reader, given[1], len(values))
-    return internals._unpickle_block(*given)
+    return internals._unpickle_block(values, _own(given[1]), ndim)
+
+
+def _own(places: Any) -> Any:
+    """Places that nothing else has: who writes to an array of the pickle doesn't change them."""
+    return places if type(places) is slice else places.copy()
 
 
 def _check_filled(reader: Reader, places: List[Any], count: int) -> None:
@@ -140,7 +145,9 @@ def manager_state(reader: Reader, manager: Any, state: Any) -> Any:
         _check_block(reader, block["values"], block["mgr_locs"], axes)
     if not is_series:
         _check_filled(reader, [_placed(block["mgr_locs"]) for block in blocks], len(axes[0]))
-    made = {"axes": list(axes), "blocks": [dict(block) for block in blocks]}
+    made = {
+        "axes": list(axes), "blocks": [{**it, "mgr_locs": _own(it["mgr_locs"])} for it in blocks]
+    }
     return (*state[:3], {"0.14.1": made})
 
 

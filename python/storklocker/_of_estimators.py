@@ -58,12 +58,15 @@ def state_of(reader: Reader, estimator: Any, state: Any) -> Any:
     if type(state) is not dict:
         raise Misused("the state of an estimator is no dict")
     judge_attributes(estimator, state.items(), False)
+    if any(callable(it) and callable(getattr(type(estimator), str(name), None))
+           for name, it in state.items()):
+        raise Misused("the state of an estimator has a function in the place of a method")
     made = dict(state)
     if "_sklearn_version" in state:
         made["_sklearn_version"] = version_of(state["_sklearn_version"])
     for name, judge in _PARTS.items():
         if name in state:
-            made[name] = judge(_Part(reader, type(estimator), name, state))
+            made[name] = judge(_Part(reader, type(estimator), name, made))
     return made
 
 
@@ -102,7 +105,7 @@ def _stages(part: _Part) -> Any:
         return stages
     if id(stages) in part.reader.unbuilt or stages.ndim != 2 or stages.size == 0:
         raise part.wrong()
-    if getattr(part.state.get("_loss"), "K", stages.shape[1]) != stages.shape[1]:
+    if _written(part) != stages.shape[1]:
         raise part.wrong()
     count = part.columns()
     for stage in stages.ravel().tolist():
@@ -111,6 +114,33 @@ def _stages(part: _Part) -> Any:
         if not is_tree or held.n_features != count:
             raise part.wrong()
     return stages
+
+
+def _written(part: _Part) -> int:
+    """How many columns an estimator has the trees of a stage write: those that its loss asks for,
+    and that the constant estimator says with which it begins.
+    """
+    state, first = part.state, part.state.get("init_")
+    loss = state.get("_loss", state.get("loss_"))
+    count = whole(state.get("n_trees_per_iteration_", _held(loss, "K")), 1, _MOST)
+    if type(first) is str:
+        return count
+    has_many = any(getattr(type(loss), it, 0) is True and _held(loss, it) is None for it in _MANY)
+    kind = type(first).__name__ if type(first).__module__ == "sklearn.dummy" else ""
+    if count != 1 and not has_many or kind not in ("DummyClassifier", "DummyRegressor"):
+        raise part.wrong()
+    whole(_held(first, "n_outputs_"), 1, 1)
+    if kind == "DummyClassifier":
+        classes = 2 if count == 1 else count
+        array_of(part.reader, _held(first, "class_prior_"), "f", (classes,))
+        whole(_held(first, "n_classes_"), classes, classes)
+    elif count != 1:
+        raise part.wrong()
+    return count
+
+
+_MANY = ("is_multi_class", "is_multiclass")
+"""What losses say, by version, that give a column for each class."""
 
 
 def _held(it: Any, name: str) -> Any:
@@ -183,17 +213,21 @@ def _machine(part: _Part) -> Any:
         raise part.wrong()
     if _shape(part.reader, part.value) != (len(counts) - 1, many):
         raise part.wrong()
+    if hasattr(part.value, "indptr") and len(part.value.data) != (len(counts) - 1) * many:
+        raise part.wrong()  # (compiled code reads a sparse matrix as if it were dense)
     if _shape(part.reader, part.state.get("support_vectors_"))[0] not in (0, many):
         raise part.wrong()
     array_of(part.reader, part.state.get("_intercept_"), "f", (places,))
     for word in ("_probA", "_probB"):
         if len(array_of(part.reader, part.state.get(word), "f", (None,))) not in (0, places):
             raise part.wrong()
+    for word in ("_n_support", "support_"):  # (what else has them may be written to)
+        part.state[word] = part.state[word].copy()
     return part.value
 
 
 def _shape(reader: Reader, rows: Any) -> Tuple[int, int]:
-    """The shape of an array, or of a sparse matrix that has all its values."""
+    """The shape of an array, or of a sparse matrix."""
     if hasattr(rows, "indptr") and type(rows).__module__.startswith("scipy.sparse."):
         return tuple(rows.shape)  # type: ignore[return-value]
     found: Tuple[int, int] = array_of(reader, rows, "f", (None, None)).shape

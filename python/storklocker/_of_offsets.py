@@ -5,8 +5,11 @@ takes numbers, short texts, and the few objects that picklers give.
 from __future__ import annotations
 
 import datetime
+import functools
+import os
+import re
 import sys
-from typing import TYPE_CHECKING, Any, Callable, Dict, Tuple
+from typing import TYPE_CHECKING, Any, Callable, Dict, FrozenSet, Optional, Tuple
 
 from ._answers import Misused
 from ._attributes import judge_attributes
@@ -128,6 +131,7 @@ def _blocks(reader: Reader, *given: Any) -> Any:
 
 def date_offset_state(reader: Reader, offset: Any, state: Any) -> Any:
     """The state of an offset that `relativedelta` adds."""
+    reader.unbuilt.pop(id(offset), None)
     deltas: Any = sys.modules.get("dateutil.relativedelta")
     if type(state) is not dict or not all(type(name) is str for name in state):
         raise Misused("the state of an offset is of no known kind")
@@ -146,11 +150,19 @@ def _is_weekday(it: Any) -> bool:
     return type(it) in kinds
 
 
+@functools.lru_cache(maxsize=1)
+def _zones() -> FrozenSet[str]:
+    """The names of pytz's own time zones: each is a file that it reads when it is asked for."""
+    import pytz
+
+    return frozenset(getattr(pytz, "_all_timezones_unchecked", pytz.all_timezones))
+
+
 def _zone(reader: Reader, *given: Any) -> Any:
     """A time zone of pytz, which keeps each rule that it has made: only one that the zone has."""
     import pytz
 
-    if len(given) not in (1, 4) or type(given[0]) is not str or len(given[0]) > _SHORT:
+    if len(given) not in (1, 4) or type(given[0]) is not str or given[0] not in _zones():
         raise wrong("_p")
     zone: Any = pytz.timezone(given[0])
     if len(given) == 1:
@@ -177,6 +189,43 @@ def _file(reader: Reader, *given: Any) -> Any:
     if len(given) != 2 or given[0] is not None or type(given[1]) not in (str, type(None)):
         raise wrong("tzfile")
     return sys.modules["dateutil.tz.tz"].tzfile(*given)
+
+
+_NAME = re.compile(r"[\w+-]+(/[\w+-]+){0,3}", re.ASCII)
+_COMPARED = ("_trans_list_utc", "_trans_idx", "_ttinfo_list")
+
+
+@functools.lru_cache(maxsize=1024)
+def _of_file(path: str) -> Optional[Dict[str, Any]]:
+    """What a time zone has that this machine keeps in a file where dateutil looks, or None."""
+    zones: Any = sys.modules["dateutil.tz.tz"]
+    folders = [f"{it}/" for it in zones.TZPATHS if path.startswith(f"{it}/")]
+    is_name = any(_NAME.fullmatch(path[len(it):]) for it in folders)
+    if not (is_name or path in zones.TZFILES) or not os.path.isfile(path):
+        return None
+    try:
+        found: Dict[str, Any] = vars(zones.tzfile(path))
+    except (OSError, ValueError):
+        return None
+    return found
+
+
+def _is_plain(row: Any) -> bool:
+    """Whether these are numbers or rules, which compare in no time."""
+    kinds = (int, vars(sys.modules["dateutil.tz.tz"])["_ttinfo"])
+    return type(row) in (list, tuple) and all(type(it) in kinds for it in row)
+
+
+def zone_state(reader: Reader, zone: Any, state: Any) -> Any:
+    """The state of a time zone of a file. Compiled code of pandas believes its rules, and keeps
+    them under the name of the file until the process ends: only the rules that the file has.
+    """
+    path: Any = state.get("_filename") if type(state) is dict else None
+    own = _of_file(path) if type(path) is str and len(path) <= 4 * _SHORT else None
+    is_known = own is not None and all(_is_plain(state.get(name)) for name in _COMPARED)
+    if own is None or not is_known or any(state[it] != own.get(it) for it in _COMPARED):
+        raise Misused("a time zone has rules that its file doesn't have here")
+    return dict(own)
 
 
 TABLE: Dict[Tuple[str, str], Substitute] = dict(

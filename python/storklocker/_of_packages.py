@@ -12,23 +12,23 @@ import sys
 import types
 from typing import TYPE_CHECKING, Any, Callable, Dict, Optional, Tuple
 
-from . import _of_blocks, _of_numpy, _of_offsets, _of_pandas, _of_sklearn, _of_torch
+from . import _facts, _of_blocks, _of_numpy, _of_offsets, _of_pandas, _of_sklearn, _of_torch
 from ._answers import Misused
 from ._calls import row, shown, takes_fields, takes_row, takes_text, wrong
 from ._items import SHOWING, judging
-from ._substitute import BECOMES_REAL, Class, Remembering, Substitute, Value
+from ._substitute import BECOMES_REAL, Class, Remembering, Substitute, Value, nothing
 from ._weighing import CONTAINERS, keys_of, values
 
 if TYPE_CHECKING:
     from ._substitutes import Reader
 
-PACKAGES = (
-    "sklearn", "scipy", "pandas", "django", "celery", "kombu", "billiard", "torch", "pytz",
-    "dateutil", "requests", "networkx", "sqlalchemy", "rq",
-)
+PACKAGES = tuple(it for it in _facts.PACKAGES if it != "numpy")
+"""The packages of which any name may have a substitute, beside NumPy."""
 _REDUCE = ("__reduce__", "__reduce_ex__")
 MOST_TOGETHER = 10_000
 """The most flags together that pickles may have Python keep of a class."""
+_BITS = 128
+"""The most bits of one of these."""
 
 
 def substitute_for(it: Any) -> Optional[Substitute]:
@@ -67,8 +67,31 @@ def _is_full(kind: Any, given: Tuple[Any, ...]) -> bool:
     keeps each that it makes.
     """
     kept = kind._value2member_map_
-    is_known = len(given) == 1 and type(given[0]) is int and given[0] in kept
-    return not is_known and len(kept) >= len(kind.__members__) + MOST_TOGETHER
+    if len(given) == 1 and type(given[0]) is int and given[0] in kept:
+        return False
+    is_long = any(type(it) is int and it.bit_length() > _BITS for it in given)
+    return is_long or len(kept) >= len(kind.__members__) + MOST_TOGETHER
+
+
+def judge_together(reader: Reader, given: Tuple[Any, ...]) -> None:
+    """Refuses all but flags of one class, or a flag and bits that its class doesn't name: other
+    things are copied.
+    """
+    kinds = list(map(type, given))
+    if len(kinds) != 2 or not issubclass(kinds[0], enum.Flag) or kinds[1] not in (kinds[0], int):
+        raise wrong("or_")
+    keys_of(reader, map(_bits_of, given))
+    if _is_full(kinds[0], (_bits_of(given[0]) | _bits_of(given[1]),)):
+        raise wrong("or_")
+
+
+def _together(reader: Reader, *given: Any) -> Any:
+    judge_together(reader, given)
+    return given[0] | given[1]
+
+
+def _bits_of(flag: Any) -> Any:
+    return flag.value if isinstance(flag, enum.Flag) else flag
 
 
 class _Members(Remembering):
@@ -96,6 +119,17 @@ class _Showing(Class):
         return made
 
 
+class _Filled(Class):
+    """A class with a compiled part, which follows pointers that the state sets."""
+
+    __slots__ = ()
+
+    def new(self, reader: Any, *given: Any) -> Any:
+        made = super().new(reader, *given)
+        reader.unbuilt[id(made)] = made
+        return made
+
+
 @functools.lru_cache(maxsize=4096)
 def _found(it: Any, module: str, package: str) -> Optional[Substitute]:
     name = f"{module}.{getattr(it, '__qualname__', '')}"
@@ -114,9 +148,32 @@ def _found(it: Any, module: str, package: str) -> Optional[Substitute]:
         return None
     if module in SHOWING:
         return _Showing(name, it)
+    if package == "pandas" and not all(map(_is_of_python, it.__mro__)):
+        return _Filled(name, it)
     if not issubclass(it, tuple):
-        return Class(name, it, takes_text)
-    return Class(name, it, takes_fields if hasattr(it, "_fields") else takes_row)
+        return Class(name, it, takes_text if issubclass(it, (str, bytes)) else nothing)
+    if not hasattr(it, "_fields"):
+        return Class(name, it, takes_row)
+    return Class(name, it, takes_fields if _is_plain(it) else _refuse_fields)
+
+
+def _is_plain(kind: Any) -> bool:
+    """Whether a named tuple is made as `namedtuple` says, and not by code of its own."""
+    module = getattr(kind.__new__, "__module__", None)
+    return type(module) is str and module.startswith("namedtuple_")
+
+
+def _refuse_fields(reader: Reader, name: str, given: Tuple[Any, ...]) -> None:
+    raise wrong(name)
+
+
+def _is_of_python(kind: type) -> bool:
+    """Whether no part of a class's own is compiled."""
+    return kind.__module__ in _BASES or kind.__flags__ & _IS_OF_PYTHON != 0
+
+
+_BASES = ("builtins", "collections", "datetime")
+_IS_OF_PYTHON = 1 << 9  # the flag of classes that Python code makes
 
 
 def _says_how(kind: type) -> bool:
@@ -192,6 +249,8 @@ def _nothing(name: str) -> Callable[..., Any]:
     return judged
 
 
+TOGETHER = ("_operator", "or_")
+"""What picklers write for flags together."""
 TABLE: Dict[Tuple[str, str], Substitute] = {
     **_of_numpy.TABLE,
     **_of_sklearn.TABLE,
@@ -206,6 +265,7 @@ TABLE: Dict[Tuple[str, str], Substitute] = {
             row("billiard.einfo", "rebuild_exc", _raised),
             row("celery.utils.serialization", "UnpickleableExceptionWrapper", _wrapped),
             row("pytz", "_UTC", _nothing("_UTC")),
+            row(*TOGETHER, _together),
         ]
     ),
 }

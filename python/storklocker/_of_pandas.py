@@ -100,11 +100,29 @@ def _index_words(reader: Reader, given: Tuple[Any, ...]) -> Tuple[Any, Dict[str,
         raise wrong("_new_Index")
     if "data" in words and not (is_array(reader, words["data"]) or is_index(words["data"])):
         raise wrong("_new_Index")
+    for word in ("data", "left", "right"):
+        if word in words:
+            _pay_for(reader, words[word])
     if "name" in words:
         _is_label(reader, words["name"])
     if "levels" in words or "codes" in words:
-        _check_levels(reader, words)
+        return kind, {**words, **_levels(reader, words)}
     return kind, dict(words)
+
+
+def _pay_for(reader: Reader, it: Any) -> None:
+    """Counts what pandas may copy of an array that the pickle gives again, or of what is longer
+    than its pickle.
+    """
+    if id(it) in reader.used or type(it).__name__ in _LONG or is_index(it):
+        reader.pay(16 * len(it))
+    reader.used[id(it)] = it
+
+
+_TIMED = 16
+"""The steps that a date takes of an index whose frequency is said."""
+_LONG = ("SparseArray", "IntervalArray")
+"""Arrays that may be of few values, or of indexes."""
 
 
 def is_index(it: Any) -> bool:
@@ -113,28 +131,36 @@ def is_index(it: Any) -> bool:
     return isinstance(it, pandas.Index)
 
 
-def _check_levels(reader: Reader, words: Dict[str, Any]) -> None:
-    """The codes of an index of several levels, which pandas takes as they are."""
+def _levels(reader: Reader, words: Dict[str, Any]) -> Dict[str, Any]:
+    """The levels and codes of an index of several levels, which pandas takes as they are. Nothing
+    else has these codes: who writes to what a pickle gives doesn't change them.
+    """
     import numpy
 
     levels, codes = words.get("levels"), words.get("codes")
     if type(levels) is not list or type(codes) is not list or len(levels) != len(codes):
         raise wrong("_new_Index")
+    made = []
     for level, code in zip(levels, codes):
-        own: Any = code
-        if not isinstance(own, numpy.ndarray) or own.dtype.kind != "i" or own.ndim != 1:
+        if type(code) is not numpy.ndarray or code.dtype.kind != "i" or code.ndim != 1:
             raise wrong("_new_Index")
-        if not is_index(level) or len(own) != len(codes[0]) or id(own) in reader.unbuilt:
+        if not is_index(level) or len(code) != len(codes[0]) or id(code) in reader.unbuilt:
             raise wrong("_new_Index")
-        reader.pay(own.nbytes)
+        reader.pay(code.nbytes)
+        own = numpy.array(code, code.dtype.newbyteorder("="))
         if len(own) and (own.min() < -1 or own.max() >= len(level)):
             raise wrong("_new_Index")
+        made.append(own)
+    return {"levels": list(levels), "codes": made}
 
 
 def _index(reader: Reader, *given: Any) -> Any:
     from pandas.core.indexes import base
 
-    return base._new_Index(*_index_words(reader, given))
+    kind, words = _index_words(reader, given)
+    if words.get("freq") is not None and "data" in words:
+        reader.step(_TIMED * len(words["data"]))  # (pandas compares each date with the one before)
+    return base._new_Index(kind, words)
 
 
 def _times(reader: Reader, *given: Any) -> Any:
@@ -262,17 +288,21 @@ def array_state(reader: Reader, array: Any, state: Any) -> Any:
         raise Misused("the state of an array of pandas is of no known kind")
     held = [it for it in state[:2] if type(it) is numpy.ndarray and id(it) not in reader.unbuilt]
     kinds = [it for it in state[:2] if not isinstance(it, numpy.ndarray)]
-    if len(held) != 1 or not set(state[2]) <= {"_freq", "_cache", "_readonly"}:
+    is_one = len(held) == len(kinds) == 1 and held[0].ndim > 0
+    if not is_one or not set(state[2]) <= {"_freq", "_cache", "_readonly"}:
         raise Misused("the state of an array of pandas is of no known kind")
     name = type(array).__name__
     wanted = {"DatetimeArray": "M", "TimedeltaArray": "m", "PeriodArray": "i", "Categorical": "i",
               "StringArray": "O"}.get(name, held[0].dtype.kind)
     if held[0].dtype.kind != wanted or held[0].dtype.kind in "Mmi" and not held[0].dtype.isnative:
         raise Misused("the state of an array of pandas has another type")
-    if name == "Categorical" and len(held[0]):
+    if name == "Categorical" and held[0].size:
         reader.pay(held[0].nbytes)
-        if held[0].min() < -1 or held[0].max() >= len(kinds[0].categories):
+        codes = held[0].copy()  # (which nothing else has)
+        known: Any = getattr(kinds[0], "categories", None)
+        if not is_index(known) or codes.min() < -1 or codes.max() >= len(known):
             raise Misused("a code of an array of pandas is of no category")
+        return (codes, kinds[0], uncached(state[2]))
     return (*state[:2], uncached(state[2]))
 
 

@@ -186,7 +186,15 @@ def module_state(reader: Reader, module: Any, state: Any) -> Any:
     for name, value in dict.items(state):
         if type(name) is not str or not _is_part(type(module), name, value):
             raise Misused(f"a module has a {str(name)[:40]!r} that is of no known kind")
-    return dict(state)
+    return {name: _own(reader, value) for name, value in dict.items(state)}
+
+
+def _own(reader: Reader, value: Any) -> Any:
+    """A container that the pickle can't change any more."""
+    if type(value) not in (*_DICTS, list, set):
+        return value
+    reader.pay(64 * len(value))
+    return type(value)(_own(reader, it) for it in value) if type(value) is list else value.copy()
 
 
 _DICTS = (dict, collections.OrderedDict)

@@ -1,4 +1,4 @@
-"""The section `[substitutes]` of a list file, which only this package reads."""
+"""What the section `[substitutes]` of a list file says, which only this package loads with."""
 
 from __future__ import annotations
 
@@ -12,50 +12,25 @@ Said = Tuple[Dict[str, Any], Set[str]]
 """The substitutes, and the names that are meant to be dangerous."""
 
 _FAULT = "Substitutes"
-_HEADER = re.compile(r"\s*\[\s*substitutes\s*\]\s*(#.*)?")
-_NEXT = re.compile(r"\s*\[")
-_EMPTY = re.compile(r"\s*(#.*)?")
-_ENTRY = re.compile(r"""\s*("[^"\\]+"|'[^']+'|[\w-]+)\s*=\s*("[^"\\]*"|'[^']*')\s*(#.*)?""")
-_HINT = '"builtins.getattr" = "members of project.models.Color"'
+_PLAIN = re.compile(r'[^"\\\n]*')
 
 
-def split(text: bytes) -> Tuple[bytes, Said]:
-    """A list file without its section, whose lines become empty, and what the section says."""
-    lines = text.decode("utf-8", "surrogateescape").split("\n")
-    kept: List[str] = []
+def said_in(text: bytes, rows: Iterable[Tuple[str, str]]) -> Said:
+    """What the rows of the section say, each a name and its substitute."""
     found: Said = ({}, set())
-    is_inside = has_one = False
-    for number, line in enumerate(lines, 1):
-        line = line.rstrip("\r")
-        if _HEADER.fullmatch(line):
-            if has_one:
-                raise ListFault(_FAULT, "", number, "there is one section of this name")
-            is_inside = has_one = True
-        elif is_inside and not _NEXT.match(line):
-            if not _EMPTY.fullmatch(line):
-                _add(found, line, number)
+    for name, value in rows:
+        make, value = _MAKERS.get(name), value.strip()
+        made = None if make is None else make(value)
+        if value == "dangerous":
+            found[1].add(name)
+        elif made is None:
+            from ._places import line_of
+
+            hint = f"no substitute for {name} is called {value!r}" if make else f"{name} has none"
+            raise ListFault(_FAULT, "", line_of(text, "substitutes", name), hint)
         else:
-            is_inside = False
-            kept.append(lines[number - 1])
-            continue
-        kept.append("")
-    return "\n".join(kept).encode("utf-8", "surrogateescape"), found
-
-
-def _add(found: Said, line: str, number: int) -> None:
-    entry = _ENTRY.fullmatch(line)
-    name, value = (entry[1].strip("\"'"), entry[2][1:-1].strip()) if entry else ("", "")
-    if not entry or name in found[0] or name in found[1]:
-        raise ListFault(_FAULT, "", number, f"each line is like {_HINT}, with its own name")
-    if value == "dangerous":
-        found[1].add(name)
-        return
-    make = _MAKERS.get(name)
-    made = None if make is None else make(value)
-    if made is None:
-        hint = f"no substitute for {name} is called {value!r}" if make else f"{name} has none"
-        raise ListFault(_FAULT, "", number, hint)
-    found[0][name] = made
+            found[0][name] = made
+    return found
 
 
 def _rows(value: str) -> Iterator[Tuple[str, List[str]]]:
@@ -113,7 +88,7 @@ def said_of(pair: Tuple[str, str], substitute: Any) -> str:
     else:
         value = ", ".join(map(str, (given, *more)))
     make = _MAKERS.get(".".join(pair))
-    if make is None or not _ENTRY.fullmatch(f'x = "{value}"') or make(value) != substitute:
+    if make is None or not _PLAIN.fullmatch(value) or make(value) != substitute:
         raise ValueError(f"no list file can name the substitute for {'.'.join(pair)}")
     return value
 

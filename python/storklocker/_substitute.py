@@ -7,7 +7,7 @@ import importlib
 from typing import Any, Callable, Optional, Tuple
 
 from ._answers import Misused
-
+from ._facts import VALUES
 
 BECOMES_REAL, IS_PASSED, IS_WRAPPER, IS_JUDGED = 1, 2, 4, 8
 """Roles, as `uses.c` knows them: a name that is the real object where it is a value; a class that
@@ -23,7 +23,7 @@ EMPTY = OF_NONE | NEW_OF_NONE
 """The role of a class of values that are empty by default."""
 ANSWERS = 1 << 17
 """The role of what answers functions, which a pickle may call."""
-_BY_VALUE = frozenset(("cloudpickle", "dill"))
+_VALUES = frozenset(VALUES)
 NUMBERED = 1 << 10
 """More than the names that `uses.c` numbers, and what it divides a role by."""
 
@@ -33,7 +33,7 @@ def pickles_by_value(module: str) -> bool:
     calls in turn: those of cloudpickle, also where other packages carry it, and of dill. Who lists
     one of them permits everything.
     """
-    return not _BY_VALUE.isdisjoint(module.split("."))
+    return not _VALUES.isdisjoint(module.split("."))
 
 
 def takes(*places: int) -> int:

@@ -144,6 +144,8 @@ class Reader(pickle.Unpickler):
         """Types of NumPy's arrays whose state was set, by id, each with its size as a tree."""
         self.states: Dict[int, Callable[[Any], Any]] = {}
         """What judges the state of an object in `unbuilt`, and gives the one to be set."""
+        self.used: Dict[int, Any] = {}
+        """Arrays and indexes that others were made from, by id."""
         self.disguised: List[Tuple[Any, Any]] = []
         """Objects of a class that judges their items, each with the class that they are of."""
         self.raised: Dict[int, Tuple[BaseException, int]] = {}

@@ -70,6 +70,10 @@ class Counts:
         name = "MoreBytes" if reason is None else reason.name
         if refusal.misused:
             name = "Misused"
+        self.refuse_for(name)
+
+    def refuse_for(self, name: str) -> None:
+        """Counts a refused pickle under this name of a reason."""
         with self._lock:
             self._refused[name] = self._refused.get(name, 0) + 1
 

@@ -86,9 +86,10 @@ struct storklocker_settings {
        items of sets. An object weighs 1, an int in digits or bytes an eighth of these more, a text
        or bytes a 64th of its bytes more, and a tuple or frozenset the weights of its items more.
        What a call or an import gives weighs 1, whatever its hash costs. Weights are counted up to
-       1,048,575 and levels up to 1,023: a limit of at least that many is none. */
-    uint32_t levels;      /* levels of tuples in a key; UINT32_MAX */
-    uint32_t weight;      /* the weight of a key; UINT32_MAX */
+       1,048,575 and levels up to 1,023. UINT32_MAX is no limit on them; any other that no key can
+       exceed is STORKLOCKER_USAGE. */
+    uint32_t levels;      /* levels of tuples in a key, at most 1,022; UINT32_MAX */
+    uint32_t weight;      /* the weight of a key, at most 1,048,574; UINT32_MAX */
     uint64_t work;        /* the weight of all keys together; UINT64_MAX */
     uint64_t clash;       /* the weight of all keys but texts, bytes and answers, which alone can
                              be made to collide; UINT64_MAX */
@@ -176,7 +177,9 @@ enum storklocker_fault {
     STORKLOCKER_LIST_SHAPE_LIMIT = 11,
     STORKLOCKER_LIST_SHAPE_RULES = 12,
     STORKLOCKER_LIST_SHAPE_RULE_KEY = 13,
-    STORKLOCKER_LIST_SHAPE_RULE = 14
+    STORKLOCKER_LIST_SHAPE_RULE = 14,
+    STORKLOCKER_LIST_SHAPE_SUBSTITUTES = 15,
+    STORKLOCKER_LIST_SHAPE_SUBSTITUTE = 16
 };
 
 /* The name of a reason, such as "ImportOffList", or of a fault, such as "Shape(Imports)": static
@@ -233,7 +236,7 @@ uint32_t storklocker_check_row(
     struct storklocker_verdict *verdict);
 
 /*
- * The three calls below write pairs to `room`. A pair is the length of its module as eight
+ * The four calls below write pairs to `room`. A pair is the length of its module as eight
  * little-endian bytes, the module, the length of its name as eight such bytes, and the name.
  * `wanted` receives the number of bytes that all pairs need, at most UINT64_MAX. If `room` is
  * smaller, it stays unchanged: allocate a larger one and call again.
@@ -249,6 +252,24 @@ uint32_t storklocker_read_list(
     const uint8_t *list, size_t list_length,
     uint8_t *room, size_t room_length,
     struct storklocker_settings *limits,
+    uint64_t *wanted,
+    struct storklocker_verdict *verdict);
+
+/* Which keys a list file has: 1 where it has them, otherwise 0. */
+struct storklocker_said {
+    uint32_t limits; /* the table `limits`; below, its keys */
+    uint32_t numbers, levels, weight, work, clash, memory;
+    uint32_t build; /* the key `build` of the table `rules` */
+};
+
+/* Reads the text of a list file, and returns STORKLOCKER_YES, or STORKLOCKER_NO_LIST with the
+   fault. `said` receives which keys it has. The pairs are the rows of its table `substitutes`, in
+   the byte order of their names: a name, and what stands for it when a pickle is loaded. No check
+   depends on them; a loader that doesn't know them must not load under the list. */
+uint32_t storklocker_list_told(
+    const uint8_t *list, size_t list_length,
+    uint8_t *room, size_t room_length,
+    struct storklocker_said *said,
     uint64_t *wanted,
     struct storklocker_verdict *verdict);
 

@@ -18,7 +18,8 @@ static void costs(void) {
         {LIMITED(2, NONE32, NONE, NONE, NONE, 1), "})\x85\x85Ns.", STORKLOCKER_DEEP_KEY, 5},
         {LIMITED(3, NONE32, NONE, NONE, NONE, 1), "})\x85\x85Ns.", 0, 0},
         {LIMITED(NONE32, 1000000, NONE, NONE, NONE, 1), DOUBLED, STORKLOCKER_HEAVY_KEYS, 63},
-        {LIMITED(NONE32, 1048575, NONE, NONE, NONE, 1), DOUBLED, 0, 0},
+        {LIMITED(NONE32, 1048574, NONE, NONE, NONE, 1), DOUBLED, STORKLOCKER_HEAVY_KEYS, 63},
+        {LIMITED(NONE32, NONE32, NONE, NONE, NONE, 1), DOUBLED, 0, 0},
         {LIMITED(NONE32, NONE32, 1, NONE, NONE, 1), "}(NNNNu.", STORKLOCKER_HEAVY_KEYS, 6},
         {LIMITED(NONE32, NONE32, 2, NONE, NONE, 1), "}(NNNNu.", 0, 0},
         {LIMITED(NONE32, NONE32, NONE, 3, NONE, 1), "\x8f(NNNN\x90.", STORKLOCKER_MANY_KEYS, 6},
@@ -90,6 +91,16 @@ static void unkept(void) {
     IS(storklocker_check_list(BYTES("x"), &given, BYTES("N."), room, 8, &verdict) == 3);
     IS(storklocker_imports(&given, BYTES("cx\ny\n}b."), room, 8, NULL, &verdict) == 0);
     given = standard;
+    given.levels = 1023;
+    IS(CHECK(listed, &given, "N.") == STORKLOCKER_USAGE);
+    given.levels = 1022;
+    given.weight = 1048575;
+    IS(CHECK_ROW(&given, "N.") == STORKLOCKER_USAGE);
+    IS(storklocker_check_within(listed, 2, &given, BYTES("N."), NULL, 0, &verdict) == 3);
+    IS(storklocker_imports_loading(&given, BYTES("N."), room, 8, NULL, &verdict) == 3);
+    given.weight = 1048574;
+    IS(CHECK(listed, &given, "N.") == STORKLOCKER_YES);
+    given = standard;
     given.unused = 1;
     IS(CHECK(listed, &given, "N.") == STORKLOCKER_USAGE);
     IS(CHECK_ROW(&given, "N.") == STORKLOCKER_USAGE);
@@ -130,6 +141,36 @@ static void listed_costs(void) {
         grant(-1);
         IS(verdict.status == 0 || verdict.reason == STORKLOCKER_LIST_OUT_OF_MEMORY);
         IS(verdict.status != 0 || (given.levels == 3 && given.memory == 9));
+    }
+}
+
+/* Which keys a list has, and its substitutes, as the pairs of their names. */
+static void told(void) {
+    static const char some[] = "version = 2\n[imports]\n[limits]\nnumbers = 4294967295\n"
+                               "weight = 4294967295\n[substitutes]\n'm.n' = 'of'\n";
+    struct storklocker_said said;
+    struct storklocker_verdict verdict;
+    struct storklocker_settings given = standard;
+    uint64_t wanted = 0;
+    uint8_t room[40] = "rrrrrrrr";
+#define TOLD(list) \
+    storklocker_list_told(BYTES(list), room, sizeof room, &said, &wanted, &verdict)
+    IS(TOLD(some) == STORKLOCKER_YES && wanted == 21 && verdict.status == 0);
+    IS(said.limits == 1 && said.numbers == 1 && said.weight == 1 && said.levels == 0);
+    IS(said.work == 0 && said.clash == 0 && said.memory == 0 && said.build == 0);
+    IS(is_same(room, EIGHT("\3") "m.n" EIGHT("\2") "of", 21) && room[21] == 0);
+    IS(storklocker_read_list(BYTES(some), NULL, 0, &given, NULL, NULL) == STORKLOCKER_YES);
+    IS(given.numbers == 4294967295 && given.weight == UINT32_MAX);
+    IS(TOLD("version = 2\nimports = { numbers = [] }\nrules = { build = 'any' }") == 0);
+    IS(wanted == 0 && said.limits == 0 && said.numbers == 0 && said.build == 1);
+    IS(TOLD("version = 2\nimports = {}\nsubstitutes = { a = 1 }") == STORKLOCKER_NO_LIST);
+    IS(verdict.reason == STORKLOCKER_LIST_SHAPE_SUBSTITUTE && said.build == 1);
+    IS(storklocker_list_told(NULL, 0, NULL, 0, NULL, NULL, NULL) == STORKLOCKER_NO_LIST);
+    for (long count = 0; count < 100; count++) {
+        grant(count);
+        TOLD(some);
+        grant(-1);
+        IS(verdict.status == 0 ? wanted == 21 : verdict.reason == STORKLOCKER_LIST_OUT_OF_MEMORY);
     }
 }
 
@@ -231,5 +272,6 @@ int main(void) {
     unkept();
     older();
     listed_costs();
+    told();
     return wrongs != 0;
 }

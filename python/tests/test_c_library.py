@@ -16,7 +16,7 @@ SANITIZED = "-O1 -g -fno-omit-frame-pointer -fsanitize=address,undefined -fno-sa
 WRAPPED = "-Wl,--wrap=malloc,--wrap=realloc,--wrap=free"
 STRICT = "-Wall -Wextra -Wpedantic -Wconversion -Wshadow -Wmissing-prototypes -Werror"
 CALLS = ["check_list", "check_pairs", "check_row", "check_within", "fault_text", "imports",
-         "imports_loading", "read_list", "reason_text", "version"]
+         "imports_loading", "list_told", "read_list", "reason_text", "version"]
 
 
 class Library(unittest.TestCase):

@@ -13,8 +13,7 @@ import storklocker
 from common import needs
 from storklocker import AllowList, Guard, Misused, lists, substitutes
 from storklocker._meant import EVERYTHING
-from storklocker.scanning.foreseeing import Fate, foreseen
-from storklocker.scanning.source import Source
+from storklocker.scanning.foreseeing import Fate, Look
 
 HERE = "test_called_answers"
 CALLED = []
@@ -158,7 +157,7 @@ class Answers(unittest.TestCase):
         for what, body in {**PICKLES, **NEWS}.items():
             for its, guard in GUARDS.items():
                 data = b"\x80\x04" + body
-                said = foreseen(Source(io.BytesIO(data), 0, len(data)), 1, guard.allow)
+                said = Look(guard.allow).of(data)
                 self.assertEqual(said.fate, Fate.REFUSED, (what, its))
 
     def test_what_a_list_means_to_answer_functions(self):
@@ -314,7 +313,7 @@ class ByValue(unittest.TestCase):
             meant = [pair for pair in pairs if pair in EVERYTHING]
             allow = AllowList(pairs, dangerous=meant)
             self.assertEqual(Guard(allow).loads(data)(1), pickle.loads(data)(1))
-            said = foreseen(Source(io.BytesIO(data), 0, len(data)), 1, allow)
+            said = Look(allow).of(data)
             self.assertNotEqual(said.fate, Fate.REFUSED, said.why)
 
 

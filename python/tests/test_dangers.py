@@ -19,17 +19,15 @@ from storklocker import lists
 from storklocker.scanning import dangers
 from storklocker.scanning.command import main
 from storklocker.scanning.dangers import MOST, import_findings
-from storklocker.scanning.known import Known
 
-sys.path.append(str(PYTHON / "dangers"))
-import table  # noqa: E402
+sys.path.append(str(PYTHON / "catalogue"))
+import walking  # noqa: E402
 
 WALK = f"""
 import sys
-sys.path.append({str(PYTHON / "dangers")!r})
-import table
-from storklocker.scanning.known import Known
-print(*table.section({{!r}}, Known(table.front())), sep="\\n")
+sys.path.append({str(PYTHON / "catalogue")!r})
+import walking
+print(*walking.section({{!r}}, walking.judged()), sep="\\n")
 """
 
 ASKED = """
@@ -83,22 +81,20 @@ class Kept(unittest.TestCase):
 class Table(unittest.TestCase):
     @classmethod
     def setUpClass(cls):
-        cls.front, cls.made = table.parts(table.TABLE.read_text(encoding="utf-8"))
-        cls.judged = Known(cls.front)
         cls.dangers = [
             (name, row.example)
-            for name, row in cls.judged.rows.items()
+            for name, row in walking.judged().rows.items()
             if row.severity == "danger"
         ]
 
-    def test_it_is_what_its_sources_give(self):
-        self.assertEqual(self.front, table.front())
+    def test_the_walk_finds_what_stands_there(self):
         for library in ("python", "numpy", "joblib"):
-            version = table.version_of(library)
+            version = walking.version_of(library)
             if not version:
                 continue
             # (in a process of its own, whose memory no other test inherits)
-            lines, made = python(WALK.format(library)).splitlines(), self.made[library]
+            lines = python(WALK.format(library)).splitlines()
+            made = (PYTHON / "catalogue" / "walked" / f"{library}.txt").read_text(encoding="utf-8")
             if lines[0] == made.splitlines()[0]:
                 self.assertEqual(made.splitlines(), lines)
             elif library == "python":  # others have much the same callables

@@ -16,7 +16,10 @@ from pathlib import Path
 
 from common import IMPORTED_FROM, needs
 from storklocker import AllowList, Guard, Misused, lists, substitutes
+from storklocker.scanning.budget import STEPS, Budget
 from storklocker.scanning.command import main
+from storklocker.scanning.foreseeing import Fate, Look, foreseen
+from storklocker.scanning.source import in_memory
 from storklocker.scanning.words import Word
 from test_readings import reports
 from test_scanning import npy, zipped
@@ -135,7 +138,11 @@ class Substitutes(unittest.TestCase):
         self.assertEqual(word(encoded * 12_000, allow), ACCEPTED)
         code = text("latin1") + b"\x86R."
         differing = b"".join(P + ENCODE + text(f"{it}") + code for it in range(12_000))
-        self.assertEqual(word(differing, allow), UNDECIDED)
+        self.assertEqual(word(differing, allow), ACCEPTED)
+        budget = Budget(0)
+        budget.spend(STEPS - 100_000)
+        said = foreseen(in_memory(io.BytesIO(differing)), 12_000, Look(allow), budget)
+        self.assertEqual(said.fate, Fate.UNDECIDED)
         slow = P + PICKLES["a slow codec"][0]
         self.assertEqual(word(dates * 5_000 + slow + dates, allow), REFUSED)
 

@@ -2,15 +2,13 @@
 package, and never accepts what a guard refuses.
 """
 
-import io
 import pickle
 import sys
 import unittest
 
 from common import needs, python
 from storklocker import AllowList, Guard, Misused, lists
-from storklocker.scanning.foreseeing import Fate, foreseen
-from storklocker.scanning.source import Source
+from storklocker.scanning.foreseeing import Fate, Look
 
 ROPE = b")" + b"2\x86" * 30
 """A tuple that has itself 2**30 times."""
@@ -81,7 +79,7 @@ PACKAGES = {"DJANGO": "django", "CELERY": "celery", "SCIKIT_LEARN": "sklearn"}
 
 
 def fate(data, allow):
-    return foreseen(Source(io.BytesIO(data), 0, len(data)), 1, allow).fate
+    return Look(allow).of(data).fate
 
 
 def is_here(module):

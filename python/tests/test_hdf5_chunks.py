@@ -5,11 +5,15 @@ import itertools
 import os
 import pathlib
 import pickle
+import random
 import tempfile
 import unittest
+import unittest.mock
+import zlib
 
 from common import needs
 from storklocker import AllowList
+from storklocker.scanning import hdf5_chunks
 from storklocker.scanning.judging import Question, reports_of
 from storklocker.scanning.severity import DANGER, REFUSED, UNREADABLE
 
@@ -83,6 +87,60 @@ class Chunks(unittest.TestCase):
                 file.create_dataset(f"{number} plain", data=data)
             file.create_dataset("zeros", data=numpy.zeros(20_000_000), compression="gzip")
         self.assertEqual(severities(self.path), set())
+
+    @needs("module:h5py")
+    def test_chunks_out_of_order(self):
+        """As a program writes them that has the last ones ready first, perhaps unpacked."""
+        dice = random.Random(1)
+        grown = {"fixed": None, "one way": (None,), "two ways": (None, None)}
+        for form, (growth, most), words, size in itertools.product(
+            ("earliest", "latest"), grown.items(), ({}, READ[0], {**READ[0], "shuffle": True}),
+            (len(EVIL), 6_000),
+        ):
+            with self.subTest(form=form, growth=growth, words=words, size=size):
+                value = EVIL.rjust(size, b"\0") if size > len(EVIL) else EVIL
+                self.scattered(value + bytes(-len(value) % 16), form, most, words, dice)
+                self.assertIn(DANGER, severities(self.path))
+                self.assertIn(REFUSED, severities(self.path, AllowList([])))
+                with unittest.mock.patch.object(hdf5_chunks, "datasets_in", lambda *_: ()):
+                    self.assertEqual(severities(self.path), set())  # (the control)
+
+    def scattered(self, value, form, most, words, dice):
+        """Writes a pickle as numbers, the last first, in chunks of four that are packed by chance.
+        """
+        import h5py
+        import numpy
+
+        kind, in_front = numpy.dtype("<u4"), (0,) * (len(most or "x") - 1)
+        shape = (1,) * len(in_front) + (len(value) // 4,)
+        with h5py.File(self.path, "w", libver=form) as file:
+            made = file.create_dataset(
+                "a", shape, kind, maxshape=most, chunks=(1,) * len(in_front) + (4,), **words
+            )
+            for place in reversed(range(0, len(value) // 4, 4)):
+                data, mask = value[4 * place : 4 * place + 16], dice.randrange(4)
+                if "shuffle" in words and not mask & 1:
+                    data = numpy.frombuffer(data, "u1").reshape(-1, 4).T.tobytes()
+                if words and not mask & 1 << ("shuffle" in words):
+                    data = zlib.compress(data)
+                made.id.write_direct_chunk((*in_front, place), data, mask if words else 0)
+        with h5py.File(self.path, "r") as file:
+            self.assertEqual(file["a"][()].tobytes(), value)
+
+    @needs("module:h5py")
+    def test_values_of_any_length(self):
+        import h5py
+        import numpy
+
+        for form, words in itertools.product(("earliest", "latest"), ({}, READ[0])):
+            for value, expected in ((EVIL, {DANGER}), (GOOD, set())):
+                with h5py.File(self.path, "w", libver=form) as file:
+                    kind = h5py.vlen_dtype("u1")
+                    made = file.create_dataset("a", (9,), kind, chunks=(2,), **words)
+                    made[7] = numpy.frombuffer(value, "u1")
+                with h5py.File(self.path, "r") as file:
+                    self.assertEqual(file["a"][7].tobytes(), value)
+                self.assertEqual(severities(self.path) & {DANGER, UNREADABLE}, expected)
 
     @needs("module:tables")
     def test_filters_of_pytables(self):

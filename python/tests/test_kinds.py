@@ -1,20 +1,17 @@
 """What files are in which no reading finds a pickle."""
 
-import contextlib
 import io
 import json
 import pathlib
 import pickle
 import random
 import shutil
-import socket
 import struct
-import subprocess
 import tempfile
-import time
 import unittest
 import zlib
 
+from redis_files import redis
 from storklocker.scanning.judging import Question, reports_of
 from storklocker.scanning.kinds import is_safetensors
 from storklocker.scanning.redis_dumps import unpacked_by_lzf
@@ -136,30 +133,6 @@ class Kinds(unittest.TestCase):
             self.assertLessEqual(end, len(data) + 33)
             self.assertLess(len(made), 150 + 264)
             self.assertFalse([it for it in told(b"REDIS0010" + data) if it.is_finding])
-
-
-@contextlib.contextmanager
-def redis(folder):
-    """Redis with the files of a folder, as a function that asks it."""
-    path = pathlib.Path(folder, "socket")
-    words = ["--port", "0", "--unixsocket", str(path), "--dir", folder, "--save", ""]
-    with subprocess.Popen(["redis-server", *words], stdout=subprocess.DEVNULL) as server:
-        while not path.exists() and server.poll() is None:
-            time.sleep(0.01)
-        with socket.socket(socket.AF_UNIX) as opened, opened.makefile("rb") as file:
-            opened.connect(str(path))
-
-            def ask(*asked):
-                parts = [b"$%d\r\n%b\r\n" % (len(it), it) for it in asked]
-                opened.sendall(b"*%d\r\n%b" % (len(parts), b"".join(parts)))
-                line = file.readline()
-                return file.read(int(line[1:]) + 2)[:-2] if line[:1] == b"$" else line
-
-            try:
-                yield ask
-            finally:
-                server.kill()
-    path.unlink()
 
 
 if __name__ == "__main__":

@@ -261,7 +261,7 @@ class Lists(Learning):
         status, _, errors = self.run_command("lint", new)
         self.assertEqual(status, 2)
         self.assertIn("line 5", errors)
-        self.assertIn("levels is an integer from 0 to 4,294,967,295", errors)
+        self.assertIn("levels is an integer from 0 to 1,022, or 4,294,967,295 for none", errors)
 
     def test_a_shipped_list_is_no_file_to_add_to(self):
         status, _, errors = self.run_command("list", "add", "@uuid", "a.b")

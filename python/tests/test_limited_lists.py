@@ -44,6 +44,25 @@ class Lists(unittest.TestCase):
                 verdict = storklocker.check(data, allow, limits=Limits(**given))
                 self.assertEqual(verdict.accepted, is_accepted)
 
+    def test_what_no_key_exceeds_is_no_limit(self):
+        deep = b"})" + b"\x85" * 1_022 + b"Ns."
+        listed = "version = 2\n[imports]\n[limits]\n"
+        for name, most, data in (("levels", 1_022, deep), ("weight", 1_048_574, ATTACK)):
+            kept = Limits(**{**dict.fromkeys(FREE_OF), name: most})
+            said = AllowList.from_text(f"{listed}{name} = {most}\n")
+            self.assertEqual(getattr(said.limits, name), most)
+            self.assertFalse(storklocker.check(data, AllowList([]), limits=kept))
+            self.assertTrue(storklocker.check(data, AllowList([]), limits=FREE))
+            for number in (most + 1, (1 << 32) - 2, 1 << 32):
+                with self.assertRaisesRegex(ValueError, f"{name} must be below {most + 1:,}, or"):
+                    Limits(**{name: number})
+                with self.assertRaises(storklocker.ListFault) as raised:
+                    AllowList.from_text(f"{listed}{name} = {number}\n")
+                self.assertEqual(raised.exception.fault, "Shape(Limit)")
+            self.assertIsNone(getattr(Limits(**{name: (1 << 32) - 1}), name))
+            free = AllowList.from_text(f"{listed}{name} = {(1 << 32) - 1}\n")
+            self.assertIsNone(getattr(free.limits, name))
+
     def test_a_list_file_leaves_it_to_the_guard(self):
         listed = AllowList.from_text(LISTED)
         for allow in (listed, listed | NOTHING, NOTHING | listed, listed | listed):
@@ -85,6 +104,7 @@ class Lists(unittest.TestCase):
             (3, Limits(levels=2), False),
             (2, Limits(levels=3), False),
             (2, FREE, False),
+            (1_022, Limits(levels=2), False),
             (4_294_967_295, Limits(levels=2), False),
         ):
             allow = AllowList.from_text(listed.format(levels))

@@ -26,6 +26,7 @@ EXCESSES = "DeepKey HeavyKeys ManyKeys MuchMemory BuildsImport".split()
 FAULTS = (
     "Syntax Shape(Version) Shape(TopKey) Shape(Imports) Shape(Module) Shape(Name) Version "
     "OutOfMemory Shape(Limits) Shape(LimitKey) Shape(Limit) Shape(Rules) Shape(RuleKey) Shape(Rule)"
+    " Shape(Substitutes) Shape(Substitute)"
 ).split()
 OLD_STRINGS = ("unknown", "ascii", "bytes")
 HEADER = (PACKAGE / "storklocker.h").read_text()
@@ -194,7 +195,7 @@ class Module(unittest.TestCase):
         self.assertEqual(python(INTERPRETERS).split(), ["isolated", "refused", "legacy", "loaded"])
 
     def test_it_is_as_short_as_it_was_promised(self):
-        promised = {"_storklocker.c": 345, "pairs.c": 90, "loads.c": 280, "audit.c": 100}
+        promised = {"_storklocker.c": 365, "pairs.c": 90, "loads.c": 280, "audit.c": 100}
         promised.update({"walk.c": 225, "uses.c": 400, "cutting.c": 215, "arena.c": 70})
         promised.update({"usual.c": 132, "telling.c": 85, "judging.c": 400, "holding.c": 40})
         promised["naming.c"] = 60

@@ -6,6 +6,8 @@ import collections
 import datetime
 import decimal
 import io
+import itertools
+import os
 import pickle
 import random
 import subprocess
@@ -28,6 +30,7 @@ while file.tell() < len(data):
     reader.load() if sys.argv[1] == "one" else pickle.load(file)
 """
 PROTO = b"\x80\x04"
+RAN, CODECS = "touch ran", ("_codecs", "encode")
 
 
 def text(word):
@@ -94,6 +97,75 @@ class Rows(unittest.TestCase):
         self.assertIn(checked.call_count, range(2, 10))
         (report,) = reports(b"".join([*row, TEXTS, *row[1:2], SHOWN + CALLED]))
         self.assertNotEqual(report.status, "unjudged")
+
+    def test_streams_of_one_pickler(self):
+        """What one Pickler has written is broken for `pickle.load`, and judged as it is read."""
+        day, word = datetime.date(2030, 1, 2), "a text"
+        values = [[day, word], {word: day}, [collections.OrderedDict(a=day), word], day]
+        for kind, protocol in itertools.product((pickle.Pickler, pickle._Pickler), range(2, 6)):
+            file = io.BytesIO()
+            pickler = kind(file, protocol)
+            for it in values:
+                pickler.dump(it)
+            data, names = file.getvalue(), [("datetime", "date"), ("collections", "OrderedDict")]
+            reader = pickle.Unpickler(io.BytesIO(data))
+            self.assertEqual([reader.load() for _ in values], values)
+            with self.subTest(kind=kind, protocol=protocol):
+                listed = AllowList([*names, CODECS])
+                for allow, status in ((None, "unjudged"), (listed, "accepted")):
+                    (report,) = reports(data, allow)
+                    self.assertEqual((report.status, report.findings), (status, ()), report)
+                    self.assertEqual((report.pickles, report.size), (4, len(data)))
+                (report,) = reports(data, AllowList(names[:1] + [CODECS]))
+                self.assertEqual(report.status, "refused")
+                self.assertIn("in pickle 2 at", report.why)
+
+    def test_hostile_streams_of_one_pickler(self):
+        class Evil:
+            def __reduce__(self):
+                return os.system, (RAN,)
+
+        for values in ([[RAN], [RAN], [1], Evil()], [[RAN, os.system], os.system, [Evil(), RAN]]):
+            file = io.BytesIO()
+            pickler = pickle.Pickler(file, 4)
+            for it in values:
+                pickler.dump(it)
+            self.assertTrue(has_run(file.getvalue(), "one"))
+            (report,) = reports(file.getvalue())
+            self.assertEqual(report.status, "dangerous", report)
+            self.assertEqual(report.findings[0].calls, (f'{os.system.__module__}.system("{RAN}")',))
+            (report,) = reports(file.getvalue(), LISTED)
+            self.assertEqual(report.status, "refused", report)
+
+    def test_what_each_reads_otherwise(self):
+        """A stream that one Unpickler loads with harmless names, and which runs for `pickle.load`
+        up to where it is broken.
+        """
+        front = PROTO + text("collections") + b"\x94" + text("OrderedDict") + b"\x94\x86."
+        other = PROTO + text("os") + b"\x940" + text("system") + b"\x940h\0h\1\x93" + text(RAN)
+        data = front + other + b"\x85R0h\3."
+        self.assertTrue(has_run(data + PROTO + b"h\3.", "each"))
+        self.assertFalse(has_run(data, "one"))
+        for row in (data + PROTO + b"h\3.", data + PROTO + b"h\0."):
+            self.assertEqual(reports(row)[0].status, "dangerous")
+            self.assertEqual(reports(row, LISTED)[0].status, "refused")
+
+    def test_a_module_of_the_reader(self):
+        """So may a module that nobody knows, and that isn't here."""
+        front = PROTO + text("collections") + b"\x94" + text("OrderedDict") + b"\x94\x86."
+        other = PROTO + text("zz_theirs") + b"\x940" + text("Path") + b"\x940h\0h\1\x93" + text(RAN)
+        data = front + other + b"\x85R0h\3."
+        row = data + PROTO + b"h\3."
+        with tempfile.TemporaryDirectory() as folder:
+            Path(folder, "zz_theirs.py").write_text("from pathlib import Path\n")
+            code = f"import sys; sys.path.append({folder!r})\n{READER}"
+            words = [sys.executable, "-c", code, "each"]
+            said = subprocess.run(words, input=row, capture_output=True, cwd=folder)
+        self.assertIn(b"Memo value not found", said.stderr)  # (behind the import)
+        self.assertNotIn(b"zz_theirs", said.stderr)
+        (report,) = reports(row)
+        self.assertIn("zz_theirs.Path", [it.name for it in report.findings])
+        self.assertNotEqual(reports(row, LISTED)[0].status, "accepted")
 
     def test_honest_rows(self):
         """Most would be read as nonsense by one Unpickler."""

@@ -5,6 +5,7 @@ import bz2
 import dbm.dumb
 import gzip
 import hashlib
+import itertools
 import json
 import lzma
 import pathlib
@@ -69,6 +70,12 @@ def of_named(value):
     return zlib.decompress(value.partition(b":")[2])
 
 
+def dice_of(size):
+    """Bytes that nothing packs."""
+    chosen = random.Random(1)
+    return bytes(chosen.randrange(256) for _ in range(size))
+
+
 def raw(data):
     packer = zlib.compressobj(wbits=-15)
     return packer.compress(data) + packer.flush()
@@ -125,6 +132,9 @@ FORMS = {
 }
 """How each is made, and how a program reads it."""
 BEHIND = {
+    "Base64 behind a length": (
+        lambda data: bytes((1, 0, 7)) + B64(data), lambda value: UN64(value[3:])
+    ),
     "zlib behind a name": (lambda data: b"zlib:" + zlib.compress(data), of_named),
     "gzip behind a number": (
         lambda data: bytes(8) + gzip.compress(data), lambda value: gzip.decompress(value[8:])
@@ -161,6 +171,19 @@ class Packed(unittest.TestCase):
                     names = {it for report in found for it in report.imports}
                     self.assertIn(("colorsys", "rgb_to_hls"), names, (name, data, encoding))
 
+    def test_what_stands_behind_something(self):
+        """Also in a value that is too long for a page."""
+        for name, (pack, unpack) in BEHIND.items():
+            for data, fill in itertools.product(EVIL, (b"", dice_of(20_000))):
+                value = data[:-1] + b"0B" + len(fill).to_bytes(4, "little") + fill + b"."
+                value = pack(value if fill else data)
+                self.assertTrue(unpack(value).startswith(data[:-1]), name)
+                found = reports(self.base([b"text", value, pack(HONEST[4])]), AllowList([]))
+                names = {it for report in found for it in report.imports}
+                self.assertIn(("colorsys", "rgb_to_hls"), names, (name, data))
+            found = reports(self.base([*map(pack, HONEST)]), AllowList([]))
+            self.assertFalse(any(it.is_finding for it in found), (name, found[:3]))
+
     def test_deflated_ones_without_a_header(self):
         """Of protocol 2 and later: any bytes may begin so."""
         for data in EVIL[:2]:
@@ -184,6 +207,17 @@ class Packed(unittest.TestCase):
                     self.assertIn(("colorsys", "rgb_to_hls"), names, (name, make, data))
                 found = make([b"text", *map(pack, HONEST)], AllowList([]))
                 self.assertFalse(any(it.is_finding for it in found), (name, found[:3]))
+
+    def test_lzma_alone_of_any_properties(self):
+        for lc, lp, pb, window in ((0, 0, 0, 4096), (3, 0, 2, 0xFF0000), (1, 2, 3, 1 << 16)):
+            words = {"id": lzma.FILTER_LZMA1, "lc": lc, "lp": lp, "pb": pb, "dict_size": window}
+            packed = lzma.compress(EVIL[0], lzma.FORMAT_ALONE, filters=[words])
+            for value in (packed, packed[:1] + b"\0\0\x18\0" + packed[5:]):
+                self.assertEqual(lzma.decompress(value, lzma.FORMAT_ALONE), EVIL[0])
+                for make in (in_zodb, in_gdbm, in_dumb):
+                    found = make([b"text", value], AllowList([]))
+                    names = {it for report in found for it in report.imports}
+                    self.assertIn(("colorsys", "rgb_to_hls"), names, (value, make))
 
     def test_honest_ones_are_no_finding(self):
         for name, (pack, _) in FORMS.items():
@@ -222,7 +256,7 @@ class Packed(unittest.TestCase):
 IN_SQLITE = (
     *(it for it in FORMS if it.startswith(("other bytes", "letters of", "Base32", "Base85"))),
     *("Ascii85", "Ascii85 of Adobe", "quoted-printable", "percent", "a character for a byte"),
-    *("Base16, spaces", "LZMA", "behind the end"),
+    *("Base16, spaces", "behind the end"),
 )
 
 

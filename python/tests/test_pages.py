@@ -86,7 +86,7 @@ class Pages(unittest.TestCase):
     @needs("/dev/fd", "bash")
     def test_bash(self):
         for words, wanted in (
-            ("storklocker s", ["scan"]),
+            ("storklocker s", ["scan", "serve"]),
             ("storklocker scan --fo", ["--format"]),
             ("storklocker scan a --format s", ["sarif"]),
             ("storklocker scan --allow li", []),

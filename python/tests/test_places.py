@@ -55,13 +55,18 @@ FAULTS = [
     (FRONT + "[limits]\nlarge = 3\naaa = 1", "Shape(LimitKey)", 5, "aaa is none of the limits"),
     (FRONT + "[limits]\nlarge = 3\ncounted = -1", "Shape(Limit)", 5, "counted is an integer"),
     ("version = 2\nlimits = 7\n[imports]", "Shape(Limits)", 2, "write [limits]"),
-    (FRONT + "[limits]\nlevels = 4_294_967_296", "Shape(Limit)", 4, "from 0 to 4,294,967,295"),
+    (FRONT + "[limits]\nlevels = 1_023", "Shape(Limit)", 4, "to 1,022, or 4,294,967,295 for none"),
+    (FRONT + "[limits]\nweight = 1_048_575", "Shape(Limit)", 4, "from 0 to 1,048,574, or 4,294"),
     (FRONT + "[limits]\nwork = -1", "Shape(Limit)", 4, "from 0 to 9,223,372,036,854,775,807"),
     (FRONT + "[limits]\nclash = 'none'", "Shape(Limit)", 4, "clash is an integer"),
     ("version = 2\nrules = 7\n[imports]", "Shape(Rules)", 2, 'and below it build = "made"'),
     (FRONT + "[rules]\ncall = 1", "Shape(RuleKey)", 4, "call is no rule, but build is"),
     (FRONT + "[rules]\nbuild = true", "Shape(Rule)", 4, 'write build = "made", or build = "any"'),
     (FRONT + "[rules]\nbuild = 'all'", "Shape(Rule)", 4, 'write build = "made"'),
+    ("version = 1\n[imports]\n[substitutes]\n", "Shape(TopKey)", 3, "substitutes need version = 2"),
+    ("version = 2\nsubstitutes = 7\n[imports]", "Shape(Substitutes)", 2, "write [substitutes]"),
+    (FRONT + "[substitutes]\n'a.b' = ['c']", "Shape(Substitute)", 4, "what stands for it"),
+    (FRONT + "[substitutes]\na.b = 'c'", "Shape(Substitute)", 4, "what stands for it"),
 ]
 # TOML that isn't common in list files, before a fault.
 ODD = """version = 0b10

@@ -254,7 +254,8 @@ class Many(Case):
             size = 512 if table == TABLES[0] else 4096
             found = reports(self.base(packed, size, table), DAYS)
             self.assertEqual({it.status for it in found}, {"accepted"}, (name, table, size))
-            self.assertIn("more values like these", found[-1].why)
+            # (some are told again, of what pages have left of them)
+            self.assertTrue(any("more values like these" in it.why for it in found), name)
             self.assertLess(len(found), 200)
 
     def test_a_hostile_one_among_them(self):

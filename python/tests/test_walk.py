@@ -16,8 +16,8 @@ except ImportError:  # (PyPy has none)
 
 import storklocker
 from common import SEEDS
+from storklocker._facts import PACKAGES, SUBSTITUTED
 from storklocker._storklocker import begin_uses, holds, uses, walked
-from storklocker._substituted import NAMES, PACKAGES
 from storklocker._substitutes import TABLE, substitute_of
 
 LENT = 1 << 14
@@ -221,7 +221,7 @@ class Respelled(unittest.TestCase):
 
 class Listed(unittest.TestCase):
     def test_the_names_that_always_have_substitutes(self):
-        said = {(module, name) for module in NAMES for name in NAMES[module].split()}
+        said = {(module, name) for module, names in SUBSTITUTED.items() for name in names.split()}
         for pair in TABLE.keys() - said:
             self.assertIn(pair[0].partition(".")[0], PACKAGES)
         for pair in said - TABLE.keys():

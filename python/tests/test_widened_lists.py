@@ -2,13 +2,18 @@
 it under `pickle` is refused.
 """
 
+import copy
 import datetime
+import functools
 import importlib
 import importlib.util
 import io
 import pickle
 import struct
+import subprocess
+import sys
 import unittest
+import zipfile
 
 from storklocker import AllowList, Guard, Misused, Refused
 
@@ -99,6 +104,64 @@ class Pandas(Widened):
         self.assertEqual(len(found), 1)
         del zone._tzinfos[found[0]]
 
+    def test_rules_of_a_file_of_zones(self):
+        """Compiled code keeps the rules under the name of the file, and reads behind their end."""
+        pd, tz = self.module("pandas"), self.module("dateutil.tz")
+        zone, noon = tz.gettz("Europe/Berlin"), 10**18
+        if zone is None:
+            self.skipTest("this machine has no zones")
+        self.are_honest("datetime pandas", [
+            pd.date_range("2026-01-02", periods=2, tz=zone), pd.Timestamp(noon, tz=zone)])
+        mine = copy.copy(zone)
+        mine._ttinfo_before, mine._trans_idx, mine._ttinfo_list = (
+            zone._ttinfo_std, (zone._ttinfo_std,), [zone._ttinfo_std])
+        mine._trans_list = mine._trans_list_utc = (0,)
+        for changed in (mine, _renamed(zone, "/usr/share/zoneinfo/../zoneinfo/Europe/Berlin")):
+            self.is_misused("pandas", pickle.dumps(pd.Timestamp(noon, tz=changed), 4))
+            self.is_misused("packages", pickle.dumps(changed, 4))
+        told = subprocess.run(
+            [sys.executable, "-W", "ignore", "-c", _KEPT, pickle.dumps(mine, 4).hex()],
+            stdout=subprocess.PIPE, encoding="utf-8", check=True).stdout
+        self.assertEqual(told, "2001-09-09 02:46:40+02:00\n")  # (an hour is lacking)
+
+    def test_a_type_is_made_of_no_text(self):
+        """The text of one names a zone, which is a file."""
+        self.module("pandas")
+        data = whole(b"cpandas.core.dtypes.dtypes\nIntervalDtype\n" + text(
+            "interval[datetime64[ns, dateutil//proc/self/comm], right]") + b"\x85\x81")
+        for load, is_opened in (("pickle.loads", True), ("Guard(lists.PANDAS).loads", False)):
+            told = subprocess.run(
+                [sys.executable, "-W", "ignore", "-c", _OPENED.format(load), data.hex()],
+                stdout=subprocess.PIPE, encoding="utf-8", check=True).stdout
+            self.assertEqual(told, "opened\n" * is_opened)
+
+    def test_indexes_longer_than_their_pickles(self):
+        pd = self.module("pandas")
+        if not hasattr(pd, "Int64Index"):
+            self.skipTest("pandas 2 has no index that copies a range")
+        for count, is_taken in ((1000, True), (10**7, False)):
+            words = {"data": pd.RangeIndex(count), "name": None}
+            data = pickle.dumps(_Called(pd.Index([1]).__reduce__()[0], pd.Int64Index, words), 4)
+            self.assertEqual(pickle.loads(data).nbytes, 8 * count)
+            if is_taken:
+                self.assertEqual(len(self.load("pandas", data)), count)
+            else:
+                self.is_misused("pandas", data)
+
+    def test_a_block_has_its_own_places(self):
+        """An array that the pickle gives twice is written to, and the columns stay."""
+        pd, np = self.module("pandas"), self.module("numpy")
+        frame = pd.DataFrame(np.ones((2, 3)))
+        held = frame._mgr.blocks[0]
+        make, places = held.__reduce__()[0], np.array([2, 0, 1])
+        data = pickle.dumps((places, _Called(make, held.values, places, 2)), 4)
+        found = {}
+        for load in (pickle.loads, functools.partial(self.load, "pandas")):
+            array, block = load(data)
+            array[:] = 1 << 40
+            found[load] = list(block.mgr_locs)
+        self.assertEqual(list(found.values()), [[1 << 40] * 3, [2, 0, 1]])
+
     def test_parts_that_do_not_fit(self):
         pd = self.module("pandas")
         np = self.module("numpy")
@@ -125,6 +188,39 @@ class Pandas(Widened):
         data = pickle.dumps(made, 2)
         self.assertEqual(pickle.loads(data).years, ((1, 1),))
         self.is_misused("packages", data)
+
+
+class _Called:
+    """Pickled as a call."""
+
+    def __init__(self, call, *given):
+        self._call, self._given = call, given
+
+    def __reduce__(self):
+        return self._call, self._given
+
+
+def _renamed(zone, path):
+    made = copy.copy(zone)
+    made._filename = path
+    return made
+
+
+_KEPT = """
+import pickle, sys, pandas, dateutil.tz
+str(pandas.Timestamp(10**18, tz=pickle.loads(bytes.fromhex(sys.argv[1]))))
+print(pandas.Timestamp(10**18, tz=dateutil.tz.gettz("Europe/Berlin")))
+"""
+
+
+_OPENED = """
+import contextlib, pandas, pickle, sys
+from storklocker import Guard, lists
+sys.addaudithook(lambda event, given: event == "open" and given[0] == "/proc/self/comm"
+                 and print("opened"))
+with contextlib.suppress(Exception):
+    {}(bytes.fromhex(sys.argv[1]))
+"""
 
 
 class Torch(Widened):
@@ -165,6 +261,27 @@ class Torch(Widened):
         with self.assertRaises(Misused):
             self.of(other, "torch-nn")
 
+    def test_a_module_stays_as_it_was_judged(self):
+        """Its dicts are the pickle's, until they are copied."""
+        torch = self.module("torch")
+        module = torch.nn.Linear(1, 1)
+        file = io.BytesIO()
+        torch.save([module, vars(module)["_forward_hooks"]], file)
+        changed = io.BytesIO()
+        with zipfile.ZipFile(file) as old, zipfile.ZipFile(changed, "w") as new:
+            for name in old.namelist():
+                data = old.read(name)
+                if name.endswith("data.pkl"):
+                    self.assertEqual(data[-2:], b"e.")
+                    data = data[:-2] + b"K\1ctorch\nSize\nse."
+                new.writestr(name, data)
+        from storklocker.contrib.torch import load_torch
+
+        bare = torch.load(io.BytesIO(changed.getvalue()))
+        self.assertEqual(len(bare[0]._forward_hooks), 1)
+        guard = Guard(AllowList.shipped("torch-nn"))
+        self.assertEqual(len(load_torch(changed.getvalue(), guard)[0]._forward_hooks), 0)
+
     def test_indices_that_lie_outside(self):
         torch = self.module("torch")
         made = torch._sparse_coo_tensor_unsafe(torch.tensor([[9]]), torch.ones(1), (2,))
@@ -177,6 +294,19 @@ class Torch(Widened):
         self.is_misused("torch", data)
         self.is_misused("torch", whole(called("torch", "device", text("a/b"))))
         self.is_misused("torch", whole(called("torch", "Size", b"(" + long(-1) + b"t")))
+
+
+class Estimators(Widened):
+    def test_a_parameter_repeats_few_bounds(self):
+        np, kernels = self.module("numpy"), self.module("sklearn.gaussian_process.kernels")
+        for honest in (kernels.RBF([1.0, 2.0]), kernels.RBF(1.0, "fixed")):
+            self.are_honest("sklearn", honest.hyperparameters)
+        call = b"csklearn.gaussian_process.kernels\nHyperparameter\n("
+        bounds = pickle.dumps(np.ones((1, 2)), 3)[2:-1]
+        data = whole(call + text("a") + text("numeric") + bounds + long(10**7) + b"\x89t\x81")
+        self.assertEqual(pickle.loads(data).bounds.nbytes, 16 * 10**7)
+        for other in (data, data.replace(long(10**7), b"]"), data.replace(text("a"), b"]")):
+            self.is_misused("sklearn", other)
 
 
 @unittest.skipUnless(importlib.util.find_spec("pytz"), "there is no pytz")

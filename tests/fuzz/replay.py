@@ -100,7 +100,7 @@ def main():
             faults = list(faults_of(archive.read(name)))
             passed, failed = passed + (not faults), failed + bool(faults)
             for fault in faults:
-                print(f"{name}: {fault}")
+                print(f"failed: {name}: {fault}")
     print(f"{passed} passed, {failed} failed")
     return 0 if not failed and passed else 1
 

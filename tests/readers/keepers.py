@@ -3,6 +3,8 @@
 A file is made from what the library itself has written, with other bytes for the value.
 """
 
+import atexit
+import contextlib
 import dataclasses
 import dbm.dumb
 import importlib
@@ -10,8 +12,10 @@ import logging.handlers
 import pathlib
 import pickle
 import shelve
+import shutil
 import sqlite3
 import struct
+import tempfile
 from typing import Callable, Dict, Iterator, Tuple, Union
 
 from django_keepers import KEY, Keeper, django_files, django_table, filled, sessions
@@ -255,6 +259,34 @@ def checkpoints() -> Keeper:
     return Keeper(put, load)
 
 
+def dumped() -> Keeper:
+    """A dump of Redis, which the server reads again."""
+    if shutil.which("redis-server") is None:
+        raise ImportError("redis-server isn't here")
+    from redis_files import redis
+
+    kept = contextlib.ExitStack()
+    permitted = ("--enable-debug-command", "yes", "--enable-protected-configs", "yes")
+    try:
+        ask = kept.enter_context(redis(tempfile.mkdtemp(), *permitted))
+    except OSError:  # (before 7.0 everything is permitted)
+        ask = kept.enter_context(redis(tempfile.mkdtemp()))
+    atexit.register(kept.close)
+
+    def put(folder: pathlib.Path, data: bytes) -> None:
+        ask(b"CONFIG", b"SET", b"dir", bytes(folder))
+        ask(b"FLUSHALL")
+        ask(b"SET", KEY.encode(), data)
+        ask(b"SAVE")
+
+    def load(folder: pathlib.Path) -> object:
+        ask(b"CONFIG", b"SET", b"dir", bytes(folder))
+        ask(b"DEBUG", b"RELOAD", b"NOSAVE")
+        return pickle.loads(ask(b"GET", KEY.encode()))
+
+    return Keeper(put, load, True)
+
+
 def _checkpoint():
     """The module of torch, of which a dataclass has a default that Python 3.11 refuses."""
     real = dataclasses.dataclass
@@ -309,6 +341,7 @@ MAKERS: Dict[str, Tuple[str, Callable[[], Keeper]]] = {
     "Django, files": ("Django", django_files),
     "cachelib": ("cachelib", cachelib_files),
     "torch, a checkpoint": ("distcp", checkpoints),
+    "redis-server": ("Redis", dumped),
 }
 """What each reads, and what makes it, which raises ImportError if the library isn't here."""
 

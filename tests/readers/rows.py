@@ -21,7 +21,7 @@ ENOUGH = 5000
 LIBRARIES = ("joblib", "numpy", "pandas", "torch")
 KEPT = {
     "SQLite": ("SQLite",),
-    "stores": ("GDBM", "Berkeley DB", "LMDB", "HDF5", "Arrow", "Parquet", "ZODB"),
+    "stores": ("GDBM", "Berkeley DB", "LMDB", "HDF5", "Arrow", "Parquet", "ZODB", "Redis"),
     "caches": ("cachelib", "Django"),
     "dbm.dumb": ("dbm.dumb",),
     "distcp": ("distcp",),

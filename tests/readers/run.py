@@ -14,6 +14,7 @@ import collections
 import functools
 import io
 import json
+import os
 import pathlib
 import random
 import subprocess
@@ -134,7 +135,7 @@ def alarms(keep):
         passed, failed = passed + (not findings), failed + bool(findings)
         if findings:
             (keep / name.replace("/", "_").replace(" ", "_")).write_bytes(data)
-            print(f"{name}: a false alarm: {findings[0]}")
+            print(f"failed: {name}: a false alarm: {findings[0]}")
     print(f"{passed} files of libraries without a finding, {failed} with one")
     return passed, failed
 
@@ -147,7 +148,7 @@ def words_of():
     parser.add_argument("--seconds", type=int, default=1 << 20, help="after which it ends")
     parser.add_argument("--jobs", type=int, default=2, help="pairs of processes")
     parser.add_argument("--only", type=int, help="the number of a file to show")
-    folder = pathlib.Path(tempfile.gettempdir()) / "storklocker-readers"
+    folder = pathlib.Path(tempfile.gettempdir()) / f"storklocker-readers-{os.getuid()}"
     parser.add_argument("--keep", type=pathlib.Path, default=folder)
     return parser.parse_args()
 
@@ -173,7 +174,8 @@ def main():
         readers, deaths = readers + heard, deaths + died
         for number, names, data in misses:
             (asked.keep / str(number)).write_bytes(data)
-            print(f"file {number}: asked for by {', '.join(names)}, and not found", flush=True)
+            asking = ", ".join(names)
+            print(f"failed: file {number}: asked for by {asking}, and not found", flush=True)
         if time.monotonic() > over:
             print(f"the time is over after {passed + failed:,} files")
             break

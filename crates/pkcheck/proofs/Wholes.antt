@@ -29,6 +29,7 @@ pub mod Exclusive
 pub mod ExclusiveRows
 pub mod RefusedBehind
 pub mod SameImports
+pub mod SameImportsOfRow
 pub mod EachSetting
 pub mod Unlisted
 pub mod NewRuns

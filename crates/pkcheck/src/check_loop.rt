@@ -17,8 +17,8 @@ use crate::row_of_pickles::{PickleRow, YesAll};
 use crate::session::Session;
 use pkimport::Imports;
 use pklist::laws::bounded_names;
-use pkmachine::Permit;
 use pkmachine::laws::steps;
+use pkmachine::{Domain, Nothing, Permit};
 use pkops::Limits;
 use pkread::laws::{frames, heads, nexts, rows};
 use pkread::{Reader, Source};
@@ -90,15 +90,15 @@ pub fn check_pickles<R: Source, A: Audience>(
         (λ _. R.failures source.new ≡ R.failures source.old) }
 {
     let mut reader = Reader::new(alloc, source, &terms.limits);
-    let mut session = Session::new(alloc, &terms.limits, terms.loading.old_strings);
+    let mut session = Session::new(alloc, &terms.limits, terms.loading.old_strings, Nothing);
     let mut row = PickleRow::new(alloc, terms.loading.memo, terms.extent);
     hear_pickles(&mut session, &mut reader, &mut row, policy, audience)
 }
 
 /// The loop of `check_pickles`. It owns nothing that must be dropped: each exit of a loop that does
 /// has stack slots of its own for that, which the compiler clears at the start of every check.
-fn hear_pickles<R: Source, A: Audience>(
-    session: &mut Session,
+fn hear_pickles<R: Source, A: Audience, D: Domain>(
+    session: &mut Session<D>,
     reader: &mut Reader<'_, R>,
     row: &mut PickleRow,
     policy: &Permit<'_>,

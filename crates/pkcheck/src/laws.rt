@@ -7,7 +7,7 @@ ghost use Rattle.pkcheck.specs.Ends.{SameEvents, WellCarriesOver, WellIsFree};
 ghost use Rattle.pkcheck.specs.Exclusive.{OneBegins, RefusedBehind, YesExcludesNo};
 ghost use Rattle.pkcheck.specs.Exclusive.{YesOfRowExcludesNo};
 ghost use Rattle.pkcheck.specs.NewRuns.{FaultlessIsRun};
-ghost use Rattle.pkcheck.specs.SameImports.{SameImports};
+ghost use Rattle.pkcheck.specs.SameImports.{SameImports, SameImportsOfRow};
 
 use pkmachine::laws::steps;
 use pkops::laws::{growth, one_answer};
@@ -38,6 +38,14 @@ pub fn yes_of_row_excludes_no()
 /// imports.
 pub fn same_imports()
     ensures { SameImports }
+{
+    one_sequence();
+}
+
+/// Two yeses to the same row of pickles, loaded alike, count as many pickles and list the same
+/// imports.
+pub fn same_imports_of_row()
+    ensures { SameImportsOfRow }
 {
     one_sequence();
 }

@@ -20,6 +20,9 @@ pub use listening::{Listener, check_heard};
 pub use loading::Loading;
 pub use pkimport::{Asked, Import, ImportIter, ImportList, Imports, Quoted};
 pub use pklist::{Allow, AllowError, Where};
-pub use pkmachine::{Machine, Memo, Moved, OldStrings, Permit, Policy};
+pub use pkmachine::{Memo, Moved, OldStrings, Permit, Policy};
 pub use row_of_pickles::{NoAll, YesAll, check_all, check_all_loaded};
 pub use with_imports::{NoWithImports, check_with_imports};
+
+/// The machine alone, which keeps nothing of objects but what it knows about them.
+pub type Machine = pkmachine::Machine<pkmachine::Nothing>;

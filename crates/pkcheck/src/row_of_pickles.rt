@@ -15,7 +15,7 @@ use crate::loading::Loading;
 use crate::session::Session;
 use crate::with_imports::NoWithImports;
 use pkimport::{ImportTable, Imports};
-use pkmachine::{Memo, OldStrings, Permit, Policy};
+use pkmachine::{Domain, Memo, OldStrings, Permit, Policy};
 use pkops::{Limits, Reason, Refusal};
 use pkread::{Reader, Source};
 use std::alloc::Global;
@@ -156,10 +156,10 @@ impl PickleRow {
 
     /// Counts a pickle that has ended. Returns whether another one begins, for which the session is
     /// then ready.
-    pub fn next<R: Source>(
+    pub fn next<R: Source, D: Domain>(
         &mut self,
         reader: &mut Reader<'_, R>,
-        session: &mut Session,
+        session: &mut Session<D>,
     ) -> Result<bool, Refusal>
         requires ended { has_ended (state R.left R.failures reader.old) ≡ true }
         requires none { TakesNoneAhead reader.old }
@@ -185,7 +185,7 @@ impl PickleRow {
 
     /// The accepted row, in which this many bytes were taken. This ends the row and the session. By
     /// value, as in `refuse_with_imports` of `Session`, they would need stack slots.
-    pub fn accepted(&mut self, taken: u64, session: &mut Session) -> YesAll
+    pub fn accepted<D: Domain>(&mut self, taken: u64, session: &mut Session<D>) -> YesAll
         ensures taken { result.taken ≡ taken }
         ensures pickles { result.pickles ≡ self.old.pickles }
         ensures imports { result.imports
@@ -205,7 +205,7 @@ impl PickleRow {
     }
 
     /// The acceptance of a pickle that is alone and was not counted, of so many bytes.
-    pub fn alone(&self, taken: u64, session: &mut Session) -> YesAll
+    pub fn alone<D: Domain>(&self, taken: u64, session: &mut Session<D>) -> YesAll
         ensures taken { result.taken ≡ taken }
         ensures pickles { result.pickles ≡ 1 }
         ensures imports { result.imports ≡ session.old.machine.imports }
@@ -218,7 +218,7 @@ impl PickleRow {
     }
 
     /// The refusal of the pickle behind those so far.
-    pub fn refused(&self, session: &mut Session, refusal: Refusal) -> RefusedPickle
+    pub fn refused<D: Domain>(&self, session: &mut Session<D>, refusal: Refusal) -> RefusedPickle
         ensures pickle { result.pickle ≡ self.now.pickles }
         ensures no { IsNoAt refusal.at refusal.reason session.old.machine.off result.no }
         ensures imports { result.imports ≡ drop self.now.earlier session.old.machine.imports }

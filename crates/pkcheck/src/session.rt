@@ -23,7 +23,7 @@ use crate::checking::No;
 use crate::turned::{Failed, Turned};
 use crate::with_imports::NoWithImports;
 use pkimport::{ImportTable, Imports};
-use pkmachine::{Machine, Memo, OldStrings, Permit};
+use pkmachine::{Domain, Machine, Memo, OldStrings, Permit};
 use pkops::{Inst, Limits, Op, Reason, Refusal};
 use pkread::{Frames, Head, Next, Reader, Source, frame_argument, lend};
 use std::alloc::{AllocError, Global};
@@ -32,13 +32,13 @@ use std::mem;
 
 /// The frame rules and the machine of a check. If the frame rules refuse an instruction, the
 /// machine stays unchanged.
-pub(crate) struct Session {
+pub(crate) struct Session<D: Domain> {
     frames: Frames,
-    pub machine: Machine,
+    pub machine: Machine<D>,
 }
 
 /// Written by hand and inlined: the caller then doesn't move the session to a place of its own.
-impl Drop for Session {
+impl<D: Domain> Drop for Session<D> {
     #[inline(always)]
     fn drop(self) {
         let Session {
@@ -48,7 +48,7 @@ impl Drop for Session {
     }
 }
 
-impl Model for Session {
+impl<D: Domain> Model for Session<D> {
     ghost use Rattle.pkcheck.specs.Private.Judgement.{SessionView};
 
     ghost Value = { SessionView };
@@ -56,14 +56,14 @@ impl Model for Session {
     ghost view = { λ s. record { frame = s.frames; machine = s.machine } };
 }
 
-impl Session {
+impl<D: Domain> Session<D> {
     /// The state before the first instruction. Allocates nothing.
-    pub fn new(alloc: Global, limits: &Limits, old_strings: OldStrings) -> Session
+    pub fn new(alloc: Global, limits: &Limits, old_strings: OldStrings, domain: D) -> Session<D>
         ensures { result ≡ record { frame = 0; machine = fresh old_strings limits.now } }
     {
         Session {
             frames: Frames::new(),
-            machine: Machine::new_as(alloc, limits, old_strings),
+            machine: Machine::followed(alloc, limits, old_strings, domain),
         }
     }
 
@@ -311,11 +311,13 @@ impl Session {
     }
 
     /// Moves the machine out, and leaves another in its place.
-    fn take_machine(&mut self, alloc: Global) -> Machine
+    fn take_machine(&mut self, alloc: Global) -> Machine<D>
         ensures machine { result ≡ self.old.machine }
         ensures frame { self.new.frame ≡ self.old.frame }
     {
-        mem::replace(&mut self.machine, Machine::new(alloc, &Limits::STANDARD))
+        let domain = self.machine.domain();
+        let other = Machine::followed(alloc, &Limits::STANDARD, OldStrings::Unknown, domain);
+        mem::replace(&mut self.machine, other)
     }
 
     /// This refusal of a pickle, with the pair that is off the list, and the imports before it

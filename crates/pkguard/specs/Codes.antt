@@ -63,3 +63,5 @@ fault_code (fault.Shape part.Limit) = 11
 fault_code (fault.Shape part.Rules) = 12
 fault_code (fault.Shape part.RuleKey) = 13
 fault_code (fault.Shape part.Rule) = 14
+fault_code (fault.Shape part.Substitutes) = 15
+fault_code (fault.Shape part.Substitute) = 16

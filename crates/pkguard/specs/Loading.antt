@@ -1,7 +1,8 @@
 -- What the verdicts for C say of the cost of loading.
 use Rattle.std.specs.Prelude.{◌≡◌, ◌≢◌, ◌==◌, ◌&&◌, ◌⊎◌, ℕ, Bool, List, length, nat_le}
 use Rattle.std.specs.Prelude.{Option, Some, None, if◌then◌else◌, option_map, unwrap_or, Ok}
-use Rattle.toml.specs.Data.{Members}
+use Rattle.std.specs.Prelude.{codes}
+use Rattle.toml.specs.Data.{Members, get_member}
 use Rattle.pkops.specs.Limits.{Bounds}
 use Rattle.pkimport.specs.Import.{asked_shown}
 use Rattle.pkmachine.specs.Knowledge.{Policy}
@@ -14,6 +15,7 @@ use Rattle.pkmachine.specs.declared.OldStrings.{OldStrings}
 use Rattle.pkcheck.specs.declared.RefusedPickle.{RefusedPickle}
 use Rattle.pkload.specs.Costly.{CostsTooMuch}
 use Rattle.pkload.specs.Loading.{AcceptedWithBill, AcceptedWithin, IsRefused}
+use Rattle.pkload.specs.Tolls.{are_counted}
 use Rattle.pkload.specs.declared.Costly.{Costly}
 use Rattle.pkload.specs.declared.Excess.{Excess}
 use Rattle.pkload.specs.declared.Excess.TheVariants.{OutOfMemory}
@@ -26,8 +28,11 @@ use Rattle.pkguard.specs.declared.costs.Costs.{Costs}
 use Rattle.pkguard.specs.declared.settings.Settings.{Settings}
 use Rattle.pkguard.specs.declared.verdict.Verdict.{Verdict}
 use Rattle.pkguard.specs.Codes.{excess_code}
-use Rattle.pkguard.specs.Guard.{costs_in, memory, names_placed, nothing_told, verdict_of_no}
-use Rattle.pkguard.specs.Guard.{verdict_of_usage, verdict_of_yes}
+use Rattle.pkguard.specs.declared.said.Said.{Said}
+use Rattle.pkguard.specs.Encoding.{encoded_all, wanted_by}
+use Rattle.pkguard.specs.Guard.{costs_in, memory, names_placed, nothing_told, placed}
+use Rattle.pkguard.specs.Guard.{verdict_of_no, verdict_of_usage, verdict_of_yes}
+use Rattle.pkguard.specs.Listed.{said_by, substitutes_in}
 use Rattle.pkguard.specs.Settings.{old_strings_in}
 
 -- the limits of a check
@@ -61,9 +66,10 @@ costs_over costs said = record costs {
 abbrev pub extent_by : Costs → Extent
 extent_by costs = if costs.all == 1 then ToTheEnd else OnePickle
 
--- each flag is 0 or 1
+-- each flag is 0 or 1, and a key can exceed its limits, but for those that say that there is none
 abbrev pub are_served : Costs → Bool
-are_served costs = nat_le costs.builds 1 && nat_le costs.all 1
+are_served costs =
+    nat_le costs.builds 1 && nat_le costs.all 1 && are_counted (tolls_by costs)
 
 -- how Python 2 strings are decoded, if the settings and the limits on costs are supported
 abbrev pub old_strings_with : Settings → Costs → Option OldStrings
@@ -156,4 +162,16 @@ pub record AreCostsOf (list : List ℕ) (before after : Costs) (verdict : Verdic
   pub document : Members
   pub is_list : list_of list ≡ Ok document
   pub costs : after ≡ costs_over before (costs_in document)
+  pub told : verdict ≡ nothing_told
+
+-- the bytes are a list file; which keys it has is told, and its substitutes are in the buffer if it
+-- has room for all of them
+pub record IsListTold (list before after : List ℕ) (said : Said) (wanted : ℕ) (verdict : Verdict)
+    : Type 0 where
+  pub document : Members
+  pub is_list : list_of list ≡ Ok document
+  pub keys : said ≡ said_by (get_member (codes "limits") document) (costs_in document)
+  pub asks : wanted ≡ wanted_by (substitutes_in (get_member (codes "substitutes") document))
+  pub room : after
+      ≡ placed (encoded_all (substitutes_in (get_member (codes "substitutes") document))) before
   pub told : verdict ≡ nothing_told

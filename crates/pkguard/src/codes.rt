@@ -79,5 +79,7 @@ pub fn fault_code(error: AllowError) -> u32
         AllowError::Shape(Where::Rules) => 12,
         AllowError::Shape(Where::RuleKey) => 13,
         AllowError::Shape(Where::Rule) => 14,
+        AllowError::Shape(Where::Substitutes) => 15,
+        AllowError::Shape(Where::Substitute) => 16,
     }
 }

@@ -128,9 +128,10 @@ pub fn old_strings_with(settings: &Settings, costs: &Costs) -> Option<OldStrings
     }
 }
 
-/// Whether each flag is 0 or 1.
+/// Whether each flag is 0 or 1, and a key can exceed its limits, but for those that say that there
+/// is none.
 fn are_served(costs: &Costs) -> bool
     ensures { result ≡ are_served costs.now }
 {
-    costs.builds <= 1 && costs.all <= 1
+    costs.builds <= 1 && costs.all <= 1 && tolls_by(costs).are_counted()
 }

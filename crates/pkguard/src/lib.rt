@@ -18,6 +18,7 @@ mod encoding;
 mod layouts;
 mod list;
 mod listing;
+mod said;
 mod settings;
 mod verdict;
 
@@ -38,6 +39,7 @@ use pklist::Pair;
 use pklist::laws::halving;
 use pkops::Limits;
 use pkread::Memory;
+pub use said::{Said, pkguard_list_told};
 pub use settings::Settings;
 use std::alloc::Global;
 pub use verdict::Verdict;

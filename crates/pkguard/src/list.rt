@@ -1,4 +1,4 @@
-//! Reads a list file, and writes its pairs to the caller's buffer.
+//! Reads a list file, and writes its pairs and its substitutes to the caller's buffer.
 ghost use Rattle.std.specs.Prelude.{◌≡◌, ◌++◌, ℕ, List, IfOk, IfErr, Ok, OnOk, codes, option_map};
 ghost use Rattle.std.specs.Str.{IsUtf8};
 ghost use Rattle.pklist.specs.Allow.{document_of};
@@ -8,6 +8,7 @@ ghost use Rattle.toml.specs.View.{array_view, table_view, view};
 ghost use Rattle.pkguard.specs.Encoding.{encoded_all, wanted_by};
 ghost use Rattle.pkguard.specs.Guard.{IsNoList, placed};
 ghost use Rattle.pkguard.specs.Listed.{pair_in, pairs_among, pairs_at, pairs_in, pairs_of};
+ghost use Rattle.pkguard.specs.Listed.{substitutes_at, substitutes_in};
 ghost use Rattle.pkguard.specs.Private.Written.{IsWritten};
 
 use crate::encoding::put_import;
@@ -57,6 +58,46 @@ fn put_pairs(imports: Option<&Value>, room: &mut [u8]) -> usize
         Some(Value::Table(modules)) => put_modules(modules, room),
         _ => 0,
     }
+}
+
+/// Writes the substitutes of a list to the buffer if it has room for all of them, each behind its
+/// name, and returns the number of bytes they need.
+pub fn give_substitutes(list: &Allow, room: &mut [u8]) -> u64
+    ensures wanted { result
+        ≡ wanted_by (substitutes_in (get_member (codes "substitutes") (document_of list.now))) }
+    ensures room { room.new ≡ placed
+        (encoded_all (substitutes_in (get_member (codes "substitutes") (document_of list.now))))
+        room.old }
+{
+    let wanted = put_substitutes(list.substitutes(), &mut []);
+    if wanted <= room.len() {
+        put_substitutes(list.substitutes(), room);
+    }
+    wanted as u64
+}
+
+/// Writes a table `substitutes` to the front of the buffer.
+fn put_substitutes(substitutes: Option<&Value>, room: &mut [u8]) -> usize
+    ensures { IsWritten
+        (encoded_all (substitutes_in (option_map (λ v. view v.now) substitutes.entry)))
+        room.old room.new result }
+{
+    match substitutes {
+        Some(Value::Table(substitutes)) => put_rows(substitutes, room),
+        _ => 0,
+    }
+}
+
+/// Writes each name and its substitute to the front of the buffer.
+fn put_rows(substitutes: &Table, room: &mut [u8]) -> usize
+    ensures { IsWritten (encoded_all (substitutes_at (table_view substitutes.now)))
+        room.old room.new result }
+{
+    let mut next = 0;
+    for (name, substitute) in substitutes {
+        next = put_name(room, next, name.as_str(), substitute);
+    }
+    next
 }
 
 /// Writes the pairs of each module to the front of the buffer.

@@ -17,7 +17,7 @@ use crate::build::build;
 use crate::error::ExportError;
 use crate::judge::{Weight, weigh};
 use crate::objects::Object;
-use crate::pieces::{Weighed, write_value};
+use crate::pieces::{Weighed, write_one, write_value};
 use crate::replay::replay;
 use crate::settle::settle;
 use crate::settled::Settled;
@@ -55,6 +55,11 @@ pub fn export(alloc: Global, bytes: &[u8], limits: &Limits) -> Result<Value, Exp
 /// The JSON text of the value that `export` returns, in UTF-8 and without spaces. It is written
 /// without building that value, which needs several times the memory.
 ///
+/// ```rust
+/// let text = export_text(alloc, b"}\x8c\x01aK\x01s.", &Limits::STANDARD)?;
+/// assert_eq!(rt; text.as_slice(), b"{\"a\":1}".as_slice());
+/// ```
+///
 /// # Errors
 ///
 /// Those of `export`.
@@ -66,13 +71,14 @@ pub fn export_text(alloc: Global, bytes: &[u8], limits: &Limits) -> Result<Vec<u
     settled_text(alloc, &objects, place, limits)
 }
 
-/// Writes the text that `export_text` returns, in pieces: it is never held whole. A refusal is
-/// known before anything is written.
+/// Writes the text that `export_text` returns, in pieces: a text of many pieces is never held
+/// whole. A refusal is known before anything is written, also for want of memory where the text is
+/// one piece.
 ///
 /// # Errors
 ///
-/// The writer's, or that there is no memory for a piece; how much was written is then unspecified.
-/// Inside, those of `export`.
+/// The writer's, or that there is no memory for one of many pieces; how much was written is then
+/// unspecified. Inside, those of `export`.
 pub fn export_to<W: Write>(
     alloc: Global,
     bytes: &[u8],
@@ -314,6 +320,9 @@ fn written_to<W: Write>(
                 nodes,
                 weights: weights.as_slice(),
             };
+            if weighed.is_one_piece(place) {
+                return write_one(&weighed, place, levels, out);
+            }
             write_value(&weighed, place, levels, out)?;
             Ok(Ok(()))
         }

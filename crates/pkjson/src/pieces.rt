@@ -1,14 +1,17 @@
 //! Writes the text of a value in pieces, so that it is never held whole.
 
-ghost use Rattle.std.specs.Prelude.{[], ◌∷◌, ◌++◌, ◌<◌, ◌≤◌, ◌-◌, length, slice_range, All, OnOk};
+ghost use Rattle.std.specs.Prelude.{[], ◌∷◌, ◌++◌, ◌<◌, ◌≤◌, ◌-◌, length, slice_range, All, IfOk};
+ghost use Rattle.std.specs.Prelude.{OnOk};
 ghost use Rattle.std.specs.Io.KnownBytes.{Appends};
 ghost use Rattle.serde_json.specs.Written.{comma_if, compact_text};
 ghost use Rattle.serde_json.specs.Data.{string};
 ghost use Rattle.pkjson.specs.Private.Nodes.{heap, size, named_members, IsClosed};
 ghost use Rattle.pkjson.specs.Private.Fits.{Fits, ItemsFit, MembersFit};
 ghost use Rattle.pkjson.specs.Private.Parts.{IsPartBelow, PartFits};
-ghost use Rattle.pkjson.specs.Private.Pieces.{Writes, WritesItems, WritesMembers, WritesPart};
+ghost use Rattle.pkjson.specs.Private.Pieces.{IsWhole, Writes, WritesItems, WritesMembers};
+ghost use Rattle.pkjson.specs.Private.Pieces.{WritesPart};
 
+use crate::error::ExportError;
 use crate::judge::{Weight, key_size};
 use crate::node::Node;
 use crate::settled::Settled;
@@ -36,6 +39,20 @@ impl<'n, 'a, 'b> Weighed<'n, 'a, 'b> {
             self.weights[place].size
         } else {
             0
+        }
+    }
+
+    /// Whether the text of an object's value is one piece: a short one, or one without parts.
+    pub fn is_one_piece(&self, place: usize) -> bool
+        requires { place < size self.now.nodes.now }
+    {
+        if self.size(place) <= PIECE {
+            return true;
+        }
+        match self.nodes.node(place) {
+            Node::List(_) => false,
+            Node::Dict(_) => false,
+            _ => true,
         }
     }
 
@@ -118,6 +135,27 @@ pub fn write_value<W: Write>(
         }
         _ => write_part(weighed, Part::Object(place), levels, out),
     }
+}
+
+/// Writes the text of the value of an object, which is made first: without memory for it, nothing
+/// is written.
+pub fn write_one<W: Write>(
+    weighed: &Weighed<'_, '_, '_>,
+    place: usize,
+    levels: u32,
+    out: &mut W,
+) -> io::Result<Result<(), ExportError>>
+    requires closed { IsClosed weighed.now.nodes.now }
+    requires place { place < size weighed.now.nodes.now }
+    requires fits { Fits (heap weighed.now.nodes.now) levels place }
+    ensures { IfOk result (IsWhole (heap weighed.now.nodes.now) place
+        (W.contents out.old) (W.contents out.new)) }
+{
+    let Ok(text) = text_of(weighed.alloc, weighed.nodes, Part::Object(place), levels) else {
+        return Ok(Err(ExportError::OutOfMemory));
+    };
+    out.write_all(text.as_slice())?;
+    Ok(Ok(()))
 }
 
 /// Writes the values of these objects, with commas between.

@@ -53,16 +53,22 @@ abbrev pub version_fault : Option Data → Option AllowError
 version_fault (Some (integer number)) = kept_or (is_version number) Version
 version_fault _ = Some (Shape part.Version)
 
--- the version is 2, which allows limits and rules
+-- the version is 2, which allows limits, rules and substitutes
 abbrev pub is_two : Option Data → Bool
 is_two (Some (integer (pos n))) = n == 2
 is_two _ = false
 
--- the key is `version` or `imports`, or `limits` or `rules` if these are allowed
+-- the key is that of a table beside `imports`, which version 2 allows
+abbrev pub is_table_of_two : Text → Bool
+is_table_of_two key =
+    bytes_eq key (codes "limits") || bytes_eq key (codes "rules")
+    || bytes_eq key (codes "substitutes")
+
+-- the key is `version` or `imports`, or that of another table if these are allowed
 abbrev pub is_top_key : Bool → Text → Bool
 is_top_key limited key =
     bytes_eq key (codes "version") || bytes_eq key (codes "imports")
-    || (limited && (bytes_eq key (codes "limits") || bytes_eq key (codes "rules")))
+    || (limited && is_table_of_two key)
 
 -- the document has no other key at the top level
 abbrev pub keys_fault : Bool → Members → Option AllowError
@@ -119,17 +125,26 @@ greatest_where is_large = if is_large then greatest_large else greatest
 abbrev pub standard_where : Bool → Bounds
 standard_where is_large = if is_large then large else standard
 
--- the greatest values of limits on the cost of a key, and on sums
-abbrev pub greatest_weight : ℕ
-greatest_weight = 4_294_967_295
+-- the greatest limits on the levels and the weight of a key: one less than what is counted, since
+-- nothing exceeds a greater limit
+abbrev pub greatest_levels : ℕ
+greatest_levels = 1_022
 
+abbrev pub greatest_weight : ℕ
+greatest_weight = 1_048_574
+
+-- the number that says that levels or weights have no limit
+abbrev pub unlimited_key : ℕ
+unlimited_key = 4_294_967_295
+
+-- the greatest value of limits on sums
 abbrev pub greatest_sum : ℕ
 greatest_sum = 9_223_372_036_854_775_807
 
 -- the greatest value of a limit on what loading costs, or None if the key names none
 abbrev pub greatest_cost : Text → Option ℕ
 greatest_cost key =
-    if bytes_eq key (codes "levels") then Some greatest_weight
+    if bytes_eq key (codes "levels") then Some greatest_levels
     else if bytes_eq key (codes "weight") then Some greatest_weight
     else if bytes_eq key (codes "work") then Some greatest_sum
     else if bytes_eq key (codes "clash") then Some greatest_sum
@@ -153,6 +168,12 @@ abbrev pub is_limit : ℕ → Data → Bool
 is_limit most (integer (pos n)) = nat_le n most
 is_limit most _ = false
 
+-- the value says that there is no limit on levels or weights
+abbrev pub is_unlimited : Text → Data → Bool
+is_unlimited key (integer (pos n)) =
+    (bytes_eq key (codes "levels") || bytes_eq key (codes "weight")) && n == unlimited_key
+is_unlimited key _ = false
+
 -- the key names a limit, and its value is valid
 abbrev pub limit_fault : Option ℕ → Data → Option AllowError
 limit_fault (Some most) value = kept_or (is_limit most value) (Shape part.Limit)
@@ -163,6 +184,8 @@ abbrev pub key_fault : Bounds → Text → Data → Option AllowError
 key_fault most key value =
     if bytes_eq key (codes "large")
     then large_fault value
+    else if is_unlimited key value
+    then None
     else limit_fault (greatest_at most key) value
 
 -- the first fault of these keys, in their byte order
@@ -213,6 +236,28 @@ rules_fault None = None
 rules_fault (Some (table rules)) = each_rule_fault rules
 rules_fault (Some _) = Some (Shape part.Rules)
 
+-- the value is a string, and so names a substitute
+abbrev pub is_text_value : Data → Bool
+is_text_value (string text) = true
+is_text_value _ = false
+
+-- the key isn't empty, and its value is a string
+abbrev pub substitute_fault : Text → Data → Option AllowError
+substitute_fault key value =
+    kept_or (not (length key == 0) && is_text_value value) (Shape part.Substitute)
+
+-- the first fault of these keys, in their byte order
+abbrev pub each_substitute_fault : Members → Option AllowError
+each_substitute_fault no_members = None
+each_substitute_fault (member key value rest) =
+    or_else (substitute_fault key value) (each_substitute_fault rest)
+
+-- `substitutes`, if present, is a table of strings
+abbrev pub substitutes_fault : Option Data → Option AllowError
+substitutes_fault None = None
+substitutes_fault (Some (table substitutes)) = each_substitute_fault substitutes
+substitutes_fault (Some _) = Some (Shape part.Substitutes)
+
 -- the first rule that the document breaks
 abbrev pub fault_of_document : Members → Option AllowError
 fault_of_document document =
@@ -221,7 +266,8 @@ fault_of_document document =
     (or_else (keys_fault (is_two version) document)
     (or_else (imports_fault (get_member (codes "imports") document))
     (or_else (limits_fault (get_member (codes "limits") document))
-    (rules_fault (get_member (codes "rules") document)))))
+    (or_else (rules_fault (get_member (codes "rules") document))
+    (substitutes_fault (get_member (codes "substitutes") document))))))
 
 -- the document, unless it has a fault
 abbrev pub document_unless : Option AllowError → Members → Result Members AllowError
@@ -298,8 +344,8 @@ value_in key _ = None
 -- what the tables `limits` and `rules` of a document say of the cost of loading
 abbrev pub cost_limits_in : (limits rules : Option Data) → CostLimits
 cost_limits_in limits rules = record {
-  levels = limit_said greatest_weight (value_in (codes "levels") limits);
-  weight = limit_said greatest_weight (value_in (codes "weight") limits);
+  levels = limit_said unlimited_key (value_in (codes "levels") limits);
+  weight = limit_said unlimited_key (value_in (codes "weight") limits);
   work = limit_said greatest_sum (value_in (codes "work") limits);
   clash = limit_said greatest_sum (value_in (codes "clash") limits);
   memory = limit_said greatest_sum (value_in (codes "memory") limits);

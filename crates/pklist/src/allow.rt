@@ -14,6 +14,7 @@ mod error;
 mod index;
 mod limits;
 mod rules;
+mod substitutes;
 
 pub use costs::CostLimits;
 pub use error::{AllowError, Where};
@@ -38,7 +39,8 @@ impl Allow {
     ghost use Rattle.toml.specs.Data.{get_member};
     ghost use Rattle.toml.specs.View.{view};
     ghost use Rattle.toml.specs.Errors.{IsBlank};
-    ghost use Rattle.pklist.specs.Allow.{cost_limits_of, document_of, limits_of, lists};
+    ghost use Rattle.pklist.specs.Allow.{cost_limits_of, document_of, has_limits, limits_of, lists};
+    ghost use Rattle.pklist.specs.Allow.{says_numbers};
     ghost use Rattle.pklist.specs.ListFile.{list_of};
 
     /// Reads a list file, for example
@@ -57,7 +59,8 @@ impl Allow {
     /// `depth`, `values`, `passed` and `numbers`, and `large = true` for large data. Missing limits
     /// have their defaults, and so do all limits in version 1, which has no such table. Its keys
     /// `levels`, `weight`, `work`, `clash` and `memory`, and `build` of a table `rules`, are those
-    /// of [`CostLimits`].
+    /// of [`CostLimits`]. A table `substitutes` permits nothing: it says what is loaded in place of
+    /// a name.
     ///
     /// # Errors
     ///
@@ -112,6 +115,28 @@ impl Allow {
             ≡ get_member (codes "imports") (document_of self.now) }
     {
         rules::value_at(&self.document, "imports")
+    }
+
+    /// The table `substitutes` of the list: names, each with its substitute. Allocates nothing.
+    pub fn substitutes(&self) -> Option<&Value>
+        ensures { option_map (λ v. view v.now) result
+            ≡ get_member (codes "substitutes") (document_of self.now) }
+    {
+        rules::value_at(&self.document, "substitutes")
+    }
+
+    /// Whether the list has a table `limits`. Allocates nothing.
+    pub fn has_limits(&self) -> bool
+        ensures { result ≡ has_limits self.now }
+    {
+        rules::value_at(&self.document, "limits").is_some()
+    }
+
+    /// Whether the table `limits` has `numbers`, whose default is the greatest. Allocates nothing.
+    pub fn says_numbers(&self) -> bool
+        ensures { result ≡ says_numbers self.now }
+    {
+        costs::value_in(rules::value_at(&self.document, "limits"), "numbers").is_some()
     }
 
     /// What the list says of the cost of loading. Allocates nothing.

@@ -1,6 +1,8 @@
 -- Limits on what loading may cost.
-use Rattle.std.specs.Prelude.{◌≡◌, ◌≤◌, ◌<◌, ◌⊎◌, ⊤, ℕ, true, false, unwrap_or}
+use Rattle.std.specs.Prelude.{◌≡◌, ◌≤◌, ◌<◌, ◌⊎◌, ◌==◌, ◌&&◌, ◌||◌, ⊤, ℕ, Bool, true, false}
+use Rattle.std.specs.Prelude.{nat_lt, unwrap_or}
 use Rattle.pklist.specs.declared.CostLimits.{CostLimits}
+use Rattle.pkload.specs.Heft.{most_depth, most_weight}
 use Rattle.pkload.specs.Tally.{Implies}
 use Rattle.pkload.specs.declared.tally.Tally.{Tally}
 use Rattle.pkload.specs.declared.tolls.Tolls.{Tolls}
@@ -29,6 +31,15 @@ unlimited = record {
   memory = 18_446_744_073_709_551_615;
   builds = true;
 }
+
+-- there is such a limit on what is counted up to `most`, since a key can exceed it, or it is the
+-- number that says that there is none
+abbrev pub is_counted : (most limit : ℕ) → Bool
+is_counted most limit = nat_lt limit most || limit == 4_294_967_295
+
+-- there are such limits on the depth and the weight of a key
+abbrev pub are_counted : Tolls → Bool
+are_counted tolls = is_counted most_depth tolls.levels && is_counted most_weight tolls.weight
 
 -- the limits that a list file says, and no others
 abbrev pub tolls_said : CostLimits → Tolls

@@ -58,6 +58,13 @@ impl fmt::Display for Costly {
 /// BUILD never takes an imported object unless it may. A yes carries the bill of the last pickle.
 /// A refusal says that all that precedes the refused instruction keeps within the limits.
 ///
+/// ```rust
+/// let permit = Permit::By(Policy::AnyImport);
+/// let mut source = Memory::new(b"}(K\x01K\x02K\x03K\x04tNs.");
+/// let billed = check_loading(alloc, &mut source, &permit, &terms, &Tolls::standard())??;
+/// assert_eq!(rt; (billed.tally.levels, billed.tally.weight), (1, 5));
+/// ```
+///
 /// # Errors
 ///
 /// The first limit that an instruction exceeds which the check accepts, with its place. What the

@@ -1,14 +1,16 @@
 //! Limits on what loading a pickle may cost.
 
 ghost use Rattle.std.specs.Prelude.{◌≡◌, ◌≤◌, ◌<◌, MatchOption, None};
-ghost use Rattle.pkload.specs.Tolls.{Exceeds, KeepsWithin, standard, tolls_said, unlimited};
+ghost use Rattle.pkload.specs.Tolls.{Exceeds, KeepsWithin, are_counted, standard, tolls_said};
+ghost use Rattle.pkload.specs.Tolls.{unlimited};
 
 use crate::tally::Tally;
 use pklist::CostLimits;
 use std::fmt;
 
 /// Limits on what the keys of a pickle may cost. Depths are counted up to 1,023 and weights up to
-/// 1,048,575, so a limit of at least that many is none.
+/// 1,048,575: nothing exceeds a limit of at least that many, of which only 4,294,967,295 means to
+/// be none ([`Tolls::are_counted`]).
 #[derive(Clone, Copy, Debug, PartialEq, Eq)]
 pub struct Tolls {
     /// The depth of a key: levels of tuples.
@@ -103,6 +105,15 @@ impl Tolls {
             memory: said.memory.unwrap_or(none.memory),
             builds: said.builds.unwrap_or(none.builds),
         }
+    }
+
+    /// Whether a key can exceed the limits on its depth and its weight, but for those that say that
+    /// there is none.
+    pub fn are_counted(&self) -> bool
+        ensures { result ≡ are_counted self.now }
+    {
+        (self.levels < 1_023 || self.levels == u32::MAX)
+            && (self.weight < 1_048_575 || self.weight == u32::MAX)
     }
 
     /// The first limit that a tally or this much memory exceeds.

@@ -8,7 +8,7 @@ use Rattle.pkstack.specs.Places.{below}
 use Rattle.pkstack.specs.Shape.{Entry, Item}
 use Rattle.pkmachine.specs.declared.new_text.NotPushed.{NotPushed}
 use Rattle.pkmachine.specs.declared.new_text.NotPushed.TheVariants.{OutOfMemory}
-use Rattle.pkmachine.specs.declared.value.Value.{Value}
+use Rattle.pkmachine.specs.declared.held.Held.{Held}
 use Rattle.pkmachine.specs.declared.value.Value.TheVariants as value
 use Rattle.pkmachine.specs.Private.NamedOperations.{AreSeen, StackAndTable}
 use Rattle.pkmachine.specs.Private.NewTexts.{HasPushedText, reason_for, with_reason}
@@ -19,25 +19,27 @@ abbrev pub appended : List ℕ → Noted → Noted
 appended text table = record { texts = table.texts ++ text ∷ []; asked = table.asked }
 
 -- the topmost entry is above all others
-taken_back : (entry : Entry Value) (entries : List (Entry Value))
+taken_back : {A : Type 0} (entry : Entry A) (entries : List (Entry A))
     → below (length entries) (entry ∷ entries) ≡ entries
 taken_back entry entries =
     let one : suc (length entries) - length entries ≡ 1 = omega arith in
     ap (λ count. drop count (entry ∷ entries)) one
 
-module _ (limit : ℕ) (text : List ℕ) (old : StackAndTable) (sees : AreSeen old) where
+module _ {I : Type 0} (limit : ℕ) (text : List ℕ) (item : I) (old : StackAndTable I)
+    (sees : AreSeen old) where
   -- the number of the text lies on top
-  abbrev pub numbered : List (Entry Value)
-  numbered = Item (value.Text (length old.table.texts)) ∷ old.entries
+  abbrev pub numbered : List (Entry (Held I))
+  numbered =
+      Item (record { value = value.Text (length old.table.texts); item = item }) ∷ old.entries
 
-  pub text_pushed : {A : Type 0} (a : A) (new : StackAndTable) → new.entries ≡ numbered
+  pub text_pushed : {A : Type 0} (a : A) (new : StackAndTable I) → new.entries ≡ numbered
       → length new.entries ≤ limit → new.table ≡ appended text old.table
       → HasPushedText limit text old new (Ok a)
   text_pushed a new entries room table =
       let texts = old.table.texts in
       rw (table, entries) (record {
-        ok = text_seen texts text old.entries sees;
-        sees = text_sees texts text old.entries sees;
+        ok = text_seen texts text item old.entries sees;
+        sees = text_sees texts text item old.entries sees;
         grows = record { more = text ∷ []; is = refl };
         count = omega (arith, length-append texts (text ∷ []));
         asked = refl;
@@ -45,8 +47,8 @@ module _ (limit : ℕ) (text : List ℕ) (old : StackAndTable) (sees : AreSeen o
         err = tt;
       })
 
-  pub text_added : {A : Type 0} (x : Result A NotPushed) (entries : List (Entry Value))
-      (table : Noted) (place : ℕ) (new : StackAndTable) → entries ≡ numbered
+  pub text_added : {A : Type 0} (x : Result A NotPushed) (entries : List (Entry (Held I)))
+      (table : Noted) (place : ℕ) (new : StackAndTable I) → entries ≡ numbered
       → length entries ≤ limit → table ≡ old.table → place ≡ length old.entries
       → OnOk x (new.entries ≡ entries) → OnOk x (new.table ≡ appended text table)
       → IfErr x (λ why. (new.entries ≡ below place entries) × (new.table ≡ table)

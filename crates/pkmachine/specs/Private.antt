@@ -1,6 +1,7 @@
 -- Contracts of the private parts of the machine. They need not be trusted: the lemmas in `proofs/`
 -- derive the public definitions from them.
 pub mod Packed
+pub mod HeldCells
 pub mod Slots
 pub mod Asking
 pub mod StepErrors

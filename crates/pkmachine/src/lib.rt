@@ -6,12 +6,15 @@
 
 mod asking;
 mod config;
+mod domain;
 pub mod effect;
 mod effects;
+mod held;
 pub mod laws;
 mod machine;
 mod memo;
 mod new_text;
+mod nothing;
 mod old_strings;
 mod old_text;
 mod operate;
@@ -23,8 +26,12 @@ mod state;
 mod stepping;
 mod value;
 
+pub use domain::{Domain, Item};
+pub use held::{Held, HeldCell};
 pub use machine::Machine;
 pub use memo::Memo;
+pub use nothing::{NoItem, Nothing};
 pub use old_strings::OldStrings;
 pub use policy::{Permit, Policy};
+pub use stack::Operands;
 pub use stepping::Moved;

@@ -18,8 +18,10 @@ ghost use Rattle.pkmachine.specs.Texts.{texts_then};
 ghost use Rattle.pkmachine.specs.View.{fresh, has_off_list, moved_apart, restarted, stopped_by};
 
 use crate::config::MachineConfig;
+use crate::domain::Domain;
 use crate::effects::class_passed;
 use crate::memo::Memo;
+use crate::nothing::Nothing;
 use crate::old_strings::OldStrings;
 use crate::policy::{Permit, Policy};
 use crate::state::MachineState;
@@ -34,15 +36,15 @@ use std::marker::Model;
 /// whatever its operations answer. It executes nothing. It knows nothing about objects that
 /// operations answer, the class of every other object, and the characters of a text.
 #[derive(Drop)]
-pub struct Machine {
+pub struct Machine<D: Domain> {
     config: MachineConfig,
-    state: MachineState,
+    state: MachineState<D>,
     refused: Option<Reason>,
     off: Option<Asked>,
     stopped: bool,
 }
 
-impl Model for Machine {
+impl<D: Domain> Model for Machine<D> {
     ghost use Rattle.pkmachine.specs.View.{View};
 
     ghost Value = { View };
@@ -70,10 +72,10 @@ impl Model for Machine {
         × (is_some (pair_shown (option_map asked_shown m.off)) ≡ has_off_list m.refused) };
 }
 
-impl Machine {
+impl Machine<Nothing> {
     /// A machine at the first instruction, with an empty stack and memo. Python 2 strings may
     /// decode to anything. Allocates nothing.
-    pub fn new(alloc: Global, limits: &Limits) -> Machine
+    pub fn new(alloc: Global, limits: &Limits) -> Machine<Nothing>
         ensures fresh { result ≡ fresh OldStrings.Unknown limits.now }
         ensures covers { Covers result.knowledge start }
     {
@@ -81,7 +83,22 @@ impl Machine {
     }
 
     /// Like `new`, for an unpickler that decodes Python 2 strings as `old_strings` says.
-    pub fn new_as(alloc: Global, limits: &Limits, old_strings: OldStrings) -> Machine
+    pub fn new_as(alloc: Global, limits: &Limits, old_strings: OldStrings) -> Machine<Nothing>
+        ensures fresh { result ≡ fresh old_strings limits.now }
+        ensures covers { Covers result.knowledge start }
+    {
+        Machine::followed(alloc, limits, old_strings, Nothing)
+    }
+}
+
+impl<D: Domain> Machine<D> {
+    /// Like `new_as`, with a domain that follows the objects along.
+    pub fn followed(
+        alloc: Global,
+        limits: &Limits,
+        old_strings: OldStrings,
+        domain: D,
+    ) -> Machine<D>
         ensures fresh { result ≡ fresh old_strings limits.now }
         ensures covers { Covers result.knowledge start }
     {
@@ -91,7 +108,7 @@ impl Machine {
                 limits: *limits,
                 old_strings,
             },
-            state: MachineState::new(alloc),
+            state: MachineState::new(alloc, domain),
             refused: None,
             off: None,
             stopped: false,
@@ -177,7 +194,10 @@ impl Machine {
         if let Some(earlier) = self.refused {
             return Err(earlier);
         }
-        match self.state.make(&self.config.limits, class_passed(op)) {
+        match self
+            .state
+            .make_passed(&self.config.limits, class_passed(op), op)
+        {
             Ok(()) => Ok(Moved::On),
             Err(reason) => {
                 self.refused = Some(reason);
@@ -185,6 +205,11 @@ impl Machine {
                 Err(reason)
             }
         }
+    }
+
+    /// What follows the objects along, as it is now.
+    pub fn domain(&self) -> D {
+        self.state.domain()
     }
 
     /// The limits of the check.
@@ -240,7 +265,7 @@ impl Machine {
     /// refused. With a fresh memo it moves the imports to `apart`, after those already there, and
     /// forgets everything else. With a kept memo it only clears the stack, in constant time,
     /// because the memo may refer to any text.
-    pub fn into_next(self, memo: Memo, apart: &mut ImportTable) -> Result<Machine, Machine>
+    pub fn into_next(self, memo: Memo, apart: &mut ImportTable) -> Result<Machine<D>, Machine<D>>
         requires { self.refused ≡ None }
         ensures next { IfOk result (λ next. next ≡ restarted memo self) }
         ensures apart { OnOk result (apart.new.asked

@@ -12,6 +12,8 @@ ghost use Rattle.pkmachine.specs.Runs.{text};
 ghost use Rattle.pkstack.specs.Places.{below};
 
 use crate::config::MachineConfig;
+use crate::domain::Item;
+use crate::held::Held;
 use crate::packed::PackedValue;
 use crate::spelled_text::text_spelled;
 use crate::stack::Stack;
@@ -47,9 +49,10 @@ impl From<NotPushed> for Reason {
 /// case, nothing is called. Inlined, it would make the loop too large to become one function with
 /// the meter of `pkload`, and each instruction would cost more.
 #[inline(never)]
-fn name_text(
-    stack: &mut Stack,
+fn name_text<I: Item>(
+    stack: &mut Stack<I>,
     table: &mut ImportTable,
+    item: I,
     limits: &Limits,
     text: &[u8],
 ) -> Result<(), NotPushed>
@@ -63,8 +66,8 @@ fn name_text(
     let Some(value) = PackedValue::text(table.texts()) else {
         return Err(NotPushed::OutOfMemory);
     };
-    if !stack.push_within_capacity(limits, value) {
-        return name_any_text(stack, table, limits, text);
+    if !stack.push_within_capacity(limits, Held { value, item }) {
+        return name_any_text(stack, table, item, limits, text);
     }
     if !table.add_text_within_capacity(text) {
         return add_pushed_text(stack, table, place, text);
@@ -74,9 +77,10 @@ fn name_text(
 
 /// `name_text` of any text.
 #[inline(never)]
-fn name_any_text(
-    stack: &mut Stack,
+fn name_any_text<I: Item>(
+    stack: &mut Stack<I>,
     table: &mut ImportTable,
+    item: I,
     limits: &Limits,
     text: &[u8],
 ) -> Result<(), NotPushed>
@@ -90,7 +94,7 @@ fn name_any_text(
     let Some(value) = PackedValue::text(table.texts()) else {
         return Err(NotPushed::OutOfMemory);
     };
-    match stack.push(limits, value) {
+    match stack.push(limits, Held { value, item }) {
         Ok(()) => add_pushed_text(stack, table, place, text),
         Err(Reason::TooLarge) => Err(NotPushed::Full),
         Err(_) => Err(NotPushed::OutOfMemory),
@@ -100,8 +104,8 @@ fn name_any_text(
 /// Adds a text to the table whose number is on the stack already, at this place. The number is
 /// taken back if an allocation is refused.
 #[inline(never)]
-fn add_pushed_text(
-    stack: &mut Stack,
+fn add_pushed_text<I: Item>(
+    stack: &mut Stack<I>,
     table: &mut ImportTable,
     place: usize,
     text: &[u8],
@@ -124,9 +128,10 @@ fn add_pushed_text(
 
 /// Like `name_text`, for an opcode and its payload. A parameter of type `Inst` would force the
 /// instruction into memory in every step.
-fn name_payload(
-    stack: &mut Stack,
+fn name_payload<I: Item>(
+    stack: &mut Stack<I>,
     table: &mut ImportTable,
+    item: I,
     config: &MachineConfig,
     op: Op,
     payload: &[u8],
@@ -138,9 +143,9 @@ fn name_payload(
         (record { entries = stack.new; table = table.new }) (with_reason result) }
 {
     if is_old_text(op, payload) {
-        return name_text(stack, table, &config.limits, payload);
+        return name_text(stack, table, item, &config.limits, payload);
     }
-    name_payload_slowly(stack, table, config, op, payload)
+    name_payload_slowly(stack, table, item, config, op, payload)
 }
 
 /// Whether the payload is a Python 2 string and the text itself.
@@ -157,9 +162,10 @@ fn is_old_text(op: Op, payload: &[u8]) -> bool
 
 /// `name_payload` for any payload.
 #[inline(never)]
-fn name_payload_slowly(
-    stack: &mut Stack,
+fn name_payload_slowly<I: Item>(
+    stack: &mut Stack<I>,
     table: &mut ImportTable,
+    item: I,
     config: &MachineConfig,
     op: Op,
     payload: &[u8],
@@ -174,14 +180,15 @@ fn name_payload_slowly(
     let Ok(text) = text_spelled(config.alloc, &inst) else {
         return Err(NotPushed::OutOfMemory);
     };
-    name_text(stack, table, &config.limits, text.as_bytes())
+    name_text(stack, table, item, &config.limits, text.as_bytes())
 }
 
 /// Like `name_text`, for an opcode and its line. See `name_payload`.
 #[inline(never)]
-fn name_line(
-    stack: &mut Stack,
+fn name_line<I: Item>(
+    stack: &mut Stack<I>,
     table: &mut ImportTable,
+    item: I,
     config: &MachineConfig,
     op: Op,
     line: &[u8],
@@ -193,9 +200,9 @@ fn name_line(
         (record { entries = stack.new; table = table.new }) (with_reason result) }
 {
     if is_text(op, line) {
-        return name_text(stack, table, &config.limits, line);
+        return name_text(stack, table, item, &config.limits, line);
     }
-    name_line_slowly(stack, table, config, op, line)
+    name_line_slowly(stack, table, item, config, op, line)
 }
 
 /// Whether the line is the text itself and needs no decoding.
@@ -213,9 +220,10 @@ fn is_text(op: Op, line: &[u8]) -> bool
 
 /// `name_line` for any line.
 #[inline(never)]
-fn name_line_slowly(
-    stack: &mut Stack,
+fn name_line_slowly<I: Item>(
+    stack: &mut Stack<I>,
     table: &mut ImportTable,
+    item: I,
     config: &MachineConfig,
     op: Op,
     line: &[u8],
@@ -230,14 +238,15 @@ fn name_line_slowly(
     let Ok(text) = text_spelled(config.alloc, &inst) else {
         return Err(NotPushed::OutOfMemory);
     };
-    name_text(stack, table, &config.limits, text.as_bytes())
+    name_text(stack, table, item, &config.limits, text.as_bytes())
 }
 
 /// Adds the text of an instruction to the table, and pushes its number.
 #[inline(always)]
-pub fn make_text(
-    stack: &mut Stack,
+pub fn make_text<I: Item>(
+    stack: &mut Stack<I>,
     table: &mut ImportTable,
+    item: I,
     config: &MachineConfig,
     inst: &Inst<'_>,
 ) -> Result<(), Reason>
@@ -249,15 +258,15 @@ pub fn make_text(
 {
     match inst.arg() {
         Arg::Counted(payload) if holds_utf8(inst.op()) => {
-            name_text(stack, table, &config.limits, payload)?;
+            name_text(stack, table, item, &config.limits, payload)?;
             Ok(())
         }
         Arg::Counted(payload) => {
-            name_payload(stack, table, config, inst.op(), payload)?;
+            name_payload(stack, table, item, config, inst.op(), payload)?;
             Ok(())
         }
         Arg::Line(line) => {
-            name_line(stack, table, config, inst.op(), line)?;
+            name_line(stack, table, item, config, inst.op(), line)?;
             Ok(())
         }
         _ => unreachable!(),

@@ -4,14 +4,13 @@ ghost use Rattle.pkmachine.specs.Private.Packed.{unpacked};
 
 use crate::effect::Class;
 use crate::value::Value;
-use pkstack::{Cell, Slot};
 use std::marker::Model;
 
 /// A `Value` in four bytes. Stack and memo have an entry for each object of a pickle, so their size
 /// decides how many pages they touch. No value has the greatest code, which marks have.
 #[derive(Clone, Copy)]
 pub struct PackedValue {
-    code: u32,
+    pub(crate) code: u32,
 }
 
 impl Model for PackedValue {
@@ -35,7 +34,7 @@ impl Model for PackedValue {
 const PLAIN: u32 = 12;
 
 /// The code of a mark.
-const MARK: u32 = u32::MAX;
+pub(crate) const MARK: u32 = u32::MAX;
 
 impl PackedValue {
     /// An object about which nothing is known.
@@ -75,41 +74,6 @@ impl PackedValue {
             return Value::Text(self.code - PLAIN);
         }
         plain_of(self.code)
-    }
-}
-
-/// An entry of the stack, a value or a mark, in the four bytes of a value.
-#[derive(Clone, Copy)]
-pub struct ValueCell {
-    code: u32,
-}
-
-impl Cell<PackedValue> for ValueCell {
-    ghost use Rattle.pkmachine.specs.Private.Packed.{cell_code, cell_held, cell_injective};
-    ghost use Rattle.std.proofs.Common.{ap};
-
-    ghost held = { λ cell. cell_held cell.code };
-
-    ghost holder = { λ slot. record { code = cell_code slot } };
-
-    ghost injective = { λ cell. ap (λ code. record { code = code }) (cell_injective cell.code) };
-
-    #[inline(always)]
-    fn mark() -> ValueCell {
-        ValueCell { code: MARK }
-    }
-
-    #[inline(always)]
-    fn object(item: PackedValue) -> ValueCell {
-        ValueCell { code: item.code }
-    }
-
-    #[inline(always)]
-    fn slot(self) -> Slot<PackedValue> {
-        if self.code == MARK {
-            return Slot::Mark;
-        }
-        Slot::Object(PackedValue { code: self.code })
     }
 }
 

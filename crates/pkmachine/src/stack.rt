@@ -1,12 +1,12 @@
-//! What is known about the objects on the stack and in the memo.
+//! What is kept of the objects on the stack and in the memo.
 
-use crate::packed::{PackedValue, ValueCell};
+use crate::held::{Held, HeldCell};
 
-/// What is known about the objects on the stack.
-pub type Stack = pkstack::Stack<PackedValue, ValueCell>;
+/// What is kept of the objects on the stack.
+pub type Stack<I> = pkstack::Stack<Held<I>, HeldCell<I>>;
 
-/// What is known about the operands of an operation.
-pub type Operands<'a> = pkstack::Operands<'a, PackedValue, ValueCell>;
+/// What is kept of the operands of an operation.
+pub type Operands<'a, I> = pkstack::Operands<'a, Held<I>, HeldCell<I>>;
 
-/// What is known about the stored objects, by number.
-pub type MemoTable = pkstack::MemoTable<PackedValue>;
+/// What is kept of the stored objects, by number.
+pub type MemoTable<I> = pkstack::MemoTable<Held<I>>;

@@ -19,7 +19,9 @@ ghost use Rattle.pkops.specs.Inst.{instruction_of};
 ghost use Rattle.pkops.specs.Operands.{memo_number};
 
 use crate::config::MachineConfig;
+use crate::domain::{Domain, Item};
 use crate::effect::Class;
+use crate::held::Held;
 use crate::new_text::make_text;
 use crate::operate::{Spelled, StepError, lines_of, operate_named, operate_unnamed};
 use crate::packed::PackedValue;
@@ -34,13 +36,14 @@ use std::mem;
 
 /// What is known about the stack and the memo, and the imports so far.
 #[derive(Drop)]
-pub struct MachineState {
-    stack: Stack,
-    memo: MemoTable,
+pub struct MachineState<D: Domain> {
+    stack: Stack<D::Item>,
+    memo: MemoTable<D::Item>,
     table: ImportTable,
+    domain: D,
 }
 
-impl Model for MachineState {
+impl<D: Domain> Model for MachineState<D> {
     ghost use Rattle.std.specs.Prelude.{length};
     ghost use Rattle.pkmachine.specs.Private.Slots.{StateView, Resolves, resolved};
 
@@ -56,15 +59,16 @@ impl Model for MachineState {
         Resolves h.table.texts (record { entries = h.stack; memo = h.memo }) };
 }
 
-impl MachineState {
+impl<D: Domain> MachineState<D> {
     /// An empty stack and memo, with no imports. Allocates nothing.
-    pub fn new(alloc: Global) -> MachineState
+    pub fn new(alloc: Global, domain: D) -> MachineState<D>
         ensures { result ≡ record { knowledge = nothing_known; texts = 0; imports = [] } }
     {
         MachineState {
             stack: Stack::new(alloc),
-            memo: MemoTable::new(alloc, PackedValue::unknown()),
+            memo: MemoTable::new(alloc, no_object()),
             table: ImportTable::new(alloc),
+            domain,
         }
     }
 
@@ -86,6 +90,11 @@ impl MachineState {
         } }
     {
         self.stack.clear();
+    }
+
+    /// What follows the objects along.
+    pub fn domain(&self) -> D {
+        self.domain
     }
 
     /// The number of open marks.
@@ -126,8 +135,9 @@ impl MachineState {
         Imports::from_table(mem::replace(&mut self.table, ImportTable::new(alloc)))
     }
 
-    /// Pushes a new object of this class.
-    pub fn make(&mut self, limits: &Limits, class: Class) -> Result<(), Reason>
+    /// Pushes a new object of this class, which the instruction makes.
+    #[inline(always)]
+    pub fn make(&mut self, limits: &Limits, class: Class, inst: &Inst<'_>) -> Result<(), Reason>
         ensures ok { OnOk result (self.new.knowledge ≡ with_made class self.old.knowledge) }
         ensures room { OnOk result (length self.new.knowledge.entries ≤ limits.now.stack) }
         ensures texts { self.new.texts ≡ self.old.texts }
@@ -136,11 +146,38 @@ impl MachineState {
         ensures err { IfErr result (WantsRoom limits.now.stack
             (length self.old.knowledge.entries)) }
     {
-        self.stack.push(limits, PackedValue::made(class))
+        let item = self.domain.made(inst);
+        self.stack.push(
+            limits,
+            Held {
+                value: PackedValue::made(class),
+                item,
+            },
+        )
     }
 
-    /// Pushes an object about which nothing is known.
-    pub fn answer(&mut self, limits: &Limits) -> Result<(), Reason>
+    /// Pushes a new object of this class, whose payload was skipped.
+    pub fn make_passed(&mut self, limits: &Limits, class: Class, op: Op) -> Result<(), Reason>
+        ensures ok { OnOk result (self.new.knowledge ≡ with_made class self.old.knowledge) }
+        ensures room { OnOk result (length self.new.knowledge.entries ≤ limits.now.stack) }
+        ensures texts { self.new.texts ≡ self.old.texts }
+        ensures imports { self.new.imports ≡ self.old.imports }
+        ensures kept { OnErr result (self.new ≡ self.old) }
+        ensures err { IfErr result (WantsRoom limits.now.stack
+            (length self.old.knowledge.entries)) }
+    {
+        let item = self.domain.passed(op);
+        self.stack.push(
+            limits,
+            Held {
+                value: PackedValue::made(class),
+                item,
+            },
+        )
+    }
+
+    /// Pushes an object about which nothing is known, which the instruction makes.
+    pub fn answer(&mut self, limits: &Limits, inst: &Inst<'_>) -> Result<(), Reason>
         ensures ok { OnOk result (self.new.knowledge ≡ with_item None self.old.knowledge) }
         ensures room { OnOk result (length self.new.knowledge.entries ≤ limits.now.stack) }
         ensures texts { self.new.texts ≡ self.old.texts }
@@ -149,7 +186,14 @@ impl MachineState {
         ensures err { IfErr result (WantsRoom limits.now.stack
             (length self.old.knowledge.entries)) }
     {
-        self.stack.push(limits, PackedValue::unknown())
+        let item = self.domain.made(inst);
+        self.stack.push(
+            limits,
+            Held {
+                value: PackedValue::unknown(),
+                item,
+            },
+        )
     }
 
     /// Pushes the text that an instruction spells.
@@ -165,7 +209,8 @@ impl MachineState {
         ensures err { IfErr result (WantsRoom config.now.limits.stack
             (length self.old.knowledge.entries)) }
     {
-        make_text(&mut self.stack, &mut self.table, config, inst)
+        let item = self.domain.made(inst);
+        make_text(&mut self.stack, &mut self.table, item, config, inst)
     }
 
     /// Applies a move to the stack and the memo.
@@ -185,6 +230,7 @@ impl MachineState {
             × IsFaultOf what limits.now (memo_number (instruction_of inst.now))
             (moved what (memo_number (instruction_of inst.now)) self.old.knowledge) r) }
     {
+        self.domain.moved(what, inst);
         apply(&mut self.stack, &mut self.memo, limits, what, inst)
     }
 
@@ -203,7 +249,7 @@ impl MachineState {
         ensures err { (p : Pairs) (i : Instruction) → IfErr result (λ r. IsStepFault p limits.now
             (effect_of op) i self.old.knowledge r None) }
     {
-        operate_unnamed(&mut self.stack, limits, op)?;
+        operate_unnamed(&mut self.stack, &mut self.domain, limits, op)?;
         Ok(())
     }
 
@@ -233,7 +279,14 @@ impl MachineState {
             op: inst.op(),
             lines: lines_of(inst),
         };
-        operate_named(&mut self.stack, &mut self.table, config, &spelled, policy)
+        operate_named(
+            &mut self.stack,
+            &mut self.domain,
+            &mut self.table,
+            config,
+            &spelled,
+            policy,
+        )
     }
 
     /// Pops the result. Refuses with `LeftOver` if anything else is on the stack.
@@ -255,5 +308,13 @@ impl MachineState {
         }
         self.stack.truncate(0);
         Ok(())
+    }
+}
+
+/// What the memo holds where it holds no object.
+fn no_object<I: Item>() -> Held<I> {
+    Held {
+        value: PackedValue::unknown(),
+        item: I::none(),
     }
 }

@@ -14,6 +14,7 @@ ghost use Rattle.pkimport.specs.Import.{asked_shown};
 ghost use Rattle.pkmachine.specs.Private.StepErrors.{FitsLimits, IsStopFault, pair_of_error};
 
 use crate::config::MachineConfig;
+use crate::domain::Domain;
 use crate::effect::Class;
 use crate::effects::{Action, action_of};
 use crate::old_strings::OldStrings;
@@ -39,8 +40,8 @@ pub enum Moved {
 /// Applies an instruction to what is known. If the import is off the list, its pair is stored in
 /// `off`, so the result of a step stays small.
 #[inline(always)]
-pub fn advance(
-    state: &mut MachineState,
+pub fn advance<D: Domain>(
+    state: &mut MachineState<D>,
     config: &MachineConfig,
     inst: &Inst,
     policy: &Permit,
@@ -61,11 +62,11 @@ pub fn advance(
     let op = inst.op();
     match action_of(op) {
         Action::Makes(class) => {
-            state.make(&config.limits, class)?;
+            state.make(&config.limits, class, inst)?;
             Ok(Moved::On)
         }
         Action::MakesIntOrBool => {
-            state.make(&config.limits, int_or_bool(inst))?;
+            state.make(&config.limits, int_or_bool(inst), inst)?;
             Ok(Moved::On)
         }
         Action::MakesText => {
@@ -95,7 +96,11 @@ pub fn advance(
 /// Pushes what a Python 2 string decodes to. It reads a copy of the instruction. Passing the
 /// address of the original would force it into memory in every step.
 #[inline(always)]
-fn read_copy(state: &mut MachineState, config: &MachineConfig, inst: &Inst) -> Result<(), Reason>
+fn read_copy<D: Domain>(
+    state: &mut MachineState<D>,
+    config: &MachineConfig,
+    inst: &Inst,
+) -> Result<(), Reason>
     requires old { IsOldString (instruction_of inst.now) }
     requires memo { length state.old.knowledge.memo ≤ config.now.limits.memo }
     ensures { HasReadOldString config.now (instruction_of inst.now) state.old state.new result }
@@ -107,8 +112,8 @@ fn read_copy(state: &mut MachineState, config: &MachineConfig, inst: &Inst) -> R
 
 /// Pushes what a Python 2 string decodes to. Refuses with `NotAscii` if it must be ASCII but is
 /// not.
-fn read_old_string(
-    state: &mut MachineState,
+fn read_old_string<D: Domain>(
+    state: &mut MachineState<D>,
     config: &MachineConfig,
     inst: &Inst,
 ) -> Result<(), Reason>
@@ -117,8 +122,8 @@ fn read_old_string(
     ensures { HasReadOldString config.now (instruction_of inst.now) state.old state.new result }
 {
     match config.old_strings {
-        OldStrings::Unknown => state.answer(&config.limits),
-        OldStrings::Bytes => state.make(&config.limits, Class::Bytes),
+        OldStrings::Unknown => state.answer(&config.limits, inst),
+        OldStrings::Bytes => state.make(&config.limits, Class::Bytes, inst),
         OldStrings::Ascii => {
             let is_ascii = is_ascii_string(config.alloc, inst)?;
             if is_ascii {
@@ -131,7 +136,7 @@ fn read_old_string(
 }
 
 /// Pops the result. Refuses with `LeftOver` if anything else is on the stack.
-fn finish(state: &mut MachineState) -> Result<(), Reason>
+fn finish<D: Domain>(state: &mut MachineState<D>) -> Result<(), Reason>
     ensures ok { OnOk result (stop_learned state.old.knowledge.memo
         (top state.old.knowledge.entries)
         ≡ Ok (record { after = state.new.knowledge; import = None })) }
@@ -149,8 +154,8 @@ fn finish(state: &mut MachineState) -> Result<(), Reason>
 
 /// Applies an instruction that imports a pair.
 #[inline(always)]
-fn import(
-    state: &mut MachineState,
+fn import<D: Domain>(
+    state: &mut MachineState<D>,
     config: &MachineConfig,
     inst: &Inst,
     policy: &Permit,

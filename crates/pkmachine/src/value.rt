@@ -7,7 +7,9 @@ ghost use Rattle.pkmachine.specs.Runs.{int_or_bool};
 ghost use Rattle.pkops.specs.Inst.{instruction_of};
 ghost use Rattle.pkops.specs.Spelling.{Instruction};
 
+use crate::domain::Item;
 use crate::effect::{Class, Gives};
+use crate::held::Held;
 use crate::packed::PackedValue;
 use pkops::Inst;
 
@@ -33,16 +35,17 @@ pub fn int_or_bool(inst: &Inst) -> Class
     }
 }
 
-/// What is known about the result of an operation; `None` if it leaves the receiver.
-pub fn value_of(gives: Gives) -> Option<PackedValue>
+/// What is kept of the result of an operation, with this item; `None` if it leaves the receiver.
+pub fn value_of<I: Item>(gives: Gives, item: I) -> Option<Held<I>>
     requires { IgnoresArgument gives }
     ensures { (ts : List (List ℕ)) (i : Instruction) → StandsIf ts result (known_given gives i) }
 {
-    match gives {
-        Gives::Leaves(_) => None,
-        Gives::Makes(class) => Some(PackedValue::made(class)),
-        Gives::MayMake(class) => Some(PackedValue::made(class)),
-        Gives::Answers => Some(PackedValue::unknown()),
+    let value = match gives {
+        Gives::Leaves(_) => return None,
+        Gives::Makes(class) => PackedValue::made(class),
+        Gives::MayMake(class) => PackedValue::made(class),
+        Gives::Answers => PackedValue::unknown(),
         _ => unreachable!(),
-    }
+    };
+    Some(Held { value, item })
 }

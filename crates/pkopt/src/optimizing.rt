@@ -181,6 +181,11 @@ pub fn optimized_form<'a>(
 /// answer: it does the same things in the same order, with the same operands and results, and ends
 /// the same way.
 ///
+/// ```rust
+/// let smaller = optimize(alloc, b"]q\x00Nq\x01ah\x000.", &Limits::STANDARD)?;
+/// assert_eq!(rt; smaller.as_slice(), b"]q\x00Nah\x000.".as_slice());
+/// ```
+///
 /// # Errors
 ///
 /// The refusal of the check; `TooLarge` at the write whose new number would be the limit on the

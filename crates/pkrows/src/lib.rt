@@ -12,6 +12,8 @@ mod calling;
 #[cfg(test)]
 mod costs;
 #[cfg(test)]
+mod examples;
+#[cfg(test)]
 mod exported;
 #[cfg(test)]
 mod giving;

@@ -92,10 +92,13 @@ fn entries_are_replaced(rt: HostRuntime) -> Result<(), Fail> {
     let replaced = stack.replace(&STANDARD, start.place, start.marks, 9);
     assert_eq!(rt; replaced, Ok(()));
     assert_eq!(rt; (stack.len(), stack.marks(), stack.top()), (2, 0, Ok(9)));
-    assert!(rt; stack.replace_two(8));
-    assert!(rt; !stack.replace_two(7));
-    assert!(rt; stack.replace_one(6));
-    assert_eq!(rt; (stack.len(), stack.top()), (1, Ok(6)));
+    assert_eq!(rt; stack.find_few(1), Some(1));
+    let marks = stack.marks();
+    if let Some(place) = stack.find_few(2) {
+        stack.replace_all(place, marks, 8);
+    }
+    assert_eq!(rt; (stack.len(), stack.top()), (1, Ok(8)));
+    assert_eq!(rt; stack.find_few(2), None);
     Ok(())
 }
 

@@ -134,7 +134,7 @@ module _ {A : Type 0} where
   objects_from count n xs es is long all =
       subst (ItemsFrom count n) is (objects_shown count n xs long all)
 
-  -- the topmost two or three objects, as a search finds them
+  -- the topmost one, two or three objects, as a search finds them
   pub few_from : (count : ℕ) (found : Option ℕ) (xs : List (Slot A))
       (es : List (Entry A)) → shown xs [] ≡ es
       → MatchOption found (IsFew count → items count (shown xs []) [] ≡ Err NoItem)

@@ -3,7 +3,7 @@ use Rattle.std.specs.Prelude.{ℕ, ◌≡◌, ◌<◌, List, [], ◌∷◌, ◌+
 use Rattle.std.specs.Prelude.{⊤, ◌⊎◌}
 use Rattle.pkstack.specs.declared.takes.Takes.{Takes}
 use Rattle.pkstack.specs.declared.takes.Takes.TheVariants.{Objects, Slice, SliceAndReceiver}
-use Rattle.pkstack.specs.Shape.{Entry, Mark, Item, Taken, front, items, marks_of}
+use Rattle.pkstack.specs.Shape.{Entry, Mark, Item, front, items, marks_of}
 
 module _ {A : Type 0} where
   -- the entries below a place
@@ -20,11 +20,6 @@ module _ {A : Type 0} where
   abbrev pub above : ℕ → List (Entry A) → List A
   above place es = from_bottom (take (length es - place) es) []
 
-  -- the topmost `count` items were replaced with this one
-  abbrev pub Replaced : ℕ → A → List (Entry A) → List (Entry A) → Type 0
-  Replaced count item old new =
-      (t : Taken A) × (items count old [] ≡ Ok t) × (new ≡ Item item ∷ t.below)
-
   -- the topmost `count` entries are items, and the lowest one has this place
   pub record ItemsFrom (count place : ℕ) (es : List (Entry A)) : Type 0 where
     pub found : items count es []
@@ -39,6 +34,6 @@ HasFirst (Objects k) = 0 < k
 HasFirst (Slice rule) = ⊥
 HasFirst (SliceAndReceiver rule) = ⊤
 
--- two or three
+-- one, two or three
 abbrev pub IsFew : ℕ → Type 0
-IsFew count = (count ≡ 2) ⊎ (count ≡ 3)
+IsFew count = (count ≡ 1) ⊎ ((count ≡ 2) ⊎ (count ≡ 3))

@@ -2,6 +2,7 @@
 ghost use Rattle.std.specs.Prelude.{◌≡◌};
 ghost use Rattle.pkstack.specs.declared.cells.Slot.TheVariants as slot;
 
+use std::alloc::AllocError;
 use std::marker::{Model, PhantomData};
 
 /// What a cell holds.
@@ -25,16 +26,21 @@ pub trait Cell<V>: Copy + Drop {
     // The cell that holds this.
     ghost holder: { Held V → Self };
 
-    // No two cells hold the same.
-    ghost injective: { (cell : Self) → holder (held cell) ≡ cell };
+    // Cells that are made here; what the others hold doesn't matter.
+    ghost proper: { Self → Type 0 };
+
+    // No two proper cells hold the same.
+    ghost injective: { (cell : Self) → proper cell → holder (held cell) ≡ cell };
 
     /// The cell that holds a mark.
     fn mark() -> Self
-        ensures { held result ≡ slot.Mark };
+        ensures holds { held result ≡ slot.Mark }
+        ensures proper { proper result };
 
     /// The cell that holds an item.
     fn object(item: V) -> Self
-        ensures { held result ≡ slot.Object item };
+        ensures holds { held result ≡ slot.Object item }
+        ensures proper { proper result };
 
     /// What the cell holds.
     fn slot(self) -> Slot<V>
@@ -43,13 +49,15 @@ pub trait Cell<V>: Copy + Drop {
 
 /// Any item has such a cell, which is larger than the item.
 impl<V: Copy + Drop> Cell<V> for Slot<V> {
-    ghost use Rattle.std.specs.Prelude.{refl};
+    ghost use Rattle.std.specs.Prelude.{refl, ⊤};
 
     ghost held = { λ cell. cell };
 
     ghost holder = { λ cell. cell };
 
-    ghost injective = { λ cell. refl };
+    ghost proper = { λ cell. ⊤ };
+
+    ghost injective = { λ cell proper. refl };
 
     fn mark() -> Slot<V> {
         Slot::Mark
@@ -65,11 +73,27 @@ impl<V: Copy + Drop> Cell<V> for Slot<V> {
 }
 
 /// A cell, which contracts see as what it holds.
-#[derive(Clone, Copy)]
 pub struct Packed<V, C: Cell<V>> {
     cell: C,
     of: PhantomData<V>,
 }
+
+impl<V, C: Cell<V>> Clone for Packed<V, C> {
+    ghost use Rattle.std.specs.Prelude.{◌≡◌, ⊤};
+
+    ghost is_clone = { λ packed result. result ≡ packed };
+
+    ghost is_infallible = { λ packed. ⊤ };
+
+    fn clone(&self) -> Result<Packed<V, C>, AllocError> {
+        Ok(Packed {
+            cell: self.cell,
+            of: PhantomData,
+        })
+    }
+}
+
+impl<V, C: Cell<V>> Copy for Packed<V, C> {}
 
 impl<V, C: Cell<V>> Model for Packed<V, C> {
     ghost use Rattle.std.proofs.Common.{ap};
@@ -79,10 +103,12 @@ impl<V, C: Cell<V>> Model for Packed<V, C> {
 
     ghost view = { λ p. C.held p.cell };
 
+    ghost invariant = { λ p. C.proper p.cell };
+
     ghost inverse = { λ slot. record { cell = C.holder slot; of = record {} } };
 
     ghost inverse_ok = { λ p h. ap (λ cell. record { cell = cell; of = record {} })
-        (C.injective p.cell) };
+        (C.injective p.cell h) };
 }
 
 impl<V: Copy + Drop, C: Cell<V>> Packed<V, C> {

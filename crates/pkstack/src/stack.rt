@@ -1,6 +1,6 @@
 //! The stack: marks and items.
 ghost use Rattle.pkstack.specs.Faults.{IsLack, WantsRoom};
-ghost use Rattle.pkstack.specs.Places.{HasFirst, IsFew, ItemsFrom, Replaced, above, below};
+ghost use Rattle.pkstack.specs.Places.{HasFirst, IsFew, ItemsFrom, above, below};
 ghost use Rattle.pkstack.specs.Shape.{Entry, Mark, Item, NoItem, NoMark, front, items, marks_of};
 ghost use Rattle.pkstack.specs.Shape.{operands, slice, top};
 ghost use Rattle.std.specs.Prelude.{◌≡◌, true, List, [], ◌∷◌, ◌++◌, ◌+◌, ◌^◌, ◌<◌, ◌≤◌, length};
@@ -15,9 +15,7 @@ pub use operands::Operands;
 use pkbase::StackVec;
 use pkops::{Limits, Reason};
 pub use slots::OperandsStart;
-use slots::{
-    few_objects, mark_place, marks_below, one_object, place_of, put_on_top, top, two_objects,
-};
+use slots::{few_objects, mark_place, marks_below, place_of, put_on_top, top};
 use std::alloc::Global;
 use std::marker::Model;
 
@@ -112,7 +110,7 @@ impl<V: Copy + Drop, C: Cell<V>> Stack<V, C> {
         place_of(self.slots.entries(), self.places.entries(), takes)
     }
 
-    /// The place where the topmost two or three items begin; `None` for any other count, or if
+    /// The place where the topmost one, two or three items begin; `None` for any other count, or if
     /// they are not there. It looks at its entries, which is faster than `find`.
     #[inline(always)]
     pub fn find_few(&self, count: usize) -> Option<usize>
@@ -314,40 +312,10 @@ impl<V: Copy + Drop, C: Cell<V>> Stack<V, C> {
         self.push_object(value)
     }
 
-    /// Replaces the topmost item with another one. Returns false and changes nothing if there is
-    /// none. It looks at its entry, which is faster than `find`.
+    /// Replaces one or more entries, all those from a place on, with one item. `marks` is the
+    /// number of marks below the place.
     #[inline(always)]
-    pub fn replace_one(&mut self, value: V) -> bool
-        ensures done { result ≡ true → Replaced 1 value self.old self.new }
-        ensures kept { result ≡ false → self.new ≡ self.old }
-        ensures none { result ≡ false → items 1 self.old [] ≡ Err NoItem }
-    {
-        let Some(place) = one_object(self.slots.entries()) else {
-            return false;
-        };
-        let marks = self.marks();
-        self.replace_all(place, marks, value);
-        true
-    }
-
-    /// Like `replace_one`, for the topmost two items.
-    #[inline(always)]
-    pub fn replace_two(&mut self, value: V) -> bool
-        ensures done { result ≡ true → Replaced 2 value self.old self.new }
-        ensures kept { result ≡ false → self.new ≡ self.old }
-        ensures none { result ≡ false → items 2 self.old [] ≡ Err NoItem }
-    {
-        let Some(place) = two_objects(self.slots.entries()) else {
-            return false;
-        };
-        let marks = self.marks();
-        self.replace_all(place, marks, value);
-        true
-    }
-
-    /// Replaces one or more entries, all those from a place on, with one item.
-    #[inline(always)]
-    fn replace_all(&mut self, place: usize, marks: usize, value: V)
+    pub fn replace_all(&mut self, place: usize, marks: usize, value: V)
         requires at { place < length self.old }
         requires marks { marks ≡ marks_of (below place self.old) }
         ensures { self.new ≡ Item value ∷ below place self.old }

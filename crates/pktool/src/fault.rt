@@ -75,5 +75,7 @@ fn name_of(part: Where) -> &'static str {
         Where::Rules => "Rules",
         Where::RuleKey => "RuleKey",
         Where::Rule => "Rule",
+        Where::Substitutes => "Substitutes",
+        Where::Substitute => "Substitute",
     }
 }

@@ -8,6 +8,7 @@ from typing import List, Sequence, Tuple
 
 from .._storklocker import begin_uses, uses, walked
 from .._substitute import IS_WRAPPER, NUMBERED
+from .budget import LOOKED_AT
 from .joblib_cutting import WRAPPERS
 from .report import Finding
 from .source import Source
@@ -30,8 +31,17 @@ def _role_of(module: bytes, name: bytes) -> int:
 class Look:
     """A look at pickles for what is told of them without a list, besides their names."""
 
+    def __init__(self) -> None:
+        self._steps = 0
+
+    def spent(self) -> int:
+        """The steps that it has taken since it was last asked."""
+        steps, self._steps = self._steps, 0
+        return steps
+
     def finds(self, data: bytes) -> bool:
         """Whether anything is to be told of a pickle."""
+        self._steps += 1 + len(data) // LOOKED_AT
         return why_of(data, 0) != ""
 
 

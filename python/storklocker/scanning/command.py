@@ -9,25 +9,26 @@ import io
 import os
 import sys
 from collections import Counter
-from typing import Callable, Dict, Iterator, Optional, Sequence, Tuple
+from typing import Callable, Dict, Iterator, Optional, Sequence, Union
 
 from .. import __version__
-from .._answers import printed
 from .._lists import has_substitutes
+from ..judge.command import add_command as add_judge
+from ..serving import command as serve
 from . import formats, program, showing
+from .answering import FAULT, NO, YES, Checking, Importing, status_of
 from .choosing import Choice
 from .dangers import import_findings, list_findings, table_of
 from .files import Files, names_from
 from .judging import Question
 from .lists import add_commands, list_of, union_of
 from .options import GUARDED, LISTS, PATH, add_descending, add_options
-from .report import Finding, Report, shown
+from .report import Finding, shown
 from .scan import Means, scan
 from .severity import DANGER, REFUSED, UNKNOWN, UNRECOGNIZED, WARNING
 from .summary import Summary
-from .words import Word
 
-YES, NO, FAULT, UNJUDGED = 0, 1, 2, 3
+UNJUDGED = 3
 
 _STATUSES = """exit status:
   0    everything was read to its end, and no finding is as severe as --fail-on
@@ -177,6 +178,8 @@ _ADDING: Dict[str, Callable[["argparse._SubParsersAction[argparse.ArgumentParser
     "learn": _add_learn,
     "lint": _add_lint,
     "list": add_commands,
+    "judge": add_judge,
+    "serve": serve.add_command,
     **{name: functools.partial(program.add_command, name) for name in program.COMMANDS},
 }
 """What adds each command to a parser."""
@@ -228,59 +231,26 @@ def _scan(asked: argparse.Namespace) -> int:
     told.is_unread |= files.left_out > 0
     if errors is not None and errors.isatty() and not showing.is_on_terminal(asked):
         print(shown(told.line(showing.more(asked)), 2000), file=errors)
-    return _status(told)
-
-
-def _status(told: Summary) -> int:
-    """The status, after the last report."""
-    if told.is_found:
-        return NO
-    return FAULT if told.is_unread else YES
+    return status_of(told)
 
 
 def _check(asked: argparse.Namespace) -> int:
-    told, allow, status = Summary(REFUSED, asked.guarded), union_of(asked.allow), YES
-    for path in asked.paths:
-        is_pickle = False
-        with _files_of(argparse.Namespace(paths=[path])) as files:
-            reports = told.heard(scan(files, Question(allow, as_program=True)))
-            for report, front in _fronted(reports, path, asked):
-                print(front + (shown(report.why, 1000) or report.status))
-                is_pickle |= report.status is not Word.NO_PICKLE
-        status = status if is_pickle else NO
-    return _status(told) or status
+    question = Question(union_of(asked.allow), as_program=True)
+    return _answered(asked, question, Checking(asked.guarded))
 
 
 def _imports(asked: argparse.Namespace) -> int:
-    told, is_broken = Summary(REFUSED), False
+    return _answered(asked, Question(as_program=True), Importing())
+
+
+def _answered(
+    asked: argparse.Namespace, question: Question, answer: Union[Checking, Importing]
+) -> int:
     for path in asked.paths:
         with _files_of(argparse.Namespace(paths=[path])) as files:
-            reports = told.heard(scan(files, Question(as_program=True)))
-            for report, front in _fronted(reports, path, asked):
-                for module, name in report.imports:
-                    if module is None or name is None:
-                        print("unknown")
-                    else:
-                        print(printed(module), printed(name))
-                print(front + (shown(report.why, 1000) or report.status))
-                is_broken |= any(found.kind == "broken-pickle" for found in report.findings)
-    return NO if is_broken else _status(told)
-
-
-def _fronted(
-    reports: Iterator[Report], path: str, asked: argparse.Namespace
-) -> Iterator[Tuple[Report, str]]:
-    """The reports, each with what stands in front of the program's line: the path, unless that is
-    the only one, and the kind of another reading of the same bytes, if that has found anything.
-    """
-    before = ""
-    for report in reports:
-        is_again, before = report.path == before, report.path
-        if is_again and report.status is Word.NO_PICKLE and not report.findings:
-            continue
-        is_named = len(asked.paths) > 1 or report.path not in (path, "standard input")
-        front = f"{shown(report.path)}: " if is_named else ""
-        yield report, front + (f"{report.kind}: " if is_again else "")
+            for line in answer.lines(scan(files, question), path, len(asked.paths) > 1):
+                print(line)
+    return answer.status
 
 
 def _learn(asked: argparse.Namespace) -> int:

@@ -9,7 +9,7 @@ from typing import TYPE_CHECKING, Iterable, NamedTuple, Optional, Tuple
 
 from .. import _cost_words as words
 from .._answers import Verdict
-from .._limits import COSTS, Limits
+from .._limits import COSTS, FURTHEST, Limits
 from .._lists import STANDARD, AllowList, settings_of
 from .._names import old_names
 from .._pairs import bytes_of_pair
@@ -110,9 +110,7 @@ def _bill_under(allow: AllowList, data: bytes) -> str:
     if costs is None:
         return ""
     levels, weight, work, _, _ = costs
-    deeper, more = "+" * (levels == words.COUNTED["levels"]), "+" * (
-        weight == words.COUNTED["weight"]
-    )
+    deeper, more = "+" * (levels == FURTHEST["levels"]), "+" * (weight == FURTHEST["weight"])
     return words.BILL.format(levels=levels, weight=weight, work=work, deeper=deeper, more=more)
 
 

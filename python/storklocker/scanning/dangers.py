@@ -1,6 +1,6 @@
 """What is known of the names that a pickle imports.
 
-The table `known.txt` is made by `python/dangers/make`. It isn't complete: a name that isn't in it
+The table `known.txt` is made by `python/catalogue/make`. It isn't complete: a name that isn't in it
 may be just as harmful, so it is a finding too.
 """
 

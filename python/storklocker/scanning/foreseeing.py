@@ -10,25 +10,25 @@ object is set that may be a class or an array, which a guard refuses.
 from __future__ import annotations
 
 import enum
-import hashlib
 import itertools
 import sys
 from collections import OrderedDict
-from typing import Any, Dict, List, NamedTuple, Optional
+from typing import Any, Dict, List, NamedTuple, Optional, Tuple
 
 from .. import _arrays, lists
 from .._answers import Misused
 from .._lists import AllowList, has_substitutes
 from .._names import are_old, renamed
 from .._objects import found
-from .._storklocker import walked
+from .._storklocker import begin_uses, walked
 from .._items import SHOWING
 from .._of_packages import PACKAGES
 from .._states import HAS_ITEMS, HAS_STATE
 from .._substitute import Class, Substitute, Value
-from .._substitutes import TABLE, Reader, _for_object, meant
+from .._substitutes import STEPS_FREE, TABLE, Piece, Reader, _for_object, meant
 from .._types import Kind
 from .._uses import Uses, named_by
+from .budget import LOOKED_AT, Budget, TooMuch
 from .called import LARGEST
 from .dangers import is_in_shipped_list
 from .joblib_cutting import WRAPPERS
@@ -38,9 +38,13 @@ from .stand_ins import (
 )
 from .unseen import CALLED, PLAIN, Unseen, is_enum, is_error, judge_items, judge_state
 
-_MOST, _MOST_READ = 10_000_000, 10_000
-"""The most values that are looked through in a pickle, and the most different pickles of a file
-that are read here.
+_MOST, _SHORT, _KEPT = 10_000_000, 1 << 12, 10_000
+"""The most values that are looked through in a pickle; and of so many pickles that are no longer
+what is found is kept for others that are the same.
+"""
+_READ, _STEPS_PER, _MOST_NAMES = 16, 4, 1000
+"""The steps of a pickle that is read, beside one for so many of its bytes and of its values; and
+the most names whose roles are kept.
 """
 _MAKING = ("attrgetter", "methodcaller")
 """Substitutes of a list that import nothing to judge what they are given. What they make is called
@@ -77,77 +81,83 @@ class Foreseen(NamedTuple):
 _LOADED = Foreseen(Fate.LOADED)
 
 
-def foreseen(source: Source, most: int, allow: AllowList) -> Foreseen:
-    """What a guard with this list does with the pickles that follow one another from the first byte
-    on, at most so many, whose names and costs the list permits.
+def foreseen(source: Source, most: int, look: Look, budget: Budget) -> Foreseen:
+    """What a guard does with the pickles that follow one another from the first byte on, at most so
+    many, whose names and costs the list permits.
     """
     if source.size > LARGEST:
         return Foreseen(Fate.UNDECIDED, f"its {source.size:,} bytes are too many to foresee it")
     data, at, worst = source.read(0, source.size), 0, _LOADED
-    look, told = Look(allow), _Told(allow)
+    told: Dict[bytes, Foreseen] = {}
     for _ in range(most):
         end, is_stopped = walked(data, at)
         if not is_stopped or worst.fate is Fate.REFUSED:
             break
-        if look.finds(data[at:end]):
-            one = told.of(data[at:end])
-            if one is None:
-                return Foreseen(Fate.UNDECIDED, "its pickles are too many to foresee them")
-            worst = worst if one.fate is Fate.LOADED else one
+        one = told.get(data[at:end]) or look.of(data[at:end])
+        if end - at <= _SHORT and len(told) < _KEPT:
+            told[data[at:end]] = one
+        try:
+            budget.spend(look.spent())
+        except TooMuch:
+            return Foreseen(Fate.UNDECIDED, "its pickles are too many to foresee them")
+        worst = worst if one.fate is Fate.LOADED else one
         at = end
     return worst
 
 
-class _Told:
-    """What a guard with this list does with pickles, each of which is read once."""
-
-    def __init__(self, allow: AllowList) -> None:
-        self._allow, self._left = allow, _MOST_READ
-        self._of: Dict[bytes, Foreseen] = {}
-
-    def of(self, data: bytes) -> Optional[Foreseen]:
-        """What it does with a pickle; None if too many others have been read."""
-        sha256 = hashlib.sha256(data).digest()
-        found = self._of.get(sha256)
-        if found is None and self._left:
-            self._left -= 1
-            found = self._of[sha256] = _of_one(data, self._allow)
-        return found
-
-
-def _of_one(data: bytes, allow: AllowList) -> Foreseen:
-    """What a guard does with one pickle. Strings of Python 2 are decoded as its reader would."""
-    for encoding in ("ASCII", "latin-1"):
-        reader = Foreseer(allow, are_old(data), encoding)
-        try:
-            reader.foresee(data)
-        except UnicodeDecodeError:
-            continue
-        except Misused as error:
-            return Foreseen(Fate.REFUSED, str(error))
-        except _Late as error:
-            return Foreseen(Fate.UNDECIDED, reader.late or str(error))
-        except Exception as error:  # whatever hostile instructions make a reader raise
-            why = f"its load ends before it is judged: {type(error).__name__}: {error}"
-            return Foreseen(Fate.UNDECIDED, reader.late or why)
-        return Foreseen(Fate.UNDECIDED, reader.late) if reader.late else _LOADED
-    return Foreseen(Fate.UNDECIDED, "a string of Python 2 can't be decoded")
-
-
 class Look:
-    """A look at pickles for what a guard with this list judges while it loads them."""
+    """A look at pickles for what a guard with this list does with them."""
 
     def __init__(self, allow: AllowList) -> None:
-        self._readers = tuple(Foreseer(allow, is_old, "ASCII") for is_old in (False, True))
+        self._allow, self._steps = allow, 0
+        self._uses: Dict[bool, _ForeseenUses] = {}
+
+    def spent(self) -> int:
+        """The steps that it has taken since it was last asked."""
+        steps, self._steps = self._steps, 0
+        return steps
 
     def finds(self, data: bytes) -> bool:
-        """Whether a guard judges anything of a pickle."""
-        uses = _ForeseenUses(self._readers[are_old(data)])
+        """Whether there is anything to be told of a pickle: that a guard doesn't load it, or might
+        not.
+        """
+        return self.of(data).fate is not Fate.LOADED
+
+    def of(self, data: bytes) -> Foreseen:
+        """What a guard does with a pickle."""
+        is_old = are_old(data)
+        uses = self._uses.get(is_old)
+        if uses is None or uses.names > _MOST_NAMES:
+            uses = self._uses[is_old] = _ForeseenUses(Foreseer(self._allow, is_old, "ASCII"))
+        uses.begin()
+        self._steps += 1 + len(data) // LOOKED_AT
         try:
-            uses.respelled(data, 0, False)
-        except Misused:
-            return True
-        return uses.judges > 0
+            pieces = uses.respelled(data, 0, False)
+        except Misused as error:
+            return Foreseen(Fate.REFUSED, str(error))
+        return self._read(pieces, uses) if uses.judges else _LOADED
+
+    def _read(self, pieces: List[Piece], uses: _ForeseenUses) -> Foreseen:
+        """The same, of a pickle that is read. Strings of Python 2 are decoded as a guard's reader
+        would.
+        """
+        for encoding in ("ASCII", "latin-1"):
+            reader = Foreseer(self._allow, uses.is_old, encoding, uses)
+            try:
+                reader.read_pieces(pieces[:])
+            except UnicodeDecodeError:
+                continue
+            except Misused as error:
+                return Foreseen(Fate.REFUSED, str(error))
+            except _Late as error:
+                return Foreseen(Fate.UNDECIDED, reader.late or str(error))
+            except Exception as error:  # whatever hostile instructions make a reader raise
+                why = f"its load ends before it is judged: {type(error).__name__}: {error}"
+                return Foreseen(Fate.UNDECIDED, reader.late or why)
+            finally:
+                self._steps += reader.taken(sum(end - begin for _, begin, end in pieces))
+            return Foreseen(Fate.UNDECIDED, reader.late) if reader.late else _LOADED
+        return Foreseen(Fate.UNDECIDED, "a string of Python 2 can't be decoded")
 
 
 class _Late(Exception):
@@ -155,43 +165,62 @@ class _Late(Exception):
 
 
 class _ForeseenUses(Uses):
-    """Follows a pickle without importing what it names."""
+    """Follows pickles, each by itself, without importing what they name."""
 
-    __slots__ = ("_reader",)
+    __slots__ = ("_reader", "_roles")
 
     def __init__(self, reader: Foreseer) -> None:
         super().__init__(reader.own, WRAPPERS, meant(reader.allow), is_shared=False)
         self._reader, self.takes_any = reader, reader.is_any
+        self._roles: Dict[Tuple[bytes, bytes], int] = {}
+
+    @property
+    def names(self) -> int:
+        """The number of names that it has met, in each way in which they are spelled."""
+        return len(self._roles)
+
+    @property
+    def is_old(self) -> bool:
+        """Whether the names are those of Python 2."""
+        return self._reader.is_old
+
+    def begin(self) -> None:
+        """Forgets what the memo of the last pickle has."""
+        self._kept = begin_uses()
 
     def _number_of(self, module: bytes, name: bytes) -> int:
-        pair = named_by(module, name, self._reader.is_old)
-        own = self._own.get(pair)
-        substitute = self._reader.substitute_for(pair)
-        role = None if substitute is None else substitute.role
-        return self._told(pair, role if own is None else own)
+        found = self._roles.get((module, name))
+        if found is None:
+            pair = named_by(module, name, self.is_old)
+            own = self._own.get(pair)
+            substitute = self._reader.substitute_for(pair)
+            role = None if substitute is None else substitute.role
+            found = self._roles[module, name] = self._told(pair, role if own is None else own)
+        return found
 
 
 class Foreseer(Reader):
     """The reader of a guard, for which a name without a substitute is nothing but a name."""
 
-    def __init__(self, allow: AllowList, is_old: bool, encoding: str) -> None:
-        super().__init__(allow, encoding=encoding, buffers=itertools.repeat(UNKNOWN))
+    def __init__(
+        self, allow: AllowList, is_old: bool, encoding: str, uses: Optional[Uses] = None
+    ) -> None:
+        uses = uses or Uses({}, WRAPPERS, frozenset())
+        super().__init__(allow, uses, encoding=encoding, buffers=itertools.repeat(UNKNOWN))
         self.is_old = is_old
         """Whether its names are those of Python 2."""
         self.allow = allow
         self.is_any = allow.build == "any" and not has_substitutes(allow)
         """Whether BUILD may take what the pickle hasn't made."""
-        self._uses = _ForeseenUses(self)
         self._named: Dict[Pair, Named] = {}
-        self._steps = 0
+        self._values = 0
         self.late = ""
         """Why it is undecided, if it is."""
 
-    def foresee(self, data: bytes) -> None:
-        """Reads one pickle, if a guard judges anything of it while it is loaded."""
-        pieces = self._uses.respelled(data, 0, False)
-        if self._uses.judges:
-            self.read_pieces(pieces)
+    def taken(self, size: int) -> int:
+        """The steps that a pickle of this size has taken that it has read."""
+        parts = size + self._values + max(0, STEPS_FREE + 8 * size - self._steps)
+        return _READ + parts // _STEPS_PER
 
     def put_off(self, why: str) -> Answer:
         """What something answers that isn't judged here."""
@@ -201,12 +230,13 @@ class Foreseer(Reader):
     def substitute_for(self, pair: Pair) -> Optional[Substitute]:
         """The substitute for a name, if it has one, found without importing anything but NumPy."""
         own = self.own.get(pair) or TABLE.get(pair)
-        package = pair[0].partition(".")[0]
-        is_unseen = package in PACKAGES or is_enum(pair) or is_error(pair)
-        if pair in CALLED or own is None and is_unseen:
-            return Unseen(pair, self)
-        if own is not None or package != "numpy" and pair[0] not in SHOWING:
+        if own is not None and pair not in CALLED:
             return own
+        package = pair[0].partition(".")[0]
+        if pair in CALLED or package in PACKAGES or is_enum(pair) or is_error(pair):
+            return Unseen(pair, self)
+        if package != "numpy" and pair[0] not in SHOWING:
+            return None
         if package == "numpy":
             import numpy  # noqa: F401 # (raises ImportError, where nothing of it is known)
 
@@ -279,8 +309,8 @@ class Foreseer(Reader):
             seen.add(id(it))
             parts = _parts_of(it)
             left.extend(parts)
-            self._steps += 1 + len(parts)
-            if self._steps > _MOST:
+            self._values += 1 + len(parts)
+            if self._values > _MOST:
                 raise _Late("it has too many values to look through")
         return True
 

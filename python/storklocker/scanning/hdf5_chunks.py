@@ -1,8 +1,9 @@
-"""Chunks of HDF5 that filters have packed, in which a pickle isn't seen as it stands.
+"""Chunks of HDF5 that filters have packed, or which lie out of order: in these a pickle isn't seen
+as it stands.
 
-Where a chunk is depends on many kinds of indexes, so streams of deflate are looked for anywhere,
-and what they unpack to is looked through in the order of the file. That a file has other filters
-shows in the messages that name them, wherever one is.
+Streams of deflate are looked for anywhere, and what they unpack to is looked through in the order
+of the file. Chunks that an index has in another order are looked through in that. That a file has
+other filters shows in the messages that name them, wherever one is.
 """
 
 from __future__ import annotations
@@ -14,6 +15,8 @@ import zlib
 from typing import Dict, Iterator, List, NamedTuple, Optional, Set, Tuple
 
 from .budget import Budget, TooMuch
+from .hdf5_indexes import Chunk, datasets_in
+from .marks import HDF5
 from .readings import Found, Place
 from .source import BLOCK, Source, in_memory
 from .stores import STORES, searched
@@ -59,6 +62,12 @@ class Filters(NamedTuple):
     """Those of items whose bytes are shuffled."""
     unread: Tuple[str, ...]
     """What isn't read here."""
+    all: Tuple["_Filters", ...]
+    """Those of each dataset."""
+
+
+_Filters = Tuple[Tuple[int, int], ...]
+"""Filters, each by its number and its first parameter."""
 
 
 def hdf5_reading(place: Place) -> Found:
@@ -74,12 +83,13 @@ def hdf5_reading(place: Place) -> Found:
         yield place.unread("HDF5", "unread-pickles", why)
     if filters.has_deflate:
         yield from _deflated(place, filters.sizes)
+    yield from _in_order(place, filters.all[:_MOST_SIZES])
     return True
 
 
 def filters_of(source: Source, budget: Budget) -> Filters:
     """The filters that messages name."""
-    found: Set[Tuple[Tuple[int, int], ...]] = set()
+    found: Set[_Filters] = set()
     unread: Dict[str, None] = {}
     for block in _blocks(source, _LONGEST):
         budget.spend(1 + min(len(block), BLOCK) // 64)
@@ -95,7 +105,10 @@ def filters_of(source: Source, budget: Budget) -> Filters:
     has_deflate = any(number == _DEFLATE for one in found for number, _ in one)
     if len(sizes) > _MOST_SIZES:
         unread["shuffles of very many kinds"] = None
-    return Filters(has_deflate, tuple(sorted(sizes))[:_MOST_SIZES], tuple(sorted(unread)))
+    if len(found) > _MOST_SIZES:
+        unread["filters of very many kinds"] = None
+    its = tuple(sorted(sizes))[:_MOST_SIZES]
+    return Filters(has_deflate, its, tuple(sorted(unread)), tuple(sorted(found)))
 
 
 def _unread_of(numbers: List[int], sizes: Set[int]) -> Iterator[str]:
@@ -116,8 +129,8 @@ def _blocks(source: Source, more: int) -> Iterator[bytes]:
         yield source.read(at, BLOCK + more)
 
 
-def _message(block: bytes, at: int, front: int) -> Optional[Tuple[Tuple[int, int], ...]]:
-    """The filters of a message, each by its number and its first parameter; None if it is none."""
+def _message(block: bytes, at: int, front: int) -> Optional[_Filters]:
+    """The filters of a message; None if it is none."""
     place = at + 2 if front == 8 else at + 1
     size = int.from_bytes(block[place : place + 2], "little")
     begin = at + front
@@ -166,18 +179,64 @@ def _deflated(place: Place, sizes: Tuple[int, ...]) -> Found:
 class _Held:
     """Chunks that are looked through together, with items of a size."""
 
-    def __init__(self, size: int) -> None:
-        self.size, self.data, self._number = size, bytearray(), 0
+    def __init__(self, size: int, name: str = "chunks") -> None:
+        self.size, self.data, self._name, self._number = size, bytearray(), name, 0
 
     def looked_through(self, place: Place) -> Found:
         """The pickles in them, of which the last bytes are kept."""
         self._number += 1
-        name = f"chunks {self._number}" + (f" of {self.size} bytes" if self.size > 1 else "")
+        name = f"{self._name} {self._number}" + (f" of {self.size} bytes" if self.size > 1 else "")
         inner = place.inside(name, in_memory(io.BytesIO(self.data)), KIND)
         if self.data:  # (the end may cut a pickle)
             yield from searched(inner, KIND, end_of=lambda _: inner.source.size)
         self.data = self.data[-_OVERLAP:]
         return True
+
+
+def _in_order(place: Place, filters: Tuple[_Filters, ...]) -> Found:
+    """The pickles in datasets whose chunks don't lie in their order, one behind another."""
+    source = place.source
+    start = next((at for at in (0, *(512 << it for it in range(48))) if at < source.size
+                  and source.read(at, len(HDF5)) == HDF5), 0)
+    all_chunks = list(datasets_in(source, start, place.budget))
+    order = sorted({chunk.at for chunks in all_chunks for chunk in chunks})
+    place_of = {at: number for number, at in enumerate(order)}
+    for number, chunks in enumerate(all_chunks):
+        pairs = tuple(zip(chunks, chunks[1:]))
+        has_mask = any(chunk.mask for chunk in chunks)
+        if has_mask or any(one.at + one.size != next_.at for one, next_ in pairs):
+            yield from _joined(place, chunks, (), f"dataset {number}")
+        if has_mask or any(place_of[one.at] + 1 != place_of[it.at] for one, it in pairs):
+            for its in filters:
+                yield from _joined(place, chunks, its, f"dataset {number}")
+    return True
+
+
+def _joined(place: Place, chunks: List[Chunk], filters: _Filters, name: str) -> Found:
+    """The pickles in these chunks, one behind another, without the filters."""
+    held = _Held(1, name)
+    for chunk in chunks:
+        place.budget.spend(4 + chunk.size // _UNPACKED_AT)
+        held.data += _plain(place.source.read(chunk.at, chunk.size), chunk.mask, filters, place)
+        if len(held.data) >= _TOGETHER:
+            yield from held.looked_through(place)
+    yield from held.looked_through(place)
+    return True
+
+
+def _plain(data: bytes, mask: int, filters: _Filters, place: Place) -> bytes:
+    """What a chunk holds, without the filters but for those that it was written without."""
+    for number in reversed(range(len(filters))):
+        kind, parameter = filters[number]
+        if mask >> number & 1:
+            continue
+        if kind == _DEFLATE:
+            data = _whole(in_memory(io.BytesIO(data)), 0, place.budget) or data
+        elif kind == _SHUFFLE:
+            data = unshuffled(data, parameter)
+        elif kind == _FLETCHER:
+            data = data[:-4]
+    return data
 
 
 def unshuffled(data: bytes, size: int) -> bytes:

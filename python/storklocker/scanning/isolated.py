@@ -1,6 +1,7 @@
 """Scans files in a process of its own, so that a file that ends the process ends nothing else.
 
-The process reads lines of JSON, each a file, and answers each with a line, its reports.
+The process reads what it has to find out, then lines of JSON, each a file, and answers each with a
+line, its reports.
 """
 
 from __future__ import annotations
@@ -12,9 +13,10 @@ import pickle
 import subprocess
 import sys
 from pathlib import Path
-from typing import List, Optional
+from typing import Dict, List, NamedTuple, Optional, Sequence
 
 from .files import File, is_url
+from .fronts import is_refused
 from .judging import Question
 from .report import Finding, Report, report_of, unreadable
 from .scan import scan_file
@@ -24,11 +26,42 @@ TRIES = 2
 _PACKAGE = str(Path(__file__).resolve().parents[2])
 
 
+class Start(NamedTuple):
+    """How the process is started."""
+
+    words: List[str]
+    environment: Dict[str, str]
+
+
+def start() -> Start:
+    """How the process is started."""
+    path = os.pathsep.join(filter(None, [_PACKAGE, os.environ.get("PYTHONPATH", "")]))
+    return Start([sys.executable, "-m", __name__], {**os.environ, "PYTHONPATH": path})
+
+
+def line_of_questions(questions: Sequence[Question]) -> bytes:
+    """The first line that the process reads."""
+    return base64.b64encode(pickle.dumps(tuple(questions))) + b"\n"
+
+
+def line_of(file: File, question: int = 0, is_front: bool = False) -> bytes:
+    """The line of a file, of which a question is asked. `is_front`: whether more bytes may follow
+    it, so that there are reports only if it is refused whatever these are.
+    """
+    names = [os.fsencode(it).hex() for it in (file.path, file.held)]
+    return json.dumps([names, file.is_opened, question, is_front]).encode() + b"\n"
+
+
+def reports_in(answer: bytes) -> List[Report]:
+    """The reports in a line that the process has answered."""
+    return [report_of(it) for it in json.loads(answer)]
+
+
 class Isolated:
     """Scans files in a process of its own, which is started again when it ends."""
 
     def __init__(self, question: Question) -> None:
-        self._question = base64.b64encode(pickle.dumps(question))
+        self._question = line_of_questions([question])
         self._process: Optional["subprocess.Popen[bytes]"] = None
 
     def scan(self, file: File) -> List[Report]:
@@ -48,7 +81,7 @@ class Isolated:
         for _ in range(TRIES):
             answer = self._asked(file)
             if answer:
-                return [report_of(it) for it in json.loads(answer)]
+                return reports_in(answer)
         why = f"the process that read it ended, {TRIES} times"
         return [unreadable(file.path, "file", Finding("unreadable", why), file.path)]
 
@@ -56,9 +89,8 @@ class Isolated:
         """The answer of the process; none if it has ended."""
         process = self._process or self._started()
         assert process.stdin is not None and process.stdout is not None
-        line = json.dumps([os.fsencode(it).hex() for it in (file.path, file.held)])
         try:
-            process.stdin.write(f"{line} {int(file.is_opened)}\n".encode())
+            process.stdin.write(line_of(file))
             process.stdin.flush()
             answer = process.stdout.readline()
         except BrokenPipeError:
@@ -69,15 +101,12 @@ class Isolated:
         return answer
 
     def _started(self) -> "subprocess.Popen[bytes]":
-        path = os.pathsep.join(filter(None, [_PACKAGE, os.environ.get("PYTHONPATH", "")]))
+        words, environment = start()
         self._process = subprocess.Popen(
-            [sys.executable, "-m", __name__],
-            stdin=subprocess.PIPE,
-            stdout=subprocess.PIPE,
-            env={**os.environ, "PYTHONPATH": path},
+            words, stdin=subprocess.PIPE, stdout=subprocess.PIPE, env=environment
         )
         assert self._process.stdin is not None
-        self._process.stdin.write(self._question + b"\n")
+        self._process.stdin.write(self._question)
         return self._process
 
     def end(self) -> None:
@@ -90,11 +119,14 @@ class Isolated:
 
 def _main() -> None:
     """Answers the lines of standard input."""
-    question: Question = pickle.loads(base64.b64decode(sys.stdin.buffer.readline()))
+    questions: Sequence[Question] = pickle.loads(base64.b64decode(sys.stdin.buffer.readline()))
     for line in sys.stdin.buffer:
-        names, _, is_opened = line.decode().rpartition(" ")
-        path, held = (os.fsdecode(bytes.fromhex(it)) for it in json.loads(names))
-        reports = scan_file(File(path, bool(int(is_opened)), held=held), question)
+        names, is_opened, number, is_front = json.loads(line)
+        path, held = (os.fsdecode(bytes.fromhex(it)) for it in names)
+        question = questions[number]
+        reports: List[Report] = []
+        if not is_front or is_refused(Path(held or path), question.allow):
+            reports = scan_file(File(path, is_opened, held=held), question)
         print(json.dumps([report.as_dict() for report in reports]), flush=True)
 
 

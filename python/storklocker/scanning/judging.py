@@ -131,7 +131,7 @@ def lone_report(path: str, data: bytes, question: Question) -> Optional[Report]:
     report = Report(path, "pickle", status, why, size, sha256, 1, imports, file=path)
     findings = list(told.findings)
     if imports and question.allow is not None:
-        report = _foreseen(report, [(source, 1)], question.allow, findings)
+        report = _foreseen(report, [(source, 1)], Budget(size), question.allow, findings)
     elif imports:
         findings += called_findings([(source, 1)])
     findings = _with_calls(findings, source, size, Budget(size), question)
@@ -168,14 +168,18 @@ def _accepted(yes: Verdict, question: Question) -> Tuple[Word, str]:
 
 
 def _foreseen(
-    report: Report, held: List[Tuple[Source, int]], allow: AllowList, findings: List[Finding]
+    report: Report,
+    held: List[Tuple[Source, int]],
+    budget: Budget,
+    allow: AllowList,
+    findings: List[Finding],
 ) -> Report:
     """The report on accepted pickles, of which each source has so many, under a list."""
     from .foreseeing import Fate, foreseen  # most scans have no need of it
 
     words = {Fate.REFUSED: Word.REFUSED, Fate.UNDECIDED: Word.UNDECIDED}
     for source, most in held:
-        fate, why = foreseen(source, most, allow)
+        fate, why = foreseen(source, most, _lone_under(allow).foresight(), budget)
         if fate is not Fate.LOADED:
             front = "no" if fate is Fate.REFUSED else words[fate].value
             findings.append(Finding(words[fate].value, why))
@@ -203,7 +207,7 @@ def _reports_at(place: Place, question: Question) -> Iterator[Report]:
         elif isinstance(it, Unread):
             yield unreadable(it.path, it.kind, it.finding, place.path)
         else:
-            row = row_of(it, question.allow, budget)
+            row = row_of(it, question.allow, budget, question.as_program)
             if row is None:
                 continue
             if WRAPPER_NAMES.intersection(row.names):
@@ -274,7 +278,9 @@ def _judged(piece: Piece, row: Row, question: Question, place: Place) -> Report:
             findings.append(Finding("refused" if is_refused else "broken-pickle", why))
     elif no is not None:
         status = Word.REFUSED
-    findings += _cut_findings(row)
+    if not row.is_complete:
+        why_cut = "its imports take more bytes than are read of one file"
+        findings.append(Finding("too-much", why_cut))
     if row.kept != KEEPS_NOTHING:
         status, why = told_of_kept(row.kept, status, why, allow, findings)
     more = len(row.names) - len(imports)
@@ -299,10 +305,10 @@ def _judged(piece: Piece, row: Row, question: Question, place: Place) -> Report:
     )
     held = [(source, max(row.pickles, 1)) for source in row.sources if row.names]
     if status is Word.ACCEPTED and held and allow is not None:
-        report = _foreseen(report, held, allow, findings)
+        report = _foreseen(report, held, place.budget, allow, findings)
     elif status is Word.UNJUDGED:
         findings += called_findings(held)
-    findings = _with_calls(findings, piece.source, row.taken, place.budget, question)
+    findings = _with_calls(findings, row.source, row.taken, place.budget, question)
     return judged(_raw(report, row.raw, findings) if row.raw else report, findings)
 
 
@@ -384,13 +390,6 @@ def _text_of(name: Optional[bytes]) -> Optional[str]:
         return None
     text = name.decode("utf-8", "replace")
     return text if len(text) <= LONGEST else f"{text[:LONGEST]}... and {len(text) - LONGEST} more"
-
-
-def _cut_findings(row: Row) -> List[Finding]:
-    """What is to be said of imports that the report lacks."""
-    if not row.is_complete:
-        return [Finding("too-much", "its imports take more bytes than are read of one file")]
-    return []
 
 
 def _has_text(piece: Piece, row: Row) -> bool:

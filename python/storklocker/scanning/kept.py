@@ -2,21 +2,28 @@
 
 It keeps its memo for the next pickle, where `pickle.load` begins anew. What a pickle fetches from
 the memo may then be another text, and the name that it is a part of another name. A row that was
-written with `pickle.dump` is nonsense to such a reader: so only what is dangerous is told.
+written with `pickle.dump` is nonsense to such a reader: so only what is dangerous is told. One that
+a Pickler has written ends early for `pickle.load`, and is read as the Unpickler reads it.
 """
 
 from __future__ import annotations
 
+import sys
 from typing import TYPE_CHECKING, Dict, Iterable, List, NamedTuple, Optional, Tuple
 
+from .._answers import RowVerdict
 from .._checking import check_row
 from .._limits import Limits
 from .._lists import AllowList
+from .._names import are_old
 from .._reasons import Reason
+from .._storklocker import walked
 from .budget import LOOKED_AT, STEP, Budget
 from .costs import permitting
-from .dangers import judged, may_be_imported
-from .names import named_today, pair_of
+from .dangers import is_found_here, judged, may_be_imported
+from .known import HARMLESS
+from .names import NOTHING as NO_NAMES
+from .names import imports_within, named_today, pair_of
 from .reaching import READERS_STOP
 from .report import Finding, dotted, shown
 from .severity import DANGER
@@ -30,6 +37,8 @@ _OLD = b"\x80\0"
 """How a pickle begins whose names are those of Python 2."""
 
 
+_POP, _STOP = b"0."
+_HIDDEN: "Names" = (None, None)
 _MOST = 8
 """How many such names are looked for by the checker. Others are looked for by following the row."""
 
@@ -46,6 +55,66 @@ class Kept(NamedTuple):
 
 
 NOTHING = Kept([])
+
+
+class Stream(NamedTuple):
+    """Pickles as one Unpickler reads them.
+
+    joined: the same bytes as one pickle: a POP stands for each STOP but the last.
+    begins: where each pickle begins.
+    names: what they import.
+    verdict: the answer to all, under a list or with each import permitted.
+    """
+
+    joined: bytes
+    begins: List[int]
+    names: Dict[Names, None]
+    verdict: RowVerdict
+
+
+def stream_in(
+    data: bytes, limits: Limits, allow: Optional[AllowList], budget: Budget
+) -> Optional[Stream]:
+    """The stream that these bytes are; None if one Unpickler doesn't load them all, or some of the
+    pickles have names of Python 2, and others don't.
+    """
+    made, at, is_whole = bytearray(data), 0, True
+    begins: List[int] = []
+    while is_whole and at < len(data):
+        begins.append(at)
+        at, is_whole = walked(data, at)
+        made[at - 1] = _POP
+    budget.spend(STEP + len(begins) + 3 * len(data) // LOOKED_AT)
+    if not is_whole or len({are_old(data[begin : begin + 2]) for begin in begins}) > 1:
+        return None
+    made[-1] = _STOP
+    found = imports_within(bytes(made), NO_NAMES, limits)
+    if not (found.verdict and found.is_complete):
+        return None
+    listed = permitting(found.names) if allow is None else allow
+    verdict = check_row(data, listed, one_unpickler=True, limits=limits, build="any")
+    if not verdict and (allow is None or verdict.reason in READERS_STOP):
+        return None
+    return Stream(bytes(made), begins, found.names, verdict)
+
+
+def apart_in(
+    source: Source, at: int, names: Iterable[Names], stream: Stream, budget: Budget
+) -> List[Names]:
+    """What `pickle.load` may import of a stream up to the pickle at an offset, which is broken for
+    it, and one Unpickler doesn't. These are the names as far as the walk finds them that looks for
+    no values.
+    """
+    found = dict.fromkeys(names)
+    if _HIDDEN in found:
+        from .calls import Naming  # few files are looked at so
+
+        walk = Naming(source, at)
+        del found[_HIDDEN]
+        walk.through()
+        budget.spend(walk.steps + (walk.at - at) // LOOKED_AT)
+        found.update(dict.fromkeys(named_today(walk.names, source.read(at, 2))))
+    return [it for it in found if not _are_in(stream.names, it) and _may_be(it)]
 
 
 def kept_in(
@@ -95,13 +164,30 @@ def _are_in(own: Dict[Names, None], names: Names) -> bool:
     return names in own or any(it in own for it in named_today([names], _OLD))
 
 
+def _may_be(names: Names) -> bool:
+    """Whether such an import may be one, and not words that no module has for its name."""
+    module, name = pair_of(names)
+    return module is None or name is None or may_be_imported(module, name)
+
+
 def _counts(names: Names) -> bool:
-    """Whether such an import is told."""
+    """Whether such an import is told: a danger, or one of which nobody knows that it is harmless,
+    of a module that is here. The others may be words, which only look like names.
+    """
     module, name = pair_of(names)
     if module is None or name is None:
         return True
     row = judged(module, name)
-    return row is not None and row.severity == DANGER
+    if row is None or row.severity not in (DANGER, HARMLESS):
+        is_there = may_be_imported(module, name) and is_found_here(module)
+        return is_there and not _is_lacking(module, name)
+    return row.severity == DANGER
+
+
+def _is_lacking(module: str, name: str) -> bool:
+    """Whether a module that is imported here has nothing of this name."""
+    held = vars(sys.modules[module]) if module in sys.modules else {"__getattr__": None}
+    return name.partition(".")[0] not in held and "__getattr__" not in held
 
 
 def told_of_kept(

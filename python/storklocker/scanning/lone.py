@@ -118,24 +118,34 @@ class Lone:
         return len(values)
 
     def is_quiet(self, told: Told, data: bytes) -> bool:
-        """Whether nothing in a pickle of which this is told is known to do harm, or is judged while
-        a guard with the list loads it; without a list, whether it calls nothing that it has made.
+        """Whether nothing in a pickle of which this is told is known to do harm, and a guard with
+        the list loads it; without a list, whether it calls nothing that it has made.
         """
         if any(it.severity not in MILD for it in told.findings):
             return False
         return not told.imports or not self._looked().finds(data)
 
+    def spent(self) -> int:
+        """The steps that its looks have taken since it was last asked."""
+        return 0 if self._look is None else self._look.spent()
+
+    def foresight(self) -> foreseeing.Look:
+        """The look at what a guard with the list does."""
+        from . import foreseeing  # most scans have no need of it
+
+        assert self.allow is not None
+        if self._look is None:
+            self._look = foreseeing.Look(self.allow)
+        assert isinstance(self._look, foreseeing.Look)
+        return self._look
+
     def _looked(self) -> Union[foreseeing.Look, called.Look]:
-        if self._look is None and self.allow is None:
+        if self.allow is not None:
+            return self.foresight()
+        if self._look is None:
             from . import called
 
             self._look = called.Look()
-        elif self._look is None:
-            from . import foreseeing  # most scans have no need of it
-
-            assert self.allow is not None
-            self._look = foreseeing.Look(self.allow)
-        assert self._look is not None
         return self._look
 
     def _judged(self, room: bytes, front: bytes) -> Optional[Told]:

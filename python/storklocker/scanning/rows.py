@@ -2,6 +2,7 @@
 
 from __future__ import annotations
 
+import io
 import itertools
 import re
 from typing import TYPE_CHECKING, Dict, Iterable, Optional, Tuple
@@ -15,11 +16,12 @@ from .budget import LOOKED_AT, STEP, Budget, TooMuch
 from .costs import COUNTED, KINDS, LIMITS, Exceeded, exceeded, exceeded_in_row, with_costs
 from .dangers import may_be_imported
 from .kept import NOTHING as KEEPS_NOTHING
-from .kept import kept_in
+from .kept import apart_in, kept_in, stream_in
 from .names import NOTHING, WIDEST, Imports, imports_within, limits_under
 from .names import named_today, refused_with
 from .reaching import READERS_STOP, reached
 from .readings import Piece, is_text
+from .source import in_memory
 
 if TYPE_CHECKING:
     from .._limits import Limits
@@ -61,8 +63,9 @@ class Row:
     is_misread: whether a reader reads other bytes than are shown.
     refused: the bytes of the refused one, and its offset.
     too_much: why the rest was not read.
-    sources: the bytes with these pickles, one behind another; of joblib's files also those of
-        arrays of objects.
+    source: the bytes of the pickles; if one Pickler has written them, as one pickle.
+    sources: those with these pickles, one behind another; of joblib's files also those of arrays of
+        objects.
     raw: why arrays that stand between the instructions could not be left out.
     kept: what one Unpickler imports that loads them all. It is among the names.
     """
@@ -78,9 +81,11 @@ class Row:
     _uncosted: Tuple[int, int] = (0, 0)  # the offset and index from which on to look
     _try_at = _ONE_BY_ONE
 
-    def __init__(self, piece: Piece, allow: Optional[AllowList], budget: Budget) -> None:
-        self._piece, self._source, self._budget = piece, piece.source, budget
-        self.sources = [piece.source]
+    def __init__(
+        self, piece: Piece, allow: Optional[AllowList], budget: Budget, are_apart: bool = False
+    ) -> None:
+        self._piece, self.source, self._budget = piece, piece.source, budget
+        self._are_apart = are_apart
         self._allow, self._listed = allow, NOTHING if allow is None else allow
         self._is_limited = limits_costs(self._listed)
         self.names: Dict["Names", None] = {}
@@ -88,16 +93,18 @@ class Row:
         try:
             while self._is_more() and self._is_next_accepted():
                 pass
-            self._look_at_kept()
+            if not self._is_stream():
+                self._look_at_kept()
         except TooMuch as error:
             self.too_much = error
+        self.sources = [self.source]
         self._find_costly()
 
     def _is_more(self) -> bool:
         """Whether another pickle is to be read one by one."""
         if self.pickles == self._piece.most > 0:
             return False
-        if self.taken and self.taken >= self._source.size:
+        if self.taken and self.taken >= self.source.size:
             return False
         if self.pickles == self._try_at and not self._piece.most:
             self._try_at *= 2
@@ -109,7 +116,7 @@ class Row:
         data, found, is_within = self._next()
         verdict = found.verdict
         self._budget.spend_pickle(max(verdict.taken, verdict.at))
-        is_whole = bool(verdict) and verdict.taken == self._source.size
+        is_whole = bool(verdict) and verdict.taken == self.source.size
         if is_whole and is_within and self._is_lone(data, found):
             return False
         if self._goes_on_behind(found):
@@ -171,7 +178,7 @@ class Row:
         self._uncosted, self._recent = (self.taken, self.pickles), {}
         if self.costly is not None or at >= self.taken:
             return
-        self._find_costly_in(self._source.read(at, self.taken - at), names, at, number)
+        self._find_costly_in(self.source.read(at, self.taken - at), names, at, number)
 
     def _find_costly_in(self, data: bytes, names: Iterable["Names"], at: int, number: int) -> None:
         """Looks at what these accepted pickles cost, which begin at an offset, with an index."""
@@ -186,10 +193,40 @@ class Row:
         """
         is_refused = self.refusal is not None
         if self.pickles + is_refused > 1 and (self.names or is_refused):
-            end = self._source.size if is_refused else self.taken
+            end = self.source.size if is_refused else self.taken
             limits = self.limits(end)
-            self.kept = kept_in(self._source, end, self.names, limits, self._budget)
+            self.kept = kept_in(self.source, end, self.names, limits, self._budget)
             self.names.update(dict.fromkeys(self.kept.names))
+
+    def _is_stream(self) -> bool:
+        """Whether one Pickler has written all, which keeps its memo, so that a pickle by itself is
+        broken. Notes what is known of them.
+        """
+        no, size = self.refusal, self.source.size
+        if no is None or not self.pickles or self._piece.most or self._are_apart:
+            return False
+        may_be_other = no.reason in READERS_STOP or no.reason in _IMPORTING
+        if not may_be_other or size > min(_WHOLE, self._budget.row_bytes):
+            return False
+        stream = stream_in(self.source.read(0, size), self.limits(size), self._allow, self._budget)
+        if stream is None:
+            return False
+        apart = apart_in(self.source, self.taken, self.names, stream, self._budget)
+        if self._allow is not None and not all(map(self._allow._permits, apart)):
+            return False
+        self.names = dict.fromkeys((*stream.names, *apart))
+        self.source = in_memory(io.BytesIO(stream.joined))
+        self.refusal, self.is_reached, self.is_cut = None, False, False
+        self.number, self.imports = stream.verdict.pickles, stream.verdict.imports
+        if stream.verdict:
+            self.pickles, self.taken = stream.verdict.pickles, size
+        else:
+            begin = stream.begins[self.number]
+            self.refusal = Verdict._make(stream.verdict)
+            self.refused = (stream.joined[begin:], begin)
+        self.costly, self.costly_at, self.costly_number = exceeded(stream.joined, self.names), 0, 0
+        self._uncosted = (size, self.pickles)
+        return True
 
     def _goes_on_behind(self, found: Imports) -> bool:
         """Whether all readers end in a text, with one of several objects and no import."""
@@ -197,8 +234,8 @@ class Row:
         return (
             found.verdict.reason is Reason.LeftOver
             and not (self._piece.is_claimed or self.pickles or found.names)
-            and end < self._source.size
-            and is_text(self._source.front())
+            and end < self.source.size
+            and is_text(self.source.front())
         )
 
     def _next(self) -> Tuple[bytes, Imports, bool]:
@@ -207,7 +244,7 @@ class Row:
         """
         window, is_within, listed = _FIRST, True, self._listed
         while True:
-            data = self._source.read(self.taken, window)
+            data = self.source.read(self.taken, window)
             found = imports_within(data, listed, self.limits(len(data)) if is_within else WIDEST)
             if found.verdict.reason is Reason.Truncated and len(data) == window:
                 window = self._wider(window)
@@ -224,14 +261,14 @@ class Row:
         """The next window. For the first pickle of a file, the third one is the whole file, because
         most files contain one pickle, and each window costs a check.
         """
-        whole = self._source.size if self.pickles == 0 and window > _FIRST else 0
+        whole = self.source.size if self.pickles == 0 and window > _FIRST else 0
         return max(16 * window, whole if whole <= _WHOLE else 0)
 
     def _refused(self, verdict: Verdict, found: Imports) -> Tuple["Names", ...]:
         """What a reader may import at the place where a pickle is refused, or behind it."""
         begin = self.taken
-        beyond = reached(self._source, begin, begin + verdict.at, verdict.reason, self._budget)
-        is_beyond = beyond.is_reached_in(self._source.size)
+        beyond = reached(self.source, begin, begin + verdict.at, verdict.reason, self._budget)
+        is_beyond = beyond.is_reached_in(self.source.size)
         names = refused_with(verdict.reason) if is_beyond or self._piece.is_claimed else ()
         self.is_reached = bool(found.names) or bool(names) or is_beyond
         is_stopped = verdict.reason in READERS_STOP and not beyond.is_misread
@@ -240,14 +277,14 @@ class Row:
             self.stop = -1
         self.is_cut = verdict.reason is Reason.Truncated
         self.is_misread |= beyond.is_misread
-        front = self._source.read(begin, 2)
+        front = self.source.read(begin, 2)
         return (*names, *named_today(beyond.names, front))
 
     def guarded(self) -> Optional[Verdict]:
         """Why a guard with the list refuses the one that costs much; None if it doesn't."""
         if self.costly is None or self._allow is None:
             return None
-        data = self._source.read(self.costly_at, self._source.size - self.costly_at)
+        data = self.source.read(self.costly_at, self.source.size - self.costly_at)
         found = check(data, self._allow)
         return None if found else found._replace(at=self.costly_at + found.at)
 
@@ -280,11 +317,11 @@ class Row:
         long row takes little time; and if something new is in it, that is looked for one by one.
         """
         self._find_costly()
-        left = self._source.size - self.taken
+        left = self.source.size - self.taken
         if left > min(_WHOLE, self._budget.row_bytes):
             return False
         self._budget.spend(STEP + left // LOOKED_AT)
-        data = self._source.read(self.taken, left)
+        data = self.source.read(self.taken, left)
         names = [(module, name) for module, name in self.names if module is not None and name]
         under = NOTHING if self._allow is None else self._allow
         allow = AllowList._of(names, under.limits, under.build)
@@ -316,15 +353,17 @@ def limits_costs(allow: AllowList) -> bool:
     return without_costs(under) != under
 
 
-def row_of(piece: Piece, allow: Optional[AllowList], budget: Budget) -> Optional[Row]:
+def row_of(
+    piece: Piece, allow: Optional[AllowList], budget: Budget, are_apart: bool = False
+) -> Optional[Row]:
     """The row, if the bytes claim to be a pickle, or a reader may get to an import or to the end of
-    each.
+    each. They are apart if no memo is kept for the next pickle.
     """
     front = piece.source.front()
     is_claimed = piece.is_claimed or CLAIM.match(front) is not None
     if not is_claimed and not _may_be_pickle(piece, front, budget):
         return None
-    row = Row(piece._replace(is_claimed=is_claimed), allow, budget)
+    row = Row(piece._replace(is_claimed=is_claimed), allow, budget, are_apart)
     if not is_claimed and row.refusal is None and not row.pickles:
         return None
     if not is_claimed and row.refusal is not None and not row.is_misread:

@@ -36,8 +36,8 @@ from .values import Values
 if TYPE_CHECKING:
     from .._pairs import Names
 
-_APART, _LEAST = ("HDF5", "SQLite"), 16
-"""What is unpacked in other ways; and the fewest bytes of what is packed and imports something."""
+_APART, _LEAST = "HDF5", 16
+"""What is unpacked in another way; and the fewest bytes of what is packed and imports something."""
 _NEAR = 64
 """How many bytes in front of a trail are tried as the beginning of its pickle."""
 _MOST, _FOOTER = 1 << 20, 1 << 20

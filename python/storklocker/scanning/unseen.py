@@ -20,7 +20,7 @@ from .._exceptions import judge_error, judged_state, members_of
 from .._items import takes_items
 from .._library import KNOWN
 from .._of_estimators import PREDICTOR, state_of
-from .._of_packages import PACKAGES, judge_signature, judge_wrapped
+from .._of_packages import PACKAGES, TOGETHER, judge_signature, judge_together, judge_wrapped
 from .._substitute import BECOMES_REAL, IS_JUDGED, Substitute
 from .._weighing import CONTAINERS, keys_of, values
 from .dangers import is_in_shipped_list
@@ -65,6 +65,7 @@ def class_of(pair: Pair) -> Any:
 _PARTICULAR = (UnicodeError, SyntaxError, ImportError, AttributeError, NameError)
 """Exceptions of which a guard judges what they are made with."""
 CALLED: Dict[Pair, Callable[[Any, Any], None]] = {
+    TOGETHER: judge_together,
     ("celery.canvas", "signature"): judge_signature,
     ("celery.utils.serialization", "UnpickleableExceptionWrapper"): judge_wrapped,
 }
@@ -87,6 +88,8 @@ class Unseen(Substitute):
 
     def _called(self, *given: Any) -> Any:
         is_known = self._reader.knows(given)
+        if self._pair == TOGETHER and not is_known:
+            return given[0] if _are_flags(given) else self._put_off()
         if self._pair in CALLED and is_known:
             CALLED[self._pair](self._reader, given)
         elif is_enum(self._pair) and is_known:
@@ -120,6 +123,14 @@ class Unseen(Substitute):
 
     def real(self) -> Any:
         return self._reader.named(self._pair)
+
+
+def _are_flags(given: Tuple[Any, ...]) -> bool:
+    """Whether these are two members of one enum, or one and bits."""
+    pairs = [it.pair for it in given if isinstance(it, Answer)]
+    others = [it for it in given if not isinstance(it, Answer)]
+    is_one = len(given) == 2 and pairs[0] is not None and is_enum(pairs[0])
+    return is_one and len(set(pairs)) == 1 and all(type(it) is int for it in others)
 
 
 def judge_items(made: Any) -> None:

@@ -44,12 +44,18 @@ _ANYWHERE = tuple(
         rb"\x1f\x8b\x08",
         rb"BZh[1-9]1AY&SY",
         rb"\xfd7zXZ\0",
-        rb"\]\0\0.{2}(?:\xff{8}|.{4}[\0-\x3f]\0{3})",
+        rb"\]\0\0.{2}.{4}[\0-\x3f]\0{3}",
     )
 )
 """How streams begin that are looked for anywhere: a pattern each, because the search for a first
 byte is fast.
 """
+_ENDLESS, _SIZE, _BEFORE, _PROPERTIES = re.compile(rb"\xff{8,12}(?=\0)"), 8, 5, 0xE0
+"""The size of LZMA alone that isn't known, behind which a zero stands; how many bytes that has, and
+what is in front of it; and the greatest first byte.
+"""
+_LZMA = 60
+"""The steps of a try to unpack that: a decompressor is made."""
 _GOING_ON, _LINES = (b"", b"\r", b"\n"), re.compile(rb"[A-Za-z0-9+/_\r\n-]+={0,2}")
 """What is behind letters that may go on: the end of a block, or that of a line."""
 _TRIED, _LONGEST_RUN = 64, 1 << 20
@@ -108,17 +114,14 @@ def packed_in(
     """What may be unpacked of what begins in a block of a store, in front of an end: where that is,
     and what it unpacks to.
     """
-    for begun in _ANYWHERE:
-        for found in begun.finditer(block):
-            at = found.start()
-            if at >= end:
-                break
-            budget.spend(3)
-            if _is_begun(block[at : at + _TRIED]):
-                budget.spend()
-                for first in streams_at(block[at : at + _HEADER]):
-                    part = source.part(start + at, source.size)
-                    yield from ((at, it) for it in _deeper(part, first, budget))
+    for at in _begun_in(block, end):
+        budget.spend(3)
+        if _is_begun(block[at : at + _TRIED]):
+            budget.spend()
+            for first in streams_at(block[at : at + _HEADER]):
+                budget.spend(_LZMA if first[0] == "lzma" else 1)
+                part = source.part(start + at, source.size)
+                yield from ((at, it) for it in _deeper(part, first, budget))
     for at, run in runs_in(block, end):
         budget.spend(STEP + len(run) // LOOKED_AT)
         if any(map(_may_go_on, of_letters(run, True))):
@@ -126,6 +129,28 @@ def packed_in(
             lines = _LINES.match(source.read(start + at, _LONGEST_RUN)) if more else None
             text = lines.group() if lines else run
             yield from ((at, it) for it in unpacked(in_memory(io.BytesIO(text)), budget))
+
+
+def _begun_in(block: bytes, end: int) -> Iterator[int]:
+    """Where streams may begin in front of an end. Of LZMA alone that is told by the size."""
+    for begun in _ANYWHERE:
+        for found in begun.finditer(block, 0, end + _HEADER):
+            if found.start() < end:
+                yield found.start()
+    for found in _ENDLESS.finditer(block, 0, end + _HEADER):
+        size = found.end() - _SIZE
+        if 0 <= size - _BEFORE < end and _is_alone(block[size - _BEFORE : size]):
+            yield size - _BEFORE
+
+
+def _is_alone(front: bytes) -> bool:
+    """Whether LZMA alone begins so, by its properties and by the window, of which those who find
+    out the format take none but a power of two, one and a half of that, and the greatest.
+    """
+    window = int.from_bytes(front[1:], "little")
+    lowest = window & -window
+    is_window = window > 0 and window in (lowest, 3 * lowest, 0xFFFFFFFF)
+    return front[0] <= _PROPERTIES and is_window
 
 
 def _is_begun(front: bytes) -> bool:

@@ -53,7 +53,9 @@ class Values:
             self._listed = AllowList._of(names, None, None)
         size = sum(map(len, values))
         self._budget.spend(STEP // 2 * len(values) + size // LOOKED_AT)
-        return self._lone.quiet_of(values, self._listed)
+        found = self._lone.quiet_of(values, self._listed)
+        self._budget.spend(self._lone.spent())
+        return found
 
     def count(self, number: int, size: int, imports: int) -> None:
         """Counts values that are told later: so many, of so many bytes, with so many imports."""
@@ -99,7 +101,7 @@ class Values:
         if self._seen <= _FEW:
             return 0
         size, told = self._lone.told_of_value(data)
-        self._budget.spend(STEP // 2 + size // LOOKED_AT)
+        self._budget.spend(STEP // 2 + size // LOOKED_AT + self._lone.spent())
         return self._kept(size, told) if told is not None else 0
 
     def is_taken(self, place: Place) -> bool:
@@ -113,7 +115,9 @@ class Values:
         data = source.front()
         told = self._lone.told(place.path, data)
         self._budget.spend(STEP + len(data) // LOOKED_AT)
-        if told is None or not self._lone.is_quiet(told, data):
+        is_quiet = told is not None and self._lone.is_quiet(told, data)
+        self._budget.spend(self._lone.spent())
+        if told is None or not is_quiet:
             return False
         return self._kept(source.size, told) > 0
 

@@ -13,10 +13,12 @@ from pathlib import Path
 sys.path[:0] = [str(Path(__file__).resolve().parent)]
 
 import honest  # noqa: E402
-import shapes  # noqa: E402
 import trees  # noqa: E402
 from children import SECONDS, Children, begin, is_here  # noqa: E402
 from storklocker import Guard, lists  # noqa: E402
+from storklocker.judge import shapes  # noqa: E402
+from storklocker.judge.forms import forms  # noqa: E402
+from widening import of_here, widened  # noqa: E402
 
 MOST, PLACES = 4, 60
 """How many findings of a name are told, and how many places of an honest pickle are tried: of more
@@ -24,25 +26,6 @@ these are spread over all.
 """
 EVERY = 50
 """After how many pickles what was there before is looked at."""
-
-
-def forms(called, given):
-    """Pickles that hand an argument to a name in every way."""
-    for count in (1, 2, 3, 5):
-        yield f"called with {count}", called + b"(" + given * count + b"tR."
-    for k, other in enumerate((b"K\1", shapes.text("a"), b"]")):
-        yield f"called behind {k}", called + b"(" + other + given + b"tR."
-    yield "called before a text", called + b"(" + given + shapes.text("a") + b"tR."
-    yield "made", called + b"(" + given + b"t\x81."
-    yield "made with words", called + b"(" + given + b"t}\x92."
-    yield "made by OBJ", b"(" + called + given + b"o."
-    yield "items put", called + b")R(" + given + b"e."
-    yield "members put", called + b")\x81(" + given + b"\x90."
-    yield "pairs put", called + b")R(" + given + b"K\0K\0" + given + b"u."
-    yield "built", called + b")\x81" + given + b"b."
-    yield "built after a call", called + b")R" + given + b"b."
-    yield "built with slots", called + b")\x81" + given + given + b"\x86b."
-    yield "built with a dict", called + b")\x81}" + shapes.text("state") + given + b"sb."
 
 
 def cases(pair, held):
@@ -90,20 +73,23 @@ def own_places(node):
     return places[1:] if node.kind in trees.CALLS else places
 
 
-def run(name, tried, seconds, only):
+def run(name, tried, seconds, only, is_told):
     """Tries the names of a list that weren't tried, and returns what was found."""
     data = honest.pickles(name, is_quick=False)
-    allow = shapes.of_here(getattr(lists, name), data)
-    load = honest.loader(name, Guard(shapes.widened(allow)))
+    allow = of_here(getattr(lists, name), data)
+    load = honest.loader(name, Guard(widened(allow)))
     held = [root for root in map(trees.parsed_or_none, data) if root is not None]
     pairs = [pair for pair in allow if pair not in tried and is_here(pair)]
     tried.update(pairs)
     warm(load, [*data, *(case for pair in pairs for case in few_of(pair))])
     found = []
-    for pair in pairs:
+    for many_tried, pair in enumerate(pairs, 1):
         if only not in (None, ".".join(pair)):
             continue
         words, made = zip(*cases(pair, held))
+        if is_told:
+            print(f"{name}, {many_tried} of {len(pairs)}: {'.'.join(pair)}, {len(made):,} pickles",
+                  file=sys.stderr, flush=True)
         children = Children(load, [pair], seconds, EVERY)
         for many, (at, said) in enumerate(children.findings(made)):
             found.append(f"{'.'.join(pair)} {words[at]}: {said} ({len(made[at]):,} bytes)")
@@ -131,12 +117,13 @@ def main():
     parser = argparse.ArgumentParser(description=__doc__.partition("\n\n")[0])
     parser.add_argument("lists", nargs="*", metavar="LIST")
     parser.add_argument("--name", help="only this name")
+    parser.add_argument("--verbose", action="store_true", help="tell each name as it is tried")
     parser.add_argument("--seconds", type=float, default=SECONDS, help="for a case, at most")
     asked = parser.parse_args()
     begin()
     tried, found = set(), []
     for name in asked.lists or lists.__all__:
-        found += run(name, tried, asked.seconds, asked.name)
+        found += run(name, tried, asked.seconds, asked.name, asked.verbose)
     print(f"{len(tried)} names of storklocker.lists, {len(found)} findings")
     return 1 if found or not tried else 0
 

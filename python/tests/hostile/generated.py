@@ -20,10 +20,11 @@ from pickle import UnpicklingError
 sys.path[:0] = [str(Path(__file__).resolve().parent)]
 
 import honest  # noqa: E402
-import shapes  # noqa: E402
 from children import SECONDS, Children, begin, is_here  # noqa: E402
 from mutating import Mutator  # noqa: E402
 from storklocker import Guard, lists  # noqa: E402
+from storklocker.judge import shapes  # noqa: E402
+from widening import of_here, widened  # noqa: E402
 
 BATCH = 250
 """How many pickles a child loads."""
@@ -34,7 +35,7 @@ def run(name, asked):
     held, end = honest.pickles(name, asked.few), asked.first + asked.pickles
     if not held:  # (its library isn't here: no load gets far)
         return 0, 0, []
-    allow = shapes.widened(shapes.of_here(getattr(lists, name), held))
+    allow = widened(of_here(getattr(lists, name), held))
     load = honest.loader(name, Guard(allow))
     pairs = [pair for pair in allow if is_here(pair)]
     for data in held:  # (has everything imported that a load needs)

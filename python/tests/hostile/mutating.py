@@ -5,8 +5,8 @@ import struct
 import sys
 import types
 
-import shapes
 import trees
+from storklocker.judge import shapes
 from trees import (
     ADDS, AGAIN, CALL, CALLS, FROZEN, ITEMS, NAME, NEW, OBJ, PAIRS, RAW, ROW, STATE, Node
 )

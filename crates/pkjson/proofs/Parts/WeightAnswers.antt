@@ -1,6 +1,7 @@
 -- From a weight to the answer.
 use Rattle.std.proofs.Common.{◌≡◌, ℕ, ◌+◌, ◌<◌, ◌≤◌, List, length, get_or, replicate, sym, ap, ◌∙◌}
-use Rattle.std.proofs.Common.{subst, arith, refl, Option, Ok}
+use Rattle.std.proofs.Common.{subst, arith, refl, Option, Ok, Err, Result}
+use Rattle.std.specs.Prelude.{IfOk}
 use Rattle.std.proofs.lemmas.Option.{slice_get_within, get_or_from_slice_get}
 use Rattle.std.proofs.lemmas.List.{length-replicate, get_or-replicate}
 use Rattle.serde_json.specs.Data.{Data, depth}
@@ -10,8 +11,9 @@ use Rattle.pkjson.specs.declared.judge.Weight.{Weight}
 use Rattle.pkjson.specs.Unfolds.{Heap, Unfolds, count}
 use Rattle.pkjson.specs.Private.Weighs.{Weighs, IsDeeper, IsTrusted, no_weight}
 use Rattle.pkjson.specs.Private.Fits.{Fits}
-use Rattle.pkjson.specs.Private.Pieces.{Writes}
-use Rattle.pkjson.specs.Private.Result.{HasValue, IsAnswered, IsText, IsValue}
+use Rattle.pkjson.specs.Private.Pieces.{IsWhole, Writes}
+use Rattle.pkjson.specs.Private.Result.{HasValue, IsAnswered, IsText, IsTooLarge, IsValue}
+use Rattle.pkjson.specs.declared.error.ExportError.{ExportError}
 use Rattle.pkjson.specs.Private.Sends.{IsCompact}
 use Rattle.pkjson.proofs.Values.OneValue.{unique}
 
@@ -62,3 +64,14 @@ unfolding Writes
 text_written h limits x d m old new e f i w =
     let is = value_is h x d m i w.0 w.1 in
     (compact_text w.0, (w.0, (is.0, omega (arith, is.1, e), omega (arith, is.2, f)), refl), w.2)
+
+-- so it is where the text was made before it was written, or there was no memory for it
+pub whole_answered : {E : Type 0} (h : Heap) (limits : Bounds) (x d m : ℕ)
+    (old new : Option (List ℕ)) → d ≡ limits.depth → m ≡ limits.values → HasValue h d m x
+    → (result : Result (Result (Unit {0}) ExportError) E) → IfOk result (IsWhole h x old new)
+    → IfOk result (IsAnswered h limits x old new)
+whole_answered h limits x d m old new e f i (Ok (Ok tt)) w =
+    text_written h limits x d m old new e f i w
+whole_answered h limits x d m old new e f i (Ok (Err error)) w =
+    (subst (IsTooLarge h limits.depth limits.values x) (sym w.0) tt, w.1)
+whole_answered h limits x d m old new e f i (Err error) w = w

@@ -1,8 +1,11 @@
 -- The text of a value that is written in pieces.
-use Rattle.std.specs.Prelude.{ℕ, Bool, true, false, List, [], ◌∷◌, ◌++◌, Option}
+use Rattle.std.specs.Prelude.{◌≡◌, ℕ, Bool, true, false, List, [], ◌∷◌, ◌++◌, Option}
+use Rattle.std.specs.Prelude.{Result, Ok, Err}
 use Rattle.std.specs.Io.KnownBytes.{Appends}
 use Rattle.serde_json.specs.Data.{Data, string, Items, no_items, item, Members, no_members, member}
 use Rattle.serde_json.specs.Written.{comma_if, compact_text}
+use Rattle.pkjson.specs.declared.error.ExportError.{ExportError}
+use Rattle.pkjson.specs.declared.error.ExportError.TheVariants.{OutOfMemory}
 use Rattle.pkjson.specs.declared.writing.Part.{Part}
 use Rattle.pkjson.specs.declared.writing.Part.TheVariants as part
 use Rattle.pkjson.specs.Unfolds.{Heap, Unfolds, UnfoldItems, UnfoldMembers}
@@ -23,6 +26,12 @@ members_inside later (member k v ms) =
 -- the text of the object's value was written
 unfoldable pub Writes : Heap → ℕ → Option (List ℕ) → Option (List ℕ) → Type 0
 Writes h x old new = (v : Data) × Unfolds h x v × Appends old new (compact_text v)
+
+-- the text of the object's value was written, or, without memory for it, nothing
+abbrev pub IsWhole
+    : Heap → ℕ → Option (List ℕ) → Option (List ℕ) → Result (Unit {0}) ExportError → Type 0
+IsWhole h x old new (Ok u) = Writes h x old new
+IsWhole h x old new (Err error) = (error ≡ OutOfMemory) × (new ≡ old)
 
 -- the text of an array of the values of these objects was written, without its brackets
 unfoldable pub WritesItems : Heap → List ℕ → Option (List ℕ) → Option (List ℕ) → Type 0

@@ -7,9 +7,10 @@ use Rattle.pklist.specs.declared.allow.error.AllowError.{AllowError}
 use Rattle.pklist.specs.declared.allow.error.AllowError.TheVariants.{OutOfMemory}
 use Rattle.pklist.specs.ListFile.{Text, kept_or, or_else, is_two, version_fault, keys_fault}
 use Rattle.pklist.specs.ListFile.{module_fault, modules_fault, imports_fault, greatest_at}
-use Rattle.pklist.specs.ListFile.{greatest_where, is_large, key_fault, limit_fault}
+use Rattle.pklist.specs.ListFile.{greatest_where, is_large, is_unlimited, key_fault, limit_fault}
 use Rattle.pklist.specs.ListFile.{each_limit_fault, limits_fault, fault_of_document}
-use Rattle.pklist.specs.ListFile.{each_rule_fault, rules_fault}
+use Rattle.pklist.specs.ListFile.{each_rule_fault, rules_fault, each_substitute_fault}
+use Rattle.pklist.specs.ListFile.{substitutes_fault}
 
 abbrev IsOfRule : Option AllowError → Type 0
 IsOfRule fault = fault ≢ Some OutOfMemory
@@ -56,7 +57,7 @@ either false h g = g
 
 key_is : (most : Bounds) (key : Text) (value : Data) → IsOfRule (key_fault most key value)
 key_is most key value = either (bytes_eq key (codes "large")) (kept_or_is _ _ (λ h. cc))
-    (limit_is (greatest_at most key) value)
+    (either (is_unlimited key value) (λ h. cc) (limit_is (greatest_at most key) value))
 
 each_limit_is : (most : Bounds) (limits : Members) → IsOfRule (each_limit_fault most limits)
 each_limit_is most no_members = λ h. cc
@@ -78,10 +79,20 @@ rules_is : (value : Option Data) → IsOfRule (rules_fault value)
 rules_is (Some (table rules)) = each_rule_is rules
 rules_is _ = λ h. cc
 
+each_substitute_is : (substitutes : Members) → IsOfRule (each_substitute_fault substitutes)
+each_substitute_is no_members = λ h. cc
+each_substitute_is (member key value rest) =
+    or_else_is (kept_or_is _ _ (λ h. cc)) (each_substitute_is rest)
+
+substitutes_is : (value : Option Data) → IsOfRule (substitutes_fault value)
+substitutes_is (Some (table substitutes)) = each_substitute_is substitutes
+substitutes_is _ = λ h. cc
+
 pub fault_is : (document : Members) → fault_of_document document ≢ Some OutOfMemory
 fault_is document =
     or_else_is (version_is (get_member (codes "version") document))
     (or_else_is (keys_is (is_two (get_member (codes "version") document)) document)
     (or_else_is (imports_is (get_member (codes "imports") document))
     (or_else_is (limits_is (get_member (codes "limits") document))
-    (rules_is (get_member (codes "rules") document)))))
+    (or_else_is (rules_is (get_member (codes "rules") document))
+    (substitutes_is (get_member (codes "substitutes") document))))))

@@ -20,6 +20,7 @@ imports_refused :
     ∷ (codes "version = 1.0", Err (Shape part.Version))
     ∷ (codes "version = 3\nlimits = 1", Err Version)
     ∷ (codes "version = 1\nlimits = 1", Err (Shape part.TopKey))
+    ∷ (codes "version = 1\nimports = {}\nsubstitutes = {}", Err (Shape part.TopKey))
     ∷ (codes "version = 1", Err (Shape part.Imports))
     -- modules are judged in byte order, not in the order of the file
     ∷ (codes "version = 1\nimports = { b = [1], a = 2 }", Err (Shape part.Module))
@@ -64,6 +65,10 @@ limits_refused :
     ∷ (codes "limits = { large = true, stack = 4294967296 }", Err (Shape part.Limit))
     -- the limits on costs have their own greatest values
     ∷ (codes "limits = { levels = 4294967296 }", Err (Shape part.Limit))
+    -- no key has more levels or a greater weight than are counted
+    ∷ (codes "limits = { levels = 1023 }", Err (Shape part.Limit))
+    ∷ (codes "limits = { weight = 1048575 }", Err (Shape part.Limit))
+    ∷ (codes "limits = { weight = 4294967294 }", Err (Shape part.Limit))
     ∷ (codes "limits = { work = -1 }", Err (Shape part.Limit))
     ∷ [])
 unfolding toml_on_literals
@@ -85,13 +90,18 @@ limits_set :
 unfolding toml_on_literals
 limits_set = refl
 
--- the rules are judged last, and the table before its keys
+-- the rules are judged behind the limits, the substitutes last, and each table before its keys
 rules_refused :
     Gives (λ text. list_of (no_imports text))
     ((codes "limits = 1\nrules = 1", Err (Shape part.Limits))
     ∷ (codes "rules = 1", Err (Shape part.Rules))
     ∷ (codes "rules = { call = 1 }", Err (Shape part.RuleKey))
     ∷ (codes "rules = { build = \"all\" }", Err (Shape part.Rule))
+    ∷ (codes "rules = 1\nsubstitutes = 1", Err (Shape part.Rules))
+    ∷ (codes "substitutes = []", Err (Shape part.Substitutes))
+    ∷ (codes "substitutes = { a = 1 }", Err (Shape part.Substitute))
+    ∷ (codes "substitutes = { \"\" = \"a\" }", Err (Shape part.Substitute))
+    ∷ (codes "[substitutes]\na.b = \"c\"", Err (Shape part.Substitute))
     ∷ [])
 unfolding toml_on_literals
 rules_refused = refl
@@ -119,6 +129,15 @@ costs_said :
     ∷ (
       codes "limits = { weight = 1, clash = 0, memory = 9 }",
       record nothing { weight = Some 1; clash = Some 0; memory = Some 9 },
+    )
+    ∷ (
+      codes "limits = { levels = 1022, weight = 1048574 }",
+      record nothing { levels = Some 1_022; weight = Some 1_048_574 },
+    )
+    -- the number that says that there is no limit
+    ∷ (
+      codes "limits = { levels = 4294967295, weight = 4294967295 }",
+      record nothing { levels = Some 4_294_967_295; weight = Some 4_294_967_295 },
     )
     ∷ (codes "rules = { build = \"made\" }", record nothing { builds = Some false })
     ∷ (codes "rules = { build = \"any\" }", record nothing { builds = Some true })

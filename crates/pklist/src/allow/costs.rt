@@ -4,8 +4,9 @@ ghost use Rattle.toml.specs.Data.{get_member};
 ghost use Rattle.toml.specs.View.{table_view, view};
 ghost use Rattle.pklist.specs.Allow.{are_unsaid};
 ghost use Rattle.pklist.specs.ListFile.{build_in, build_word, cost_limits_in, each_rule_fault};
-ghost use Rattle.pklist.specs.ListFile.{greatest_cost, greatest_sum, greatest_weight};
-ghost use Rattle.pklist.specs.ListFile.{limit_said, rule_fault, rules_fault, value_in};
+ghost use Rattle.pklist.specs.ListFile.{greatest_cost, greatest_sum, is_unlimited};
+ghost use Rattle.pklist.specs.ListFile.{limit_said, rule_fault, rules_fault, unlimited_key};
+ghost use Rattle.pklist.specs.ListFile.{value_in};
 
 use crate::allow::rules::value_at;
 use crate::allow::{AllowError, Where};
@@ -15,9 +16,9 @@ use toml::{Table, Value};
 /// read it; `pkload` does.
 #[derive(Clone, Copy, Debug, PartialEq, Eq)]
 pub struct CostLimits {
-    /// The most levels of tuples in a key.
+    /// The most levels of tuples in a key, at most 1,022; 4,294,967,295 is no limit.
     pub levels: Option<u32>,
-    /// The greatest weight of a key.
+    /// The greatest weight of a key, at most 1,048,574; 4,294,967,295 is no limit.
     pub weight: Option<u32>,
     /// The greatest weight of all keys together.
     pub work: Option<u64>,
@@ -59,7 +60,7 @@ pub fn cost_limits_in(limits: Option<&Value>, rules: Option<&Value>) -> CostLimi
 }
 
 /// The value at a key of a table, if both are there.
-fn value_in<'a>(table: Option<&'a Value>, key: &str) -> Option<&'a Value>
+pub fn value_in<'a>(table: Option<&'a Value>, key: &str) -> Option<&'a Value>
     ensures { option_map (λ v. view v.now) result
         ≡ value_in key.now (option_map (λ v. view v.now) table.entry) }
 {
@@ -69,9 +70,9 @@ fn value_in<'a>(table: Option<&'a Value>, key: &str) -> Option<&'a Value>
     }
 }
 
-/// A limit on the cost of a key.
+/// A limit on the cost of a key, or the number that says that there is none.
 fn weight_said(value: Option<&Value>) -> Option<u32>
-    ensures { result ≡ limit_said greatest_weight (option_map (λ v. view v.now) value.entry) }
+    ensures { result ≡ limit_said unlimited_key (option_map (λ v. view v.now) value.entry) }
 {
     match value {
         Some(Value::Integer(number)) => {
@@ -105,12 +106,26 @@ fn sum_said(value: Option<&Value>) -> Option<u64>
 pub fn greatest_cost(key: &str) -> Option<u64>
     ensures { result ≡ greatest_cost key.now }
 {
-    if key == "levels" || key == "weight" {
-        Some(4_294_967_295)
+    if key == "levels" {
+        Some(1_022)
+    } else if key == "weight" {
+        Some(1_048_574)
     } else if key == "work" || key == "clash" || key == "memory" {
         Some(9_223_372_036_854_775_807)
     } else {
         None
+    }
+}
+
+/// Whether the value says that there is no limit on levels or weights.
+pub fn is_unlimited(key: &str, value: &Value) -> bool
+    ensures { result ≡ is_unlimited key.now (view value.now) }
+{
+    match value {
+        Value::Integer(number) => {
+            (key == "levels" || key == "weight") && *number == 4_294_967_295
+        }
+        _ => false,
     }
 }
 

@@ -5,11 +5,11 @@ ghost use Rattle.toml.specs.View.{table_view, view};
 ghost use Rattle.pkops.specs.Limits.{AreWithin};
 ghost use Rattle.pklist.specs.ListFile.{each_limit_fault, greatest_at, greatest_where, is_large};
 ghost use Rattle.pklist.specs.ListFile.{is_limit, is_true_value, key_fault, large_fault};
-ghost use Rattle.pklist.specs.ListFile.{limit_fault};
+ghost use Rattle.pklist.specs.ListFile.{is_unlimited, limit_fault};
 ghost use Rattle.pklist.specs.ListFile.{limit_or, limits_among, limits_at, limits_fault};
 ghost use Rattle.pklist.specs.ListFile.{limits_in, table_fault};
 
-use crate::allow::costs::greatest_cost;
+use crate::allow::costs::{greatest_cost, is_unlimited};
 use crate::allow::rules::value_at;
 use crate::allow::{AllowError, Where};
 use pkops::Limits;
@@ -90,6 +90,8 @@ fn key_fault(most: &Limits, key: &str, value: &Value) -> Option<AllowError>
 {
     if key == "large" {
         large_fault(value)
+    } else if is_unlimited(key, value) {
+        None
     } else {
         limit_fault(greatest_at(most, key), value)
     }

@@ -3,12 +3,14 @@ ghost use Rattle.std.specs.Prelude.{◌≡◌, option_map};
 ghost use Rattle.toml.specs.Data.{get_member};
 ghost use Rattle.toml.specs.View.{array_view, table_view, view};
 ghost use Rattle.pklist.specs.ListFile.{are_names, fault_of_document, imports_fault};
-ghost use Rattle.pklist.specs.ListFile.{is_name_value, is_top_key};
+ghost use Rattle.pklist.specs.ListFile.{is_name_value, is_table_of_two, is_top_key};
 ghost use Rattle.pklist.specs.ListFile.{is_two, keys_fault, module_fault, modules_fault};
-ghost use Rattle.pklist.specs.ListFile.{limits_fault, rules_fault, version_fault};
+ghost use Rattle.pklist.specs.ListFile.{limits_fault, rules_fault, substitutes_fault};
+ghost use Rattle.pklist.specs.ListFile.{version_fault};
 
 use crate::allow::costs::rules_fault;
 use crate::allow::limits::limits_fault;
+use crate::allow::substitutes::substitutes_fault;
 use crate::allow::{AllowError, Where};
 use toml::{Table, Value};
 
@@ -32,7 +34,11 @@ pub fn document_fault(document: &Table) -> Option<AllowError>
     if limits.is_some() {
         return limits;
     }
-    rules_fault(value_at(document, "rules"))
+    let rules = rules_fault(value_at(document, "rules"));
+    if rules.is_some() {
+        return rules;
+    }
+    substitutes_fault(value_at(document, "substitutes"))
 }
 
 /// The value at a key.
@@ -53,7 +59,7 @@ fn version_fault(value: Option<&Value>) -> Option<AllowError>
     }
 }
 
-/// Whether the version is 2, which allows limits and rules.
+/// Whether the version is 2, which allows limits, rules and substitutes.
 fn is_two(version: Option<&Value>) -> bool
     ensures { result ≡ is_two (option_map (λ v. view v.now) version.entry) }
 {
@@ -77,7 +83,14 @@ fn keys_fault(document: &Table, limited: bool) -> Option<AllowError>
 fn is_top_key(limited: bool, key: &str) -> bool
     ensures { result ≡ is_top_key limited key.now }
 {
-    key == "version" || key == "imports" || (limited && (key == "limits" || key == "rules"))
+    key == "version" || key == "imports" || (limited && is_table_of_two(key))
+}
+
+/// Whether the key is that of a table beside `imports`.
+fn is_table_of_two(key: &str) -> bool
+    ensures { result ≡ is_table_of_two key.now }
+{
+    key == "limits" || key == "rules" || key == "substitutes"
 }
 
 fn imports_fault(value: Option<&Value>) -> Option<AllowError>

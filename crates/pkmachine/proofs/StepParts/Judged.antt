@@ -16,10 +16,11 @@ use Rattle.pkmachine.specs.Runs.{Text}
 use Rattle.pkops.specs.Limits.{Bounds}
 use Rattle.pkops.specs.declared.Reason.{Reason}
 use Rattle.pkops.specs.declared.Reason.TheVariants as reason
-use Rattle.pkmachine.specs.Private.Slots.{StandsIf, known}
+use Rattle.pkmachine.specs.Private.Slots.{StandsIf, known, value_known}
 use Rattle.pkmachine.specs.declared.operate.StepError.{StepError}
 use Rattle.pkimport.specs.declared.import.Named.{Named}
 use Rattle.pkimport.specs.Table.{named_asked}
+use Rattle.pkmachine.specs.declared.held.Held.{Held}
 use Rattle.pkmachine.specs.declared.value.Value.{Value}
 use Rattle.pkmachine.specs.declared.value.Value.TheVariants.{Made}
 use Rattle.std.specs.List.{slice_get}
@@ -154,28 +155,30 @@ pub within_errs : (x : Result Progress Refusal) (l : Bounds) (n : ℕ) (d : Step
 within_errs x l n d (f, e, g, h) = (f, rw e refl, g, h)
 
 wrong_any : (ts : List (List ℕ)) (w : Wanted) (v : Value) (ks : List Known)
-    → wrong_first w (known ts v ∷ []) ≡ wrong_first w (known ts v ∷ ks)
+    → wrong_first w (value_known ts v ∷ []) ≡ wrong_first w (value_known ts v ∷ ks)
 wrong_any ts w (Made c) ks = refl
 wrong_any ts w _ ks = refl
 
-pub wrong_head : (ts : List (List ℕ)) (w : Wanted) (vs : List Value) (v : Value)
-    → Some v ≡ slice_get vs 0 → wrong_first w (known ts v ∷ []) ≡ wrong_first w (map (known ts) vs)
-wrong_head ts w (u ∷ vs) v e = let f : v ≡ u = cc in rw f (wrong_any ts w u (map (known ts) vs))
+pub wrong_head : {I : Type 0} (ts : List (List ℕ)) (w : Wanted) (vs : List (Held I))
+    (v : Held I) → Some v ≡ slice_get vs 0
+    → wrong_first w (known ts v ∷ []) ≡ wrong_first w (map (known ts) vs)
+wrong_head ts w (u ∷ vs) v e = let f : v ≡ u = cc in
+    rw f (wrong_any ts w u.value (map (known ts) vs))
 wrong_head ts w [] v e = cc
 
-pub wrong_none : (ts : List (List ℕ)) (w : Wanted) (vs : List Value) → None ≡ slice_get vs 0
-    → false ≡ wrong_first w (map (known ts) vs)
+pub wrong_none : {I : Type 0} (ts : List (List ℕ)) (w : Wanted) (vs : List (Held I))
+    → None ≡ slice_get vs 0 → false ≡ wrong_first w (map (known ts) vs)
 wrong_none ts w [] e = refl
 wrong_none ts w (u ∷ vs) e = cc
 
-given_some : (ts : List (List ℕ)) (v : Option Value) (o : Option Known) → IsSome v → StandsIf ts v o
-    → (k : Known) × (o ≡ Some k)
+given_some : {I : Type 0} (ts : List (List ℕ)) (v : Option (Held I)) (o : Option Known)
+    → IsSome v → StandsIf ts v o → (k : Known) × (o ≡ Some k)
 given_some ts (Some v) (Some k) s h = (k, refl)
 given_some ts (Some v) None s h = absurd h
 given_some ts None o s h = cc
 
-pub given_none : (ts : List (List ℕ)) (v : Option Value) (o : Option Known) → v ≡ None
-    → StandsIf ts v o → o ≡ None
+pub given_none : {I : Type 0} (ts : List (List ℕ)) (v : Option (Held I)) (o : Option Known)
+    → v ≡ None → StandsIf ts v o → o ≡ None
 given_none ts None None e h = refl
 given_none ts None (Some k) e h = absurd h
 given_none ts (Some v) o e h = cc
@@ -202,8 +205,9 @@ module _ (p : Policy) (takes : Takes) (names : Names) (gives : Gives) (i : Instr
     g ∙ some_named us a,
   )
 
-  pub unroomed : (ts : List (List ℕ)) (v : Option Value) → StandsIf ts v (known_given gives i)
-      → (l : Bounds) (r : Reason) → IsSome v → WantsRoom l.stack (length t.below) r
+  pub unroomed : {I : Type 0} (ts : List (List ℕ)) (v : Option (Held I))
+      → StandsIf ts v (known_given gives i) → (l : Bounds) (r : Reason) → IsSome v
+      → WantsRoom l.stack (length t.below) r
       → IsRefusedWith (and_then (learn p (Operates takes names gives) i k) (within l 0))
       (record { reason = r; pair = None }) ⊎ (MayOperate names gives × IsForMemory
       (record { reason = r; pair = None }))

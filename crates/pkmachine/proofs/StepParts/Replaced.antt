@@ -3,18 +3,19 @@ use Rattle.std.proofs.Common.{◌≡◌, ℕ, zero, suc, ◌+◌, ◌<◌, ◌�
 use Rattle.std.proofs.Common.{Option, Some, None, Ok, false, map, refl, ap, arith, length-append}
 use Rattle.pkops.specs.Limits.{Bounds}
 use Rattle.pkops.specs.Spelling.{Instruction}
+use Rattle.pkmachine.specs.declared.held.Held.{Held}
 use Rattle.pkmachine.specs.declared.value.Value.{Value}
 use Rattle.pkmachine.specs.Effects.{Effect, Operates, fills, Gives, Leaves, NoName, Objects, Wanted}
 use Rattle.pkmachine.specs.Knowledge.{Known, known_given, wrong_first, wrong_receiver}
-use Rattle.pkstack.specs.Places.{ItemsFrom, Replaced, above, below}
-use Rattle.pkmachine.specs.Private.NamelessOperations.{HasOperated, HasReplaced, Replaces}
-use Rattle.pkmachine.specs.Private.NamelessOperations.{StaysSeen}
+use Rattle.pkstack.specs.Places.{ItemsFrom, above, below}
+use Rattle.pkmachine.specs.Private.NamelessOperations.{HasOperated, HasReplaced, MakesOf}
+use Rattle.pkmachine.specs.Private.NamelessOperations.{Replaces, StaysSeen}
 use Rattle.pkmachine.specs.Private.Slots.{StandsIf, known, seen}
 use Rattle.pkstack.specs.Shape.{Entry, Item, Taken, items, put}
 use Rattle.pkmachine.proofs.ResolvedEntries.{found_is, found_seen, put_seen, put_sees}
 use Rattle.pkmachine.proofs.StepParts.Judged.{does_pass, judged_ok}
 
-items_long : (count : ℕ) (es : List (Entry Value)) (above : List Value) (t : Taken Value)
+items_long : {A : Type 0} (count : ℕ) (es : List (Entry A)) (above : List A) (t : Taken A)
     → items count es above ≡ Ok t → length es ≡ count + length t.below
 items_long zero es above t e = let is : es ≡ t.below = cc in rw is (omega arith)
 items_long (suc count) (Item x ∷ es) above t e =
@@ -26,8 +27,9 @@ put_short None (k ∷ ks) = omega arith
 put_short _ _ = omega arith
 
 -- an operation that found its operands and can take the first of them
-module _ (count : ℕ) (v : Option Value) (gives : Gives) (old new : List (Entry Value))
-    (t : Taken Value) (e : items count old [] ≡ Ok t) (is : new ≡ put v t.operands ++ t.below)
+module _ {I : Type 0} (count : ℕ) (v : Option (Held I)) (gives : Gives)
+    (old new : List (Entry (Held I))) (t : Taken (Held I)) (e : items count old [] ≡ Ok t)
+    (is : new ≡ put v t.operands ++ t.below)
     (given : (ts : List (List ℕ)) (i : Instruction) → StandsIf ts v (known_given gives i))
     (right : (ts : List (List ℕ)) → wrong_receiver gives (map (known ts) t.operands) ≡ false)
     (some : 0 < count) where
@@ -55,16 +57,18 @@ module _ (count : ℕ) (v : Option Value) (gives : Gives) (old new : List (Entry
   }
 
 -- a new object about which this is known, whatever the operands are
-pub has_replaced : (count : ℕ) (v : Value) (gives : Gives) (old new : List (Entry Value))
-    → ((ts : List (List ℕ)) (i : Instruction) → StandsIf ts (Some v) (known_given gives i))
-    → ((ks : List Known) → wrong_receiver gives ks ≡ false) → 0 < count → Replaced count v old new
+pub has_made : {I : Type 0} (count : ℕ) (v : Value) (gives : Gives)
+    (old new : List (Entry (Held I))) → ((ts : List (List ℕ)) (i : Instruction) (item : I)
+    → StandsIf ts (Some (record { value = v; item = item })) (known_given gives i))
+    → ((ks : List Known) → wrong_receiver gives ks ≡ false) → 0 < count → MakesOf count v old new
     → Instruction → HasReplaced (Operates (Objects count) NoName gives) old new
-has_replaced count v gives old new given right some (t, e, is) i =
-    operated count (Some v) gives old new t e is given (λ ts. right (map (known ts) t.operands))
-    some i
+has_made count v gives old new given right some (place, item, from, is) i =
+    operated count (Some (record { value = v; item = item })) gives old new _ from.found is
+    (λ ts i. given ts i item) (λ ts. right (map (known ts) (above place old))) some i
 
 -- the receiver, which doesn't have a wrong class
-pub has_filled : (count place : ℕ) (wanted : Wanted) (old new : List (Entry Value))
+pub has_filled : {I : Type 0} (count place : ℕ) (wanted : Wanted)
+    (old new : List (Entry (Held I)))
     → ItemsFrom count place old
     → ((ts : List (List ℕ)) → wrong_first wanted (map (known ts) (above place old)) ≡ false)
     → 0 < count → new ≡ below (place + 1) old → Instruction
@@ -74,7 +78,7 @@ has_filled count place wanted old new from right some is i =
     right some i
 
 -- the operation whose operands were there answers within the limits
-pub has_operated : {A : Type 0} {answer : A} {e : Effect} {old new : List (Entry Value)}
+pub has_operated : {A I : Type 0} {answer : A} {e : Effect} {old new : List (Entry (Held I))}
     (limits : Bounds) → length old ≤ limits.stack → HasReplaced e old new
     → HasOperated limits e old new (Ok answer)
 has_operated limits within made = record {

@@ -4,11 +4,11 @@ use Rattle.std.specs.Borrow.{Bor}
 use Rattle.std.specs.Option.{option_map}
 use Rattle.pkops.specs.Operands.{pair_named}
 use Rattle.pkops.specs.Spelling.{Instruction}
-use Rattle.pkmachine.specs.declared.value.Value.{Value}
+use Rattle.pkmachine.specs.declared.held.Held.{Held}
 use Rattle.pkmachine.specs.Private.Slots.{IsNumbered}
 
 -- these objects refer only to the first `count` texts
-abbrev pub AreNumbered : ℕ → List Value → Type 0
+abbrev pub AreNumbered : {I : Type 0} → ℕ → List (Held I) → Type 0
 AreNumbered count [] = ⊤
 AreNumbered count (v ∷ vs) = IsNumbered count v × AreNumbered count vs
 

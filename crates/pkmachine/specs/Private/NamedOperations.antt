@@ -4,7 +4,7 @@ use Rattle.std.specs.Prelude.{ℕ, ◌≡◌, ◌≤◌, Bool, IfErr, IfOk, List
 use Rattle.std.specs.Prelude.{length}
 use Rattle.std.specs.Borrow.{Bor}
 use Rattle.pkmachine.specs.declared.operate.StepError.{StepError}
-use Rattle.pkmachine.specs.declared.value.Value.{Value}
+use Rattle.pkmachine.specs.declared.held.Held.{Held}
 use Rattle.pkmachine.specs.Effects.{Effect}
 use Rattle.pkmachine.specs.Knowledge.{Known, Knowledge, Policy, learn}
 use Rattle.pkmachine.specs.Private.Steps.{IsStepFault}
@@ -17,22 +17,22 @@ use Rattle.pkops.specs.Limits.{Bounds}
 use Rattle.pkops.specs.Spelling.{Instruction}
 
 -- the entries of the stack, and the import table
-pub record StackAndTable : Type 0 where
-  pub entries : List (Entry Value)
+pub record StackAndTable (I : Type 0) : Type 0 where
+  pub entries : List (Entry (Held I))
   pub table : Noted
 
 -- the entries refer only to texts in the table
-abbrev pub AreSeen : StackAndTable → Type 0
+abbrev pub AreSeen : {I : Type 0} → StackAndTable I → Type 0
 AreSeen here = Sees here.table.texts here.entries (seen here.table.texts here.entries)
 
 -- what is known, with this memo
-abbrev pub known_with : List (ℕ × Known) → StackAndTable → Knowledge
+abbrev pub known_with : {I : Type 0} → List (ℕ × Known) → StackAndTable I → Knowledge
 known_with memo here = record { entries = seen here.table.texts here.entries; memo = memo }
 
 -- what the operation answers, and what it does to the stack and the table, for every instruction
 -- that spells these names
-pub record HasImported (p : Policy) (limits : Bounds) (e : Effect)
-    (names : Option (Bor (List ℕ) × Bor (List ℕ))) (old new : StackAndTable)
+pub record HasImported {I : Type 0} (p : Policy) (limits : Bounds) (e : Effect)
+    (names : Option (Bor (List ℕ) × Bor (List ℕ))) (old new : StackAndTable I)
     (answer : Result Bool StepError) : Type 0 where
   pub ok : (i : Instruction) → Spells names i → (memo : List (ℕ × Known))
       → IfOk answer (Proceeds (learn p e i (known_with memo old)) (known_with memo new)

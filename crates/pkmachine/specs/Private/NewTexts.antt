@@ -24,7 +24,7 @@ with_reason (Ok x) = Ok x
 with_reason (Err why) = Err (reason_for why)
 
 -- the text is appended to the table, and its number is on top of the stack
-pub record HasPushedText {A : Type 0} (limit : ℕ) (text : List ℕ) (old new : StackAndTable)
+pub record HasPushedText {A I : Type 0} (limit : ℕ) (text : List ℕ) (old new : StackAndTable I)
     (answer : Result A Reason) : Type 0 where
   pub ok : OnOk answer (seen new.table.texts new.entries
       ≡ Item (Some (Text text)) ∷ seen old.table.texts old.entries)

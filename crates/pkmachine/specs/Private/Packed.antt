@@ -1,10 +1,7 @@
 -- How stack and memo hold what is known about an object in a number of four bytes.
 use Rattle.std.specs.Prelude.{◌≡◌, ⊤, ℕ, zero, suc, ◌+◌, ◌-◌, List, [], ◌∷◌, get_or, length}
-use Rattle.std.proofs.Common.{if◌then◌else◌, eqb, inl, inr, refl, sym, arith}
-use Rattle.std.proofs.lemmas.Bool.Decides.{eqb_tells}
+use Rattle.std.proofs.Common.{refl, arith}
 use Rattle.pkmachine.specs.declared.effect.Class.TheVariants as class
-use Rattle.pkstack.specs.declared.Slot.{Slot}
-use Rattle.pkstack.specs.declared.Slot.TheVariants as slot
 use Rattle.pkmachine.specs.declared.value.Value.{Value}
 use Rattle.pkmachine.specs.declared.value.Value.TheVariants as value
 
@@ -62,19 +59,3 @@ packed_unpacked code = coded 0 plain_values (
 -- the code of a mark, which no value has
 abbrev pub mark : ℕ
 mark = 4294967295
-
--- what a cell with a code holds
-abbrev pub cell_held : ℕ → Slot Value
-cell_held code = if eqb code mark then slot.Mark else slot.Object (unpacked code)
-
--- the code of the cell that holds this
-abbrev pub cell_code : Slot Value → ℕ
-cell_code slot.Mark = mark
-cell_code (slot.Object v) = packed v
-
--- cells that hold the same have the same code
-pub cell_injective : (code : ℕ) → cell_code (cell_held code) ≡ code
-cell_injective code = elim (eqb_tells code mark) [
-  | inl same ↦ rw same.0 (sym same.1)
-  | inr other ↦ rw other.0 (packed_unpacked code)
-]

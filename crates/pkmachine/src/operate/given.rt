@@ -4,19 +4,20 @@ ghost use Rattle.pkstack.specs.Places.{above, below};
 ghost use Rattle.pkstack.specs.Shape.{front, marks_of, put};
 ghost use Rattle.pkstack.specs.Faults.{WantsRoom};
 
-use crate::packed::PackedValue;
+use crate::domain::Item;
+use crate::held::Held;
 use crate::stack::Stack;
 use pkops::{Limits, Reason};
 
 /// Replaces the operands with a value. Without a value, it keeps the first operand and removes the
 /// others. `marks` is the number of marks below the place.
 #[inline(always)]
-pub fn give(
-    stack: &mut Stack,
+pub fn give<I: Item>(
+    stack: &mut Stack<I>,
     limits: &Limits,
     place: usize,
     marks: usize,
-    value: Option<PackedValue>,
+    value: Option<Held<I>>,
 ) -> Result<(), Reason>
     requires at { place ≤ length stack.old }
     requires marks { marks ≡ marks_of (below place stack.old) }

@@ -15,6 +15,7 @@ ghost use Rattle.pkops.specs.Spelling.{Instruction, Pair, instruction};
 
 use crate::asking::asked_by;
 use crate::config::MachineConfig;
+use crate::domain::{Domain, Item};
 use crate::effects::{Operation, operation_of};
 use crate::operate::StepError;
 use crate::operate::given::give;
@@ -38,17 +39,18 @@ pub struct Spelled<'a> {
 /// An operation that imports a pair, with the names in its lines, and the policy that it obeys.
 #[derive(Clone, Copy)]
 struct Request<'a> {
+    op: Op,
     operation: Operation,
     names: Option<(&'a str, &'a str)>,
     policy: &'a Permit<'a>,
 }
 
 /// Checks the class of the receiver and the import. Returns the import, if there is one.
-fn permitted_name<'a>(
+fn permitted_name<'a, I: Item>(
     alloc: Global,
     request: &Request<'a>,
     table: &ImportTable,
-    operands: &Operands<'_>,
+    operands: &Operands<'_, I>,
 ) -> Result<Option<Named<'a>>, StepError>
     requires numbered { AreNumbered (length table.now.texts) operands.now }
     ensures ok { (i : Instruction) → Spells request.now.names i
@@ -88,8 +90,9 @@ fn names_of<'a>(spelled: &Spelled<'a>) -> Option<(&'a str, &'a str)>
 }
 
 /// Replaces the operands of an operation that imports a pair. Returns whether an import was listed.
-fn replace_named(
-    stack: &mut Stack,
+fn replace_named<D: Domain>(
+    stack: &mut Stack<D::Item>,
+    domain: &mut D,
     table: &mut ImportTable,
     config: &MachineConfig,
     request: &Request<'_>,
@@ -106,7 +109,8 @@ fn replace_named(
     let found = stack.find(request.operation.takes)?;
     let operands = stack.operands(found.place);
     let named = permitted_name(config.alloc, request, table, &operands)?;
-    let value = value_of(request.operation.gives);
+    let item = domain.operated(request.op, &operands);
+    let value = value_of(request.operation.gives, item);
     let count = table.len();
     let is_import = table.list(named)?;
     match give(stack, &config.limits, found.place, found.marks, value) {
@@ -119,8 +123,9 @@ fn replace_named(
 }
 
 /// Applies the operation of an opcode that may import a pair. Returns whether an import was listed.
-pub fn operate_named(
-    stack: &mut Stack,
+pub fn operate_named<D: Domain>(
+    stack: &mut Stack<D::Item>,
+    domain: &mut D,
     table: &mut ImportTable,
     config: &MachineConfig,
     spelled: &Spelled<'_>,
@@ -136,9 +141,10 @@ pub fn operate_named(
         (record { entries = stack.new; table = table.new }) result }
 {
     let request = Request {
+        op: spelled.op,
         operation: operation_of(spelled.op),
         names: names_of(spelled),
         policy,
     };
-    replace_named(stack, table, config, &request)
+    replace_named(stack, domain, table, config, &request)
 }

@@ -1,9 +1,10 @@
 //! Checks the class of an operation's receiver.
 ghost use Rattle.std.specs.Prelude.{◌≡◌, ℕ, List, [], ◌∷◌, map};
-ghost use Rattle.pkmachine.specs.Private.Slots.{known};
+ghost use Rattle.pkmachine.specs.Private.Slots.{known, value_known};
 ghost use Rattle.pkmachine.specs.Runs.{Plain};
 ghost use Rattle.pkmachine.specs.Knowledge.{suits, wrong_first, wrong_receiver};
 
+use crate::domain::Item;
 use crate::effect::{Class, Gives, Wanted};
 use crate::stack::Operands;
 use crate::value::Value;
@@ -48,7 +49,7 @@ pub fn class_suits(wanted: Wanted, class: Class) -> bool
 
 /// Whether a value is known to have the wrong class.
 pub fn is_wrong(wanted: Wanted, value: Value) -> bool
-    ensures { (ts : List (List ℕ)) → result ≡ wrong_first wanted (known ts value ∷ []) }
+    ensures { (ts : List (List ℕ)) → result ≡ wrong_first wanted (value_known ts value ∷ []) }
 {
     if let Wanted::WantsAny = wanted {
         return false;
@@ -62,14 +63,14 @@ pub fn is_wrong(wanted: Wanted, value: Value) -> bool
 
 /// Whether the receiver of an operation is known to have the wrong class.
 #[inline(always)]
-pub fn receiver_fault(gives: Gives, operands: &Operands<'_>) -> bool
+pub fn receiver_fault<I: Item>(gives: Gives, operands: &Operands<'_, I>) -> bool
     ensures { (ts : List (List ℕ)) → result ≡ wrong_receiver gives (map (known ts) operands.now) }
 {
     let Gives::Leaves(wanted) = gives else {
         return false;
     };
     match operands.first() {
-        Some(value) => is_wrong(wanted, value.value()),
+        Some(held) => is_wrong(wanted, held.value.value()),
         None => false,
     }
 }

@@ -105,7 +105,7 @@ pub fn objects_place<V: Copy + Drop, C: Cell<V>>(
 }
 
 /// The place of the topmost entry, if it is an object.
-pub fn one_object<V: Copy + Drop, C: Cell<V>>(slots: &[Packed<V, C>]) -> Option<usize>
+fn one_object<V: Copy + Drop, C: Cell<V>>(slots: &[Packed<V, C>]) -> Option<usize>
     ensures { MatchOption result (items 1 (shown slots.now []) [] ≡ Err NoItem)
         (λ n. (n + 1 ≡ length slots.now) × AllObjects (drop n slots.now)) }
 {
@@ -119,7 +119,7 @@ pub fn one_object<V: Copy + Drop, C: Cell<V>>(slots: &[Packed<V, C>]) -> Option<
 }
 
 /// The place of the lower one of the topmost two entries, if both are objects.
-pub fn two_objects<V: Copy + Drop, C: Cell<V>>(slots: &[Packed<V, C>]) -> Option<usize>
+fn two_objects<V: Copy + Drop, C: Cell<V>>(slots: &[Packed<V, C>]) -> Option<usize>
     ensures { MatchOption result (items 2 (shown slots.now []) [] ≡ Err NoItem)
         (λ n. (n + 2 ≡ length slots.now) × AllObjects (drop n slots.now)) }
 {
@@ -152,8 +152,8 @@ fn three_objects<V: Copy + Drop, C: Cell<V>>(slots: &[Packed<V, C>]) -> Option<u
     Some(second - 1)
 }
 
-/// The place of the lowest one of the topmost `count` entries, if `count` is 2 or 3 and all of them
-/// are objects.
+/// The place of the lowest one of the topmost `count` entries, if `count` is 1, 2 or 3 and all of
+/// them are objects.
 pub fn few_objects<V: Copy + Drop, C: Cell<V>>(
     slots: &[Packed<V, C>],
     count: usize,
@@ -162,6 +162,7 @@ pub fn few_objects<V: Copy + Drop, C: Cell<V>>(
         (λ n. IsFew count × (n + count ≡ length slots.now) × AllObjects (drop n slots.now)) }
 {
     match count {
+        1 => one_object(slots),
         2 => two_objects(slots),
         3 => three_objects(slots),
         _ => None,

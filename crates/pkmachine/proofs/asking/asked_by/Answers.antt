@@ -5,7 +5,7 @@ use Rattle.pkmachine.proofs.asking.asked_by.Goals as goal
 
 pub returns-in_ok-operands_named-in-OfOperands-clause-within
     : goal.returns-in_ok-operands_named-in-OfOperands-clause-within
-returns-in_ok-operands_named-in-OfOperands-clause-within c count h =
+returns-in_ok-operands_named-in-OfOperands-clause-within g c count h =
     let n = subst (AreNumbered count) c.in-Some-pair.ensures h in
     c.in_ok-operands_named-in-OfOperands.ensures.within count
     (rw c.value.ensures n.0) (rw c.value-in-OfOperands.ensures n.1.0)

@@ -6,10 +6,11 @@ use Rattle.pkmachine.proofs.PushedTexts.{text_added}
 use Rattle.pkmachine.proofs.new_text.name_any_text.Goals as goal
 
 pub returns-in-Ok : goal.returns-in-Ok
-returns-in-Ok c =
-    text_added c.args.limits.now.stack c.args.text.now _ c.requires.sees c.add_pushed_text.result
-    c.push.new.self c.args.table.now _ _
+returns-in-Ok g c =
+    text_added c.args.limits.now.stack c.args.text.now c.args.item _ c.requires.sees
+    c.add_pushed_text.result c.push.new.self c.args.table.now _ _
     (c.in-Ok.ensures.ok
-    ∙ ap (λ v. Item v ∷ c.args.stack.now) (c.in-Some.ensures ∙ ap value.Text c.texts.ensures))
+    ∙ ap (λ v. Item (record { value = v; item = c.args.item }) ∷ c.args.stack.now)
+    (c.in-Some.ensures ∙ ap value.Text c.texts.ensures))
     c.in-Ok.ensures.room refl c.len-place.ensures c.add_pushed_text.ensures.pushed
     c.add_pushed_text.ensures.added c.add_pushed_text.ensures.err

@@ -9,7 +9,7 @@ use Rattle.pkmachine.proofs.StepParts.PushedObjects.{not_pushed, of_action}
 use Rattle.pkmachine.proofs.stepping.advance.Goals as goal
 
 pub returns-in_err-make-in-Makes-clause-err : goal.returns-in_err-make-in-Makes-clause-err
-returns-in_err-make-in-Makes-clause-err c =
+returns-in_err-make-in-Makes-clause-err g c =
     let q = err_from_is_err_and c.from_residual.result c.from_residual.ensures.1 in
     rw (q.1, q.2, c.requires.none)
     (not_pushed c.args.config.now.old_strings (permit_of c.args.policy.now)
@@ -21,7 +21,7 @@ returns-in_err-make-in-Makes-clause-err c =
 
 pub returns-in_err-make-in-MakesIntOrBool-clause-err
     : goal.returns-in_err-make-in-MakesIntOrBool-clause-err
-returns-in_err-make-in-MakesIntOrBool-clause-err c =
+returns-in_err-make-in-MakesIntOrBool-clause-err g c =
     let q = err_from_is_err_and c.from_residual-in_err-make-in-MakesIntOrBool.result
     c.from_residual-in_err-make-in-MakesIntOrBool.ensures.1 in
     rw (q.1, q.2, c.requires.none)
@@ -34,7 +34,7 @@ returns-in_err-make-in-MakesIntOrBool-clause-err c =
 
 pub returns-in_err-make_text-in-MakesText-clause-err
     : goal.returns-in_err-make_text-in-MakesText-clause-err
-returns-in_err-make_text-in-MakesText-clause-err c =
+returns-in_err-make_text-in-MakesText-clause-err g c =
     let q = err_from_is_err_and c.from_residual-in_err-make_text-in-MakesText.result
     c.from_residual-in_err-make_text-in-MakesText.ensures.1 in
     rw (q.1, q.2, c.requires.none)
@@ -46,14 +46,14 @@ returns-in_err-make_text-in-MakesText-clause-err c =
 
 pub returns-in_err-read_copy-in-ReadsOldString-clause-err
     : goal.returns-in_err-read_copy-in-ReadsOldString-clause-err
-returns-in_err-read_copy-in-ReadsOldString-clause-err c =
+returns-in_err-read_copy-in-ReadsOldString-clause-err g c =
     let q = err_from_is_err_and c.from_residual-in_err-read_copy-in-ReadsOldString.result
     c.from_residual-in_err-read_copy-in-ReadsOldString.ensures.1 in
     rw (q.1, q.2, c.requires.none)
     (c.in_err-read_copy-in-ReadsOldString.ensures.err (permit_of c.args.policy.now))
 
 pub returns-in_err-apply-in-Moves-clause-err : goal.returns-in_err-apply-in-Moves-clause-err
-returns-in_err-apply-in-Moves-clause-err c =
+returns-in_err-apply-in-Moves-clause-err g c =
     let q = err_from_is_err_and c.from_residual-in_err-apply-in-Moves.result
     c.from_residual-in_err-apply-in-Moves.ensures.1 in
     rw (q.1, q.2, c.requires.none)
@@ -68,7 +68,7 @@ returns-in_err-apply-in-Moves-clause-err c =
 
 pub returns-in_err-operate-in-Operates-clause-err
     : goal.returns-in_err-operate-in-Operates-clause-err
-returns-in_err-operate-in-Operates-clause-err c =
+returns-in_err-operate-in-Operates-clause-err g c =
     let q = err_from_is_err_and c.from_residual-in_err-operate-in-Operates.result
     c.from_residual-in_err-operate-in-Operates.ensures.1 in
     rw (q.1, q.2, c.requires.none)
@@ -83,7 +83,7 @@ returns-in_err-operate-in-Operates-clause-err c =
     (instruction_of c.args.inst.now)))
 
 pub returns-in_ok-operate-in-Operates-clause-ok : goal.returns-in_ok-operate-in-Operates-clause-ok
-returns-in_ok-operate-in-Operates-clause-ok c =
+returns-in_ok-operate-in-Operates-clause-ok g c =
     let same : effect_as c.args.config.now.old_strings (instruction_of c.args.inst.now)
     ≡ effect_of c.op-op.result = of_action c.args.config.now.old_strings
     (instruction_of c.args.inst.now) _ _ _ c.op-op.ensures.op c.action_of.ensures.effect

@@ -13,7 +13,7 @@ use Rattle.pkmachine.proofs.StepParts.PushedObjects.{old_unknown}
 use Rattle.pkmachine.proofs.stepping.read_old_string.Goals as goal
 
 pub returns-in-Unknown : goal.returns-in-Unknown
-returns-in-Unknown c = record {
+returns-in-Unknown g c = record {
   ok = λ p. grind (arith, common_steps);
   room = grind (arith, common_steps);
   texts = grind (arith, common_steps);
@@ -26,7 +26,7 @@ returns-in-Unknown c = record {
 }
 
 pub returns-in-Bytes : goal.returns-in-Bytes
-returns-in-Bytes c = record {
+returns-in-Bytes g c = record {
   ok = λ p. grind (arith, common_steps);
   room = grind (arith, common_steps);
   texts = grind (arith, common_steps);
@@ -40,7 +40,7 @@ returns-in-Bytes c = record {
 }
 
 pub returns-then-is_ascii : goal.returns-then-is_ascii
-returns-then-is_ascii c = record {
+returns-then-is_ascii g c = record {
   ok = λ p. grind (arith, common_steps);
   room = grind (arith, common_steps);
   texts = grind (arith, common_steps);
@@ -54,7 +54,7 @@ returns-then-is_ascii c = record {
 }
 
 pub returns-else-is_ascii : goal.returns-else-is_ascii
-returns-else-is_ascii c = record {
+returns-else-is_ascii g c = record {
   ok = λ p. tt;
   room = tt;
   texts = tt;
@@ -68,7 +68,7 @@ returns-else-is_ascii c = record {
 }
 
 pub returns-in_err-is_ascii-in-Ascii : goal.returns-in_err-is_ascii-in-Ascii
-returns-in_err-is_ascii-in-Ascii c =
+returns-in_err-is_ascii-in-Ascii g c =
     let q = err_from_is_err_and c.from_residual.result c.from_residual.ensures.1 in
     rw (q.1, q.2) (record {
       ok = λ p. tt;

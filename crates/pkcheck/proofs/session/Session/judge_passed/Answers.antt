@@ -6,7 +6,7 @@ use Rattle.pkcheck.proofs.Wholes.Payloads.{piece_passed}
 use Rattle.pkcheck.proofs.session.Session.judge_passed.Goals as goal
 
 pub returns-clause-ok : goal.returns-clause-ok
-returns-clause-ok c i l =
+returns-clause-ok g c i l =
     let before = c.self.inside in
     let piece = piece_passed i c.args.op c.args.length c.requires.passed l in
     let framed = subst (λ x. counted before.frames x ≡ Some c.take.new.self) (sym piece)
@@ -15,7 +15,7 @@ returns-clause-ok c i l =
     rw (← c.self.view_is) (framed, (c.in_ok-step_passed_by.field-0, goes_on))
 
 pub returns-in_err-step_passed_by-clause-err : goal.returns-in_err-step_passed_by-clause-err
-returns-in_err-step_passed_by-clause-err c =
+returns-in_err-step_passed_by-clause-err g c =
     let p = err_from_is_err_and c.from_residual-in_err-step_passed_by.result
     c.from_residual-in_err-step_passed_by.ensures.1 in
     let before = c.self.inside in

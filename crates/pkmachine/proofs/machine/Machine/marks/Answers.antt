@@ -5,8 +5,8 @@ use Rattle.pkmachine.proofs.OpenMarks.{marks_alike}
 use Rattle.pkmachine.proofs.machine.Machine.marks.Goals as goal
 
 pub returns-clause-known : goal.returns-clause-known
-returns-clause-known c = rw (← c.self.view_is) c.marks.ensures
+returns-clause-known g c = rw (← c.self.view_is) c.marks.ensures
 
 pub returns-clause-covered : goal.returns-clause-covered
-returns-clause-covered c s h = returns-clause-known c
+returns-clause-covered g c s h = returns-clause-known g c
     ∙ marks_alike (TrueOf s.objects) c.args.self.now.knowledge.entries s.shape.entries h.entries

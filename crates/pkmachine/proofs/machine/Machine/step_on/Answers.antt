@@ -11,7 +11,7 @@ use Rattle.pkmachine.proofs.StepParts.Settings.{not_raised, texts_by_setting}
 use Rattle.pkmachine.proofs.machine.Machine.step_on.Goals as goal
 
 pub returns-in-Ok-clause-step : goal.returns-in-Ok-clause-step
-returns-in-Ok-clause-step c =
+returns-in-Ok-clause-step g c =
     let g = c.in-Ok.ensures.ok in
     let k : Knowledge = c.advance.new.state.knowledge in
     let fresh = ap (λ (v : View). v.refused) c.self.view_is ∙ c.requires.well in
@@ -34,7 +34,7 @@ returns-in-Ok-clause-step c =
     ) c.requires.well
 
 pub returns-in-Ok-clause-texts : goal.returns-in-Ok-clause-texts
-returns-in-Ok-clause-texts c =
+returns-in-Ok-clause-texts g c =
     let g = c.in-Ok.ensures.ok in
     rw (← c.self.view_is) (c.in-Ok.ensures.texts ∙ texts_by_setting c.self.inside.config.old_strings
     (instruction_of c.args.inst.now) c.self.inside.state.texts
@@ -43,7 +43,7 @@ returns-in-Ok-clause-texts c =
     (instruction_of c.args.inst.now) c.self.inside.state.knowledge _ g.1))
 
 pub returns-in-Err-clause-step : goal.returns-in-Err-clause-step
-returns-in-Err-clause-step c =
+returns-in-Err-clause-step g c =
     let kept = c.in-Err.ensures.kept in
     let (v, long) = longest c.bounded_names.ensures c.args.policy.now in
     fails (permit_of c.args.policy.now) (instruction_of c.args.inst.now) c.args.self.now _

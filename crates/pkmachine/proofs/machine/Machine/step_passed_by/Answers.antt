@@ -14,7 +14,7 @@ use Rattle.pkmachine.proofs.StepParts.SkippedPayloads.{lacks_room, passed_admitt
 use Rattle.pkmachine.proofs.machine.Machine.step_passed_by.Goals as goal
 
 pub returns-in-Ok-clause-step : goal.returns-in-Ok-clause-step
-returns-in-Ok-clause-step c i same =
+returns-in-Ok-clause-step g c i same =
     let p = permit_of c.args.policy.now in
     let e = passed_effect c.args.self.now.old_strings i
     (subst (λ o. IsTrue (is_passed o)) (sym same) c.requires.passed)
@@ -28,7 +28,7 @@ returns-in-Ok-clause-step c i same =
       knowledge = c.in-Ok.ensures.ok j;
       limits = c.self.inside.config.limits;
       old_strings = c.self.inside.config.old_strings;
-      imports = c.make.ensures.imports j;
+      imports = c.make_passed.ensures.imports j;
       off = option_map asked_shown c.self.inside.off;
       refused = c.self.inside.refused;
       stopped = c.self.inside.stopped;
@@ -37,7 +37,7 @@ returns-in-Ok-clause-step c i same =
     (rw (← c.self.view_is) c.in_default.is)
 
 pub returns-in-Err-clause-step : goal.returns-in-Err-clause-step
-returns-in-Err-clause-step c i same =
+returns-in-Err-clause-step g c i same =
     let p = permit_of c.args.policy.now in
     let e = passed_effect c.args.self.now.old_strings i
     (subst (λ o. IsTrue (is_passed o)) (sym same) c.requires.passed)

@@ -2,7 +2,7 @@
 use Rattle.pkmachine.proofs.operate.named.operate_named.Goals as goal
 
 pub returns : goal.returns
-returns c =
+returns g c =
     let h = c.replace_named.ensures in
     let is = c.operation_of.ensures c.requires.operation in
     record {

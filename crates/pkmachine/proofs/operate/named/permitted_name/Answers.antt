@@ -10,7 +10,7 @@ use Rattle.pkmachine.proofs.operate.named.permitted_name.Goals as goal
 use Rattle.pkmachine.proofs.operate.named.permitted_name.Goals.{in-Some+in_ok-permit, in_default}
 
 pub returns-then-receiver_fault-clause-err : goal.returns-then-receiver_fault-clause-err
-returns-then-receiver_fault-clause-err c i spelled = inl (
+returns-then-receiver_fault-clause-err g c i spelled = inl (
   WrongClass,
   judged_wrong (permit_of c.args.request.now.policy.now)
       c.args.request.now.operation.names c.args.request.now.operation.gives i
@@ -21,7 +21,7 @@ returns-then-receiver_fault-clause-err c i spelled = inl (
 )
 
 pub returns-in_err-named-clause-err : goal.returns-in_err-named-clause-err
-returns-in_err-named-clause-err c =
+returns-in_err-named-clause-err g c =
     let p = err_from_is_err_and c.from_residual.result c.from_residual.ensures.1 in
     rw (p.1, p.2) (λ i spelled. let a = c.in_err-named.ensures.err i c.args.table.now.texts in
     inl (
@@ -35,7 +35,7 @@ returns-in_err-named-clause-err c =
     ))
 
 pub returns-in_err-permit-clause-err : goal.returns-in_err-permit-clause-err
-returns-in_err-permit-clause-err c =
+returns-in_err-permit-clause-err g c =
     let p = err_from_is_err_and c.from_residual-in_err-permit.result
     c.from_residual-in_err-permit.ensures.1 in
     rw (p.1, p.2) (λ i spelled.
@@ -56,7 +56,7 @@ returns-in_err-permit-clause-err c =
     ])
 
 pub returns-clause-ok : goal.returns-clause-ok
-returns-clause-ok c i spelled =
+returns-clause-ok g c i spelled =
     let asks = c.in_ok-named.ensures.ok i spelled c.args.table.now.texts in
     let judges = judged_ok (permit_of c.args.request.now.policy.now)
     c.args.request.now.operation.names c.args.request.now.operation.gives i
@@ -68,5 +68,5 @@ returns-clause-ok c i spelled =
     ]
 
 pub returns-clause-within : goal.returns-clause-within
-returns-clause-within c = c.in_ok-named.ensures.within
+returns-clause-within g c = c.in_ok-named.ensures.within
     (length c.args.table.now.texts) c.requires.numbered

@@ -15,7 +15,7 @@ use Rattle.pkmachine.proofs.StepParts.Judged.{judged_name, unroomed, left_there,
 use Rattle.pkmachine.proofs.operate.named.replace_named.Goals as goal
 
 pub returns-in_err-found : goal.returns-in_err-found
-returns-in_err-found c =
+returns-in_err-found g c =
     let p = err_from_is_err_and c.from_residual.result c.from_residual.ensures.1 in
     let texts = c.args.table.now.texts in
     let entries = c.args.stack.now in
@@ -35,7 +35,7 @@ returns-in_err-found c =
     })
 
 pub returns-in_err-named : goal.returns-in_err-named
-returns-in_err-named c =
+returns-in_err-named g c =
     let p = err_from_is_err_and c.from_residual-in_err-named.result
     c.from_residual-in_err-named.ensures.1 in
     let texts = c.args.table.now.texts in
@@ -60,7 +60,7 @@ returns-in_err-named c =
     })
 
 pub permitted_name-requires : goal.permitted_name-requires
-permitted_name-requires c =
+permitted_name-requires g c =
     let is = found_is c.args.table.now.texts c.args.request.now.operation.takes c.args.stack.now
     c.requires.sees _ c.in_ok-found.ensures.ok in
     record {
@@ -69,7 +69,7 @@ permitted_name-requires c =
     }
 
 pub give-requires-clause-first : goal.give-requires-clause-first
-give-requires-clause-first c e =
+give-requires-clause-first g c e =
     let i = instruction op.None Nothing in
     c.in_ok-found.ensures.first
     (left_there c.args.request.now.operation.takes c.args.request.now.operation.gives i
@@ -78,7 +78,7 @@ give-requires-clause-first c e =
     (c.value_of-value.ensures c.args.table.now.texts i)))
 
 pub give-requires-clause-there : goal.give-requires-clause-there
-give-requires-clause-there c e =
+give-requires-clause-there g c e =
     let i = instruction op.None Nothing in
     c.in_ok-found.ensures.there
     (left_there c.args.request.now.operation.takes c.args.request.now.operation.gives i
@@ -87,7 +87,7 @@ give-requires-clause-there c e =
     (c.value_of-value.ensures c.args.table.now.texts i)))
 
 pub returns-in_err-is_import : goal.returns-in_err-is_import
-returns-in_err-is_import c =
+returns-in_err-is_import g c =
     let p = err_from_is_err_and c.from_residual-in_err-is_import.result
     c.from_residual-in_err-is_import.ensures.1 in
     let o = c.args.request.now.operation in
@@ -109,7 +109,7 @@ returns-in_err-is_import c =
     })
 
 pub returns-in-Ok : goal.returns-in-Ok
-returns-in-Ok c =
+returns-in-Ok g c =
     let texts = c.args.table.now.texts in
     let entries = c.args.stack.now in
     let o = c.args.request.now.operation in
@@ -135,7 +135,7 @@ returns-in-Ok c =
     }
 
 pub returns-in-Err : goal.returns-in-Err
-returns-in-Err c =
+returns-in-Err g c =
     let texts = c.args.table.now.texts in
     let entries = c.args.stack.now in
     let o = c.args.request.now.operation in

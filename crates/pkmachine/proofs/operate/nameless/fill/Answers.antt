@@ -6,7 +6,7 @@ use Rattle.pkmachine.proofs.StepParts.Replaced.{has_filled}
 use Rattle.pkmachine.proofs.operate.nameless.fill.Goals as goal
 
 pub returns-clause-done : goal.returns-clause-done
-returns-clause-done c done =
+returns-clause-done g c done =
     has_filled c.args.count c.in-Some.place c.args.wanted c.args.stack.now _ c.in-Some.ensures.1
-    (λ ts. rw c.operands.ensures at (sym (c.if-receiver_fault.ensures ts))) c.requires
+    (λ ts. rw c.operands-operands.ensures at (sym (c.if-receiver_fault.ensures ts))) c.requires
     c.end_with.ensures (instruction op.None Nothing)

@@ -4,9 +4,9 @@ use Rattle.pkmachine.proofs.StepParts.Operations.{unnamed_is}
 use Rattle.pkmachine.proofs.operate.nameless.operate.Goals as goal
 
 pub returns : goal.returns
-returns c =
-    let is = unnamed_is (effect_of c.args.op) c.operation_of-operation.result c.requires.unnamed
-    c.operation_of-operation.ensures in
+returns g c =
+    let is = unnamed_is (effect_of c.args.op) c.operation_of.result c.requires.unnamed
+    c.operation_of.ensures in
     record {
       ok = rw is c.replace.ensures.ok;
       sees = c.replace.ensures.sees;

@@ -3,17 +3,17 @@ use Rattle.pkmachine.proofs.StepParts.Replaced.{has_operated}
 use Rattle.pkmachine.proofs.operate.nameless.operate_unnamed.Goals as goal
 
 pub returns-then-make_quickly : goal.returns-then-make_quickly
-returns-then-make_quickly c = has_operated c.args.limits.now c.requires.within
+returns-then-make_quickly g c = has_operated c.args.limits.now c.requires.within
     (c.make_quickly.ensures.done c.if-make_quickly.true)
 
 pub returns-then-fill_quickly : goal.returns-then-fill_quickly
-returns-then-fill_quickly c = rw (← (c.make_quickly.ensures.kept c.if-make_quickly.false))
+returns-then-fill_quickly g c = rw (← (c.make_quickly.ensures.kept c.if-make_quickly.false))
     (has_operated c.args.limits.now
     (rw (c.make_quickly.ensures.kept c.if-make_quickly.false) c.requires.within)
     (c.fill_quickly.ensures.done c.if-fill_quickly.true))
 
 pub returns : goal.returns
-returns c = rw (
+returns g c = rw (
   ← (c.make_quickly.ensures.kept c.if-make_quickly.false),
   ← (c.fill_quickly.ensures.kept c.if-fill_quickly.false),
 ) c.operate_any.ensures

@@ -16,69 +16,72 @@ use Rattle.pkmachine.proofs.StepParts.Judged.{given_none}
 use Rattle.pkmachine.proofs.operate.nameless.replace.Goals as goal
 
 pub returns-in_err-found-clause-err : goal.returns-in_err-found-clause-err
-returns-in_err-found-clause-err c =
+returns-in_err-found-clause-err g c =
     let q = err_from_is_err_and c.from_residual.result c.from_residual.ensures.1 in
     rw (q.1, q.2) (λ ts sees p i m. inl (within_errs _ c.args.limits.now 0
     (record { reason = c.in_err-found.field-0.0; pair = None })
-    (lack_errs p c.args.takes NoName c.args.gives i (record
+    (lack_errs p c.args.operation.takes NoName c.args.operation.gives i (record
     { entries = seen ts c.args.stack.now; memo = m }) c.in_err-found.field-0.0
-    (found_lacks ts c.args.takes c.args.stack.now sees c.in_err-found.field-0.0
+    (found_lacks ts c.args.operation.takes c.args.stack.now sees c.in_err-found.field-0.0
     c.in_err-found.ensures.err))))
 
 pub returns-then-receiver_fault-clause-err : goal.returns-then-receiver_fault-clause-err
-returns-then-receiver_fault-clause-err c ts sees p i m =
-    let found = found_seen ts c.args.takes c.args.stack.now sees _ c.in_ok-found.ensures.ok in
+returns-then-receiver_fault-clause-err g c ts sees p i m =
+    let found = found_seen ts c.args.operation.takes c.args.stack.now sees _
+    c.in_ok-found.ensures.ok in
     let wrong = rw c.operands-operands.ensures at (sym (c.if-receiver_fault.ensures ts)) in
     inl (within_errs _ c.args.limits.now 0 (record { reason = reason.WrongClass; pair = None })
-    (judged_errs p c.args.takes NoName c.args.gives i (record
+    (judged_errs p c.args.operation.takes NoName c.args.operation.gives i (record
     { entries = seen ts c.args.stack.now; memo = m }) _ (record
     { reason = reason.WrongClass; pair = None }) found (
       WrongClass,
-      judged_wrong p NoName c.args.gives i _ wrong,
+      judged_wrong p NoName c.args.operation.gives i _ wrong,
       refl,
       refl,
     )))
 
 pub give-requires-clause-first : goal.give-requires-clause-first
-give-requires-clause-first c e =
+give-requires-clause-first g c e =
     let i = instruction op.None Nothing in
     c.in_ok-found.ensures.first
-    (left_there c.args.takes c.args.gives i c.requires.given
-    (given_none [] c.value_of.result _ e (c.value_of.ensures [] i)))
+    (left_there c.args.operation.takes c.args.operation.gives i c.requires.given
+    (given_none [] c.value_of-value.result _ e (c.value_of-value.ensures [] i)))
 
 pub give-requires-clause-there : goal.give-requires-clause-there
-give-requires-clause-there c e =
+give-requires-clause-there g c e =
     let i = instruction op.None Nothing in
     c.in_ok-found.ensures.there
-    (left_there c.args.takes c.args.gives i c.requires.given
-    (given_none [] c.value_of.result _ e (c.value_of.ensures [] i)))
+    (left_there c.args.operation.takes c.args.operation.gives i c.requires.given
+    (given_none [] c.value_of-value.result _ e (c.value_of-value.ensures [] i)))
 
 pub returns-in-Ok-clause-ok : goal.returns-in-Ok-clause-ok
-returns-in-Ok-clause-ok c ts sees p i m listed =
-    let found = found_seen ts c.args.takes c.args.stack.now sees _ c.in_ok-found.ensures.ok in
-    let is = found_is ts c.args.takes c.args.stack.now sees _ c.in_ok-found.ensures.ok in
+returns-in-Ok-clause-ok g c ts sees p i m listed =
+    let found = found_seen ts c.args.operation.takes c.args.stack.now sees _
+    c.in_ok-found.ensures.ok in
+    let is = found_is ts c.args.operation.takes c.args.stack.now sees _ c.in_ok-found.ensures.ok in
     let right = rw c.operands-operands.ensures at (sym (c.if-receiver_fault.ensures ts)) in
-    let put = put_seen ts c.value_of.result _ (c.value_of.ensures ts i) _ is in
-    does_pass p c.args.takes NoName c.args.gives i
+    let put = put_seen ts c.value_of-value.result _ (c.value_of-value.ensures ts i) _ is in
+    does_pass p c.args.operation.takes NoName c.args.operation.gives i
     (record { entries = seen ts c.args.stack.now; memo = m }) _ ts None found
-    (judged_ok p NoName c.args.gives i _ right None refl)
+    (judged_ok p NoName c.args.operation.gives i _ right None refl)
     (seen ts c.give.new.stack) listed listed _ (ap (seen ts) c.in-Ok.ensures.ok ∙ put) refl refl
 
 pub returns-in-Ok-clause-sees : goal.returns-in-Ok-clause-sees
-returns-in-Ok-clause-sees c ts sees =
+returns-in-Ok-clause-sees g c ts sees =
     let i = instruction op.None Nothing in
-    let is = found_is ts c.args.takes c.args.stack.now sees _ c.in_ok-found.ensures.ok in
+    let is = found_is ts c.args.operation.takes c.args.stack.now sees _ c.in_ok-found.ensures.ok in
     rw c.in-Ok.ensures.ok
-    (put_sees ts c.value_of.result _ (c.value_of.ensures ts i) _ is)
+    (put_sees ts c.value_of-value.result _ (c.value_of-value.ensures ts i) _ is)
 
 pub returns-in-Err-clause-err : goal.returns-in-Err-clause-err
-returns-in-Err-clause-err c ts sees p i m =
-    let found = found_seen ts c.args.takes c.args.stack.now sees _ c.in_ok-found.ensures.ok in
+returns-in-Err-clause-err g c ts sees p i m =
+    let found = found_seen ts c.args.operation.takes c.args.stack.now sees _
+    c.in_ok-found.ensures.ok in
     let right = rw c.operands-operands.ensures at (sym (c.if-receiver_fault.ensures ts)) in
-    unroomed p c.args.takes NoName c.args.gives i
+    unroomed p c.args.operation.takes NoName c.args.operation.gives i
     (record { entries = seen ts c.args.stack.now; memo = m }) _ ts None found
-    (judged_ok p NoName c.args.gives i _ right None refl)
-    ts c.value_of.result (c.value_of.ensures ts i) c.args.limits.now c.in-Err.reason
+    (judged_ok p NoName c.args.operation.gives i _ right None refl)
+    ts c.value_of-value.result (c.value_of-value.ensures ts i) c.args.limits.now c.in-Err.reason
     c.in-Err.ensures.err.1
     (rw (
       length_seen,

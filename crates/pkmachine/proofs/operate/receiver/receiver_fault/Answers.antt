@@ -4,11 +4,11 @@ use Rattle.pkmachine.proofs.StepParts.Judged.{wrong_head, wrong_none}
 use Rattle.pkmachine.proofs.operate.receiver.receiver_fault.Goals as goal
 
 pub returns-in-Some : goal.returns-in-Some
-returns-in-Some c ts = rw c.in-Leaves.is
+returns-in-Some g c ts = rw c.in-Leaves.is
     ((let l = rw c.value.ensures at c.is_wrong.ensures ts in l)
-    ∙ wrong_head ts c.in-Leaves.wanted c.args.operands.now c.in-Some.value
+    ∙ wrong_head ts c.in-Leaves.wanted c.args.operands.now c.in-Some.held
     c.in-Some.ensures)
 
 pub returns-in-None : goal.returns-in-None
-returns-in-None c ts =
+returns-in-None g c ts =
     rw c.in-Leaves.is (wrong_none ts c.in-Leaves.wanted c.args.operands.now c.in-None.ensures)

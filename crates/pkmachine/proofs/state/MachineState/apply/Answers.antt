@@ -14,7 +14,7 @@ on_both R P Q (Ok a) f g h k = f h
 on_both R P Q (Err e) f g h k = g e k
 
 pub invariant_of-self : goal.invariant_of-self
-invariant_of-self c =
+invariant_of-self g c =
     on_both _ _ _ c.apply.result
     (λ e. moved_resolves c.self.inside.table.texts c.args.what
     (memo_number (instruction_of c.args.inst.now))
@@ -23,7 +23,7 @@ invariant_of-self c =
     (λ r h. rw (h.0, h.1) c.self.invariant) c.apply.ensures.ok c.apply.ensures.err
 
 pub returns-clause-ok : goal.returns-clause-ok
-returns-clause-ok c =
+returns-clause-ok g c =
     rw (← c.self.view_is)
     (on_ok_weaker c.apply.result (λ e. moved_seen c.self.inside.table.texts c.args.what
     (memo_number (instruction_of c.args.inst.now)) (record
@@ -31,7 +31,7 @@ returns-clause-ok c =
     (record { entries = c.apply.new.stack; memo = c.apply.new.memo }) e) c.apply.ensures.ok)
 
 pub returns-clause-err : goal.returns-clause-err
-returns-clause-err c =
+returns-clause-err g c =
     rw (← c.self.view_is)
     (IfErr-weaker c.apply.result _ _
     (λ r h. (

@@ -6,7 +6,7 @@ use Rattle.pkmachine.proofs.ResolvedEntries.{length_seen, top_seen}
 use Rattle.pkmachine.proofs.state.MachineState.finish.Goals as goal
 
 pub returns-then-len-gt1-clause-err : goal.returns-then-len-gt1-clause-err
-returns-then-len-gt1-clause-err c =
+returns-then-len-gt1-clause-err g c =
     let e = top_seen c.self.inside.table.texts c.self.inside.stack _ c.in_ok-top.ensures.ok in
     let n = length_seen c.self.inside.table.texts c.self.inside.stack in
     rw (← c.self.view_is)

@@ -11,13 +11,13 @@ on_err P Q (Ok a) f h = h
 on_err P Q (Err r) f h = f r h
 
 pub invariant_of-self : goal.invariant_of-self
-invariant_of-self c = operate_resolves c.make_text.result c.self.inside.table
+invariant_of-self g c = operate_resolves c.make_text.result c.self.inside.table
     c.make_text.new.table c.self.inside.stack c.make_text.new.stack c.self.inside.memo
     c.self.invariant c.make_text.ensures.sees c.make_text.ensures.grows
     (on_err _ _ c.make_text.result (λ r h. (h.0, h.1)) c.make_text.ensures.err)
 
 pub returns-clause-ok : goal.returns-clause-ok
-returns-clause-ok c =
+returns-clause-ok g c =
     rw (← c.self.view_is)
     (item_learned c.make_text.result c.self.inside.table.texts c.make_text.new.table.texts
     c.self.inside.memo c.self.inside.stack c.make_text.new.stack

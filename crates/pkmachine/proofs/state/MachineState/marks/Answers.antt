@@ -4,5 +4,5 @@ use Rattle.pkmachine.proofs.ResolvedEntries.{marks_seen}
 use Rattle.pkmachine.proofs.state.MachineState.marks.Goals as goal
 
 pub returns : goal.returns
-returns c = rw (← c.self.view_is)
+returns g c = rw (← c.self.view_is)
     (c.marks.ensures ∙ marks_seen c.self.inside.table.texts c.self.inside.stack)

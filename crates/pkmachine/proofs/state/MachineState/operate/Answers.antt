@@ -4,7 +4,7 @@ use Rattle.pkmachine.specs.Private.Slots.{remembered}
 use Rattle.pkmachine.proofs.state.MachineState.operate.Goals as goal
 
 pub returns-in_err-operate_unnamed-clause-err : goal.returns-in_err-operate_unnamed-clause-err
-returns-in_err-operate_unnamed-clause-err c p i =
+returns-in_err-operate_unnamed-clause-err g c p i =
     let q = err_from_is_err_and c.from_residual.result c.from_residual.ensures.1 in
     rw (q.1, q.2)
     (rw (← c.self.view_is)
@@ -12,7 +12,7 @@ returns-in_err-operate_unnamed-clause-err c p i =
     i (remembered c.self.inside.table.texts c.self.inside.memo)))
 
 pub invariant_of-self-2 : goal.invariant_of-self-2
-invariant_of-self-2 c =
+invariant_of-self-2 g c =
     record {
       entries = c.in_ok-operate_unnamed.ensures.sees c.self.inside.table.texts
           c.self.invariant.entries;
@@ -20,6 +20,6 @@ invariant_of-self-2 c =
     }
 
 pub returns-clause-ok : goal.returns-clause-ok
-returns-clause-ok c p i = rw (← c.self.view_is)
+returns-clause-ok g c p i = rw (← c.self.view_is)
     (c.in_ok-operate_unnamed.ensures.ok c.self.inside.table.texts c.self.invariant.entries p i
     (remembered c.self.inside.table.texts c.self.inside.memo) c.self.inside.table.asked)

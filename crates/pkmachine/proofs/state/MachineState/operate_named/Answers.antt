@@ -11,14 +11,14 @@ use Rattle.pkmachine.proofs.ResolvedEntries.{operate_resolves, remembered_on, ta
 use Rattle.pkmachine.proofs.state.MachineState.operate_named.Goals as goal
 
 pub invariant_of-self : goal.invariant_of-self
-invariant_of-self c =
+invariant_of-self g c =
     let h = c.operate_named.ensures in
     operate_resolves c.operate_named.result c.self.inside.table c.operate_named.new.table
     c.self.inside.stack c.operate_named.new.stack c.self.inside.memo c.self.invariant h.sees
     (table_kept _ _ _ h.texts) h.kept
 
 pub returns-clause-ok : goal.returns-clause-ok
-returns-clause-ok c =
+returns-clause-ok g c =
     let h = c.operate_named.ensures in
     let old = c.self.inside in
     let new = c.operate_named.new in
@@ -41,7 +41,7 @@ returns-clause-ok c =
     (remembered old.table.texts old.memo))))
 
 pub returns-clause-err : goal.returns-clause-err
-returns-clause-err c =
+returns-clause-err g c =
     let old = c.self.inside in
     rw (← c.self.view_is)
     (subst (λ o. IfErr c.operate_named.result (λ d. IsStepFault (permit_of c.args.policy.now)

@@ -1,4 +1,4 @@
--- Two or three objects on top of the slots are as many items on top of the stack.
+-- One to three objects on top of the slots are as many items on top of the stack.
 use Rattle.pkstack.proofs.Places.{few_from}
 use Rattle.pkstack.proofs.stack.Stack.find_few.Goals as goal
 

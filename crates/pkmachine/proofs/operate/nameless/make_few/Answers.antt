@@ -1,0 +1,12 @@
+-- So many objects on top have no mark among them, so all marks lie below the lowest one.
+use Rattle.std.proofs.Common.{◌∙◌}
+use Rattle.pkmachine.proofs.operate.nameless.make_few.Goals as goal
+
+pub replace_all-requires-clause-at : goal.replace_all-requires-clause-at
+replace_all-requires-clause-at g c = c.in-Some.ensures.1.there c.requires
+
+pub replace_all-requires-clause-marks : goal.replace_all-requires-clause-marks
+replace_all-requires-clause-marks g c = c.marks-marks.ensures ∙ c.in-Some.ensures.1.marks
+
+pub returns-clause-done : goal.returns-clause-done
+returns-clause-done g c done = (_, _, c.in-Some.ensures.1, c.replace_all.ensures)

@@ -1,0 +1,51 @@
+//! The domain that keeps nothing.
+
+use crate::domain::{Domain, Item};
+use crate::stack::Operands;
+use pkops::{Inst, Op};
+use pkstack::Move;
+
+/// Keeps nothing of any object.
+#[derive(Clone, Copy)]
+pub struct Nothing;
+
+/// What `Nothing` keeps of an object.
+#[derive(Clone, Copy)]
+pub struct NoItem;
+
+impl Item for NoItem {
+    ghost none = { record {} };
+
+    #[inline(always)]
+    fn none() -> NoItem {
+        NoItem
+    }
+}
+
+impl Domain for Nothing {
+    type Item = NoItem;
+
+    ghost given = { λ domain instruction items. record {} };
+
+    ghost after = { λ domain instruction items. domain };
+
+    ghost after_move = { λ domain what instruction. domain };
+
+    #[inline(always)]
+    fn made(&mut self, _inst: &Inst<'_>) -> NoItem {
+        NoItem
+    }
+
+    #[inline(always)]
+    fn passed(&mut self, _op: Op) -> NoItem {
+        NoItem
+    }
+
+    #[inline(always)]
+    fn operated(&mut self, _op: Op, _operands: &Operands<'_, NoItem>) -> NoItem {
+        NoItem
+    }
+
+    #[inline(always)]
+    fn moved(&mut self, _what: Move, _inst: &Inst<'_>) {}
+}
