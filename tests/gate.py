@@ -264,6 +264,14 @@ class Groups(Copies):
         status, lines = self.ran("./test", "--built", "rows", "library")
         self.assertEqual((status, self.counts(lines)), (1, [0, 2, 0]))
 
+    def test_a_script_that_hangs_fails(self) -> None:
+        self.script(self.copy / "python" / "make", "exit 1")
+        self.replace("test", " -k 9 2400", " -k 9 1")
+        status, lines = self.group("sleep 60", words=("--built",))
+        self.assertEqual((status, self.counts(lines)), (1, [0, 1, 1]), lines)
+        said = "failed: edits: tests/edits.py ended with status 124: it was stopped "
+        self.assertTrue([line for line in lines if line.startswith(said)], lines)
+
     def test_a_clean_environment(self) -> None:
         self.script(self.copy / "tests" / "edits.py", "env", "echo 1 passed, 0 failed")
         _, lines = self.ran("./test", "edits", PYTHONUNBUFFERED="1", PYTHONPATH="/x", LD_PRELOAD="")

@@ -19,7 +19,7 @@ from storklocker.metrics import CountingGuard
 
 HERE = Path(__file__).resolve().parent
 GOOD, HOSTILE = 1000, 50
-PATIENCE = 600
+PATIENCE = 300
 """Seconds that something takes at most on a busy machine; a wait ends when it is there."""
 LISTED = [
     ("datetime", "datetime"),

@@ -15,7 +15,8 @@ import time
 from pathlib import Path
 
 HERE = Path(__file__).resolve().parent
-SECONDS = 1800
+# After so many seconds a test hangs: it ends, and says where.
+SECONDS = 900
 # They mostly wait for their servers.
 TOGETHER = 2
 
@@ -42,7 +43,8 @@ def run(name):
     with tempfile.TemporaryDirectory() as marks, tempfile.TemporaryDirectory() as modules:
         path = os.pathsep.join([str(HERE), modules, *filter(None, [os.environ.get("PYTHONPATH")])])
         # (its clients would ask a server that has gone when they are cleared away)
-        words = [sys.executable, "-c", f"import os, {name}; {name}.run(); os._exit(0)"]
+        limit = f"import faulthandler; faulthandler.dump_traceback_later({SECONDS}, exit=True)"
+        words = [sys.executable, "-c", f"{limit}; import os, {name}; {name}.run(); os._exit(0)"]
         environment = {**os.environ, "PYTHONPATH": path, "STORKLOCKER_MARKS": marks}
         environment.update(PYTHONDONTWRITEBYTECODE="1", STORKLOCKER_MODULES=modules)
         began = time.monotonic()
@@ -60,17 +62,12 @@ def run(name):
 
 
 def ended(words, environment):
-    """The status of a process, which is None if it was stopped, and its output."""
+    """The status of a process and its output."""
     with tempfile.TemporaryFile("w+", encoding="utf-8", errors="replace") as output:
         both = {"stdout": output, "stderr": subprocess.STDOUT}
-        try:
-            ran = subprocess.run(words, cwd=HERE, env=environment, timeout=SECONDS, **both)
-        except subprocess.TimeoutExpired:
-            status = None
-        else:
-            status = ran.returncode
+        ran = subprocess.run(words, cwd=HERE, env=environment, **both)
         output.seek(0)
-        return status, output.read()
+        return ran.returncode, output.read()
 
 
 def main():

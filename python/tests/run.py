@@ -2,16 +2,20 @@
 
 import argparse
 import concurrent.futures
+import faulthandler
 import os
 import pathlib
 import re
 import subprocess
 import sys
+import tempfile
 import unittest
 
 HERE = pathlib.Path(__file__).resolve().parent
 # Several at a time, so that a wait costs little, and few, so that what is timed isn't disturbed.
 TOGETHER = min(4, os.cpu_count() or 1)
+# After so many seconds a file's tests hang: they end, and say where.
+LONGEST = 1800
 
 
 class Result(unittest.TextTestResult):
@@ -46,18 +50,16 @@ def said_of(name, patterns):
     words = [sys.executable, __file__, "--file", name]
     for pattern in patterns:
         words += ["-k", pattern]
-    ran = subprocess.run(
-        words,
-        stdin=subprocess.DEVNULL,
-        stdout=subprocess.PIPE,
-        stderr=subprocess.STDOUT,
-        encoding="utf-8",
-        errors="replace",
-    )
-    printed, _, last = ran.stdout.rstrip("\n").rpartition("\n")
+    # (no pipe, which what a test left behind would hold open)
+    with tempfile.TemporaryFile("w+", encoding="utf-8", errors="replace") as output:
+        both = {"stdout": output, "stderr": subprocess.STDOUT}
+        status = subprocess.run(words, stdin=subprocess.DEVNULL, **both).returncode
+        output.seek(0)
+        text = output.read()
+    printed, _, last = text.rstrip("\n").rpartition("\n")
     counts = re.fullmatch(r"(\d+) passed, (\d+) failed, (\d+) skipped", last)
     if counts is None:
-        return f"{ran.stdout}\nfailed: {name} ended with status {ran.returncode}", (0, 1, 0)
+        return f"{text}\nfailed: {name} ended with status {status}", (0, 1, 0)
     return printed, tuple(map(int, counts.groups()))
 
 
@@ -69,6 +71,7 @@ def main():
     parser.add_argument("--file", metavar="NAME", help="the tests of this file, in this process")
     asked = parser.parse_args()
     if asked.file:
+        faulthandler.dump_traceback_later(LONGEST, exit=True)
         return run_alone(asked.file, asked.k)
     names = sorted(path.name for path in HERE.glob("test_*.py"))
     sums = (0, 0, 0)
