@@ -11,12 +11,14 @@ NEEDS = ("numpy", "pandas", "sklearn")
 
 
 def seen(value, protocol):
-    """What a value is: the length of its pickle. A guard leaves out what pandas has cached, so that
-    a value of pandas is what it shows.
+    """What a value is: the lengths of its parts' pickles, since a guard copies an array that two
+    parts share. It leaves out what pandas has cached, so that a value of pandas is what it shows.
     """
     if type(value).__module__.partition(".")[0] == "pandas":
         return repr(value), repr(getattr(value, "dtypes", None))
-    return len(pickle.dumps(value, protocol))
+    held = None if isinstance(value, type) else getattr(value, "__dict__", None)
+    parts = held or {"": value}
+    return {name: len(pickle.dumps(part, protocol)) for name, part in parts.items()}
 
 
 def run():
