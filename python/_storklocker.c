@@ -256,42 +256,51 @@ static PyObject *imports(PyObject *module, PyObject *const *given, Py_ssize_t co
     return Py_BuildValue("NKN", made, wanted, room);
 }
 
-static PyObject *read_list(PyObject *Py_UNUSED(module), PyObject *args) {
-    const char *list;
+/* The text of a list, and room for what is copied of it. */
+struct listed {
+    const uint8_t *text;
+    size_t length, size;
+    PyObject *room;
+};
+
+static int parse_list(PyObject *args, struct listed *l) {
+    const char *text;
     Py_ssize_t length, size;
+    if (!PyArg_ParseTuple(args, "y#n", &text, &length, &size))
+        return 0;
+    *l = (struct listed){(const uint8_t *)text, (size_t)length, (size_t)size, NULL};
+    l->room = PyBytes_FromStringAndSize(NULL, size);
+    return l->room != NULL;
+}
+
+static uint8_t *room_of(const struct listed *l) {
+    return (uint8_t *)PyBytes_AsString(l->room);
+}
+
+static PyObject *read_list(PyObject *Py_UNUSED(module), PyObject *args) {
+    struct listed l;
     uint64_t wanted = 0;
     struct storklocker_verdict v;
     struct storklocker_settings s = STORKLOCKER_STANDARD;
-    if (!PyArg_ParseTuple(args, "y#n", &list, &length, &size))
+    if (!parse_list(args, &l))
         return NULL;
-    PyObject *room = PyBytes_FromStringAndSize(NULL, size);
-    if (room == NULL)
-        return NULL;
-    uint8_t *start = (uint8_t *)PyBytes_AsString(room);
-    storklocker_read_list(
-        (const uint8_t *)list, (size_t)length, start, (size_t)size, &s, &wanted, &v);
+    storklocker_read_list(l.text, l.length, room_of(&l), l.size, &s, &wanted, &v);
     return Py_BuildValue(
         "I(KKKKKI)(IIKKKI)KN", v.reason, s.counted, s.stack, s.memo, s.passed, s.numbers, s.large,
-        s.levels, s.weight, s.work, s.clash, s.memory, s.builds, wanted, room);
+        s.levels, s.weight, s.work, s.clash, s.memory, s.builds, wanted, l.room);
 }
 
 static PyObject *list_told(PyObject *Py_UNUSED(module), PyObject *args) {
-    const char *list;
-    Py_ssize_t length, size;
+    struct listed l;
     uint64_t wanted = 0;
     struct storklocker_verdict v;
     struct storklocker_said s = {0};
-    if (!PyArg_ParseTuple(args, "y#n", &list, &length, &size))
+    if (!parse_list(args, &l))
         return NULL;
-    PyObject *room = PyBytes_FromStringAndSize(NULL, size);
-    if (room == NULL)
-        return NULL;
-    uint8_t *start = (uint8_t *)PyBytes_AsString(room);
-    storklocker_list_told(
-        (const uint8_t *)list, (size_t)length, start, (size_t)size, &s, &wanted, &v);
+    storklocker_list_told(l.text, l.length, room_of(&l), l.size, &s, &wanted, &v);
     return Py_BuildValue(
         "I(IIIIIIII)KN", v.reason, s.limits, s.numbers, s.levels, s.weight, s.work, s.clash,
-        s.memory, s.build, wanted, room);
+        s.memory, s.build, wanted, l.room);
 }
 
 static PyMethodDef methods[] = {
