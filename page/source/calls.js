@@ -52,9 +52,9 @@ export function callsWhy(bytes, at) {
     calls.follow();
   } catch (error) {
     if (!(error instanceof NotFollowed)) throw error;
-    return "its calls can't be followed: it has what no pickler writes";
+    return "its calls can't be followed: no pickler writes such a pickle";
   }
   if (calls.place < 0) return "";
   const place = calls.place.toLocaleString("en");
-  return `at byte ${place} it calls what a call of its own has made`;
+  return `at byte ${place} it calls the result of its own call`;
 }

@@ -14,7 +14,7 @@ const INWARDS = new Set(
     + " __getattribute__ __globals__ __import__ __loader__ __mro__ __self__ __spec__ __subclasses__"
     + " __wrapped__ ag_frame cr_frame f_back f_builtins f_globals f_locals func_globals gi_frame"
     + " mro tb_frame").split(" "));
-const MAIN = { severity: "warning", why: "The import of this module runs it as a command." };
+const MAIN = { severity: "warning", why: "Importing this module runs it as a command." };
 const MAKING = [".__init__", ".__new__", ".__call__"];
 
 // The sections of the table: a header, and the lines under it.

@@ -125,8 +125,8 @@ function unread(path, kind) {
 export async function packedBehind(path, blob) {
   const front = new Uint8Array(await blob.slice(0, NUMPY.length).arrayBuffer());
   const isZlib = (front[0] & 0x8f) === 8 && (front[0] * 256 + front[1]) % 31 === 0;
-  if (begins(front, NUMPY)) return unread(path, "arrays behind a pickle");
-  return isZlib ? unread(path, "what is packed behind a pickle") : undefined;
+  if (begins(front, NUMPY)) return unread(path, "arrays after a pickle");
+  return isZlib ? unread(path, "packed contents after a pickle") : undefined;
 }
 
 // Whether it is LZMA alone, as packers begin it, which has no magic: its window, or a size that

@@ -13,16 +13,16 @@ const SENTENCES = {
   MissingItem: "there are too few objects on the stack",
   OddItems: "a dictionary gets a key without a value",
   WrongClass: "an object is of a class that the instruction doesn't take",
-  NotText: "the name of an import is no text",
+  NotText: "the name of an import isn't text",
   UnknownImport: "only the load decides what it imports",
   LeftOver: "more than one object is left at the end",
   OutOfMemory: "the page has no memory left",
   NotAscii: "an old string has a byte beyond ASCII",
   DeepKey: "a key has more levels than are permitted",
-  HeavyKeys: "a key, or all of them, weigh more than is permitted",
+  HeavyKeys: "a key, or all keys together, weigh more than is permitted",
   ManyKeys: "keys that can be made to collide weigh more than is permitted",
   MuchMemory: "loading takes more memory than is permitted",
-  BuildsImport: "BUILD would change what the pickle imports",
+  BuildsImport: "BUILD would change an imported object",
 };
 
 // Text from a file so that it can't be taken for anything else: nothing in it is invisible, turns

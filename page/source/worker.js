@@ -122,7 +122,7 @@ async function judgeJoblib(piece, part) {
 // What the bytes are, as `storklocker scan` calls it.
 function kindOf({ kind, isTorch }, number) {
   if (!isTorch) return kind ?? "pickle";
-  return number <= TORCH_PICKLES ? "torch" : "behind a torch file";
+  return number <= TORCH_PICKLES ? "torch" : "after a torch file";
 }
 
 async function largePiece(piece) {

@@ -148,7 +148,7 @@ def reloads(daemon):
     assert daemon.measure("storklocker_serve_stale_lists") == 1
     daemon.list.write_text('version = 2\n\n[imports]\nfractions = ["Fraction"]\n')
     daemon.process.send_signal(signal.SIGHUP)
-    daemon.said("The lists are read")
+    daemon.said("The lists were read")
     assert daemon.measure("storklocker_serve_stale_lists") == 0
     assert daemon.checked(GOOD)[0] == 422 and daemon.checked(b"cfractions\nFraction\n.")[0] == 200
     assert daemon.checked(GOOD, headers=headers)[0] == 412
@@ -233,7 +233,7 @@ def addresses():
             (["--listen", "[::]:0"], "give --token"),
             (["--listen", "127.0.0.1:0", "--clamd", "0.0.0.0:0"], "has no token"),
             (["--listen", "127.0.0.1:0", "--token", str(short)], "16 bytes"),
-            (["--listen", "127.0.0.1:0", "--tls-key", str(short)], "need each other"),
+            (["--listen", "127.0.0.1:0", "--tls-key", str(short)], "must be given together"),
             (["--listen", "nowhere:1"], "expected an address"),
         ):
             ran = subprocess.run(

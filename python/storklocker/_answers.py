@@ -189,6 +189,12 @@ class RowVerdict(Verdict):
 class Refused(pickle.UnpicklingError):
     """A pickle was refused, and none of it was loaded.
 
+        >>> try:
+        ...     storklocker.loads(b"cos\\nsystem\\n.", storklocker.AllowList([]))
+        ... except storklocker.Refused as refused:
+        ...     print(refused.at, refused.reason.name, refused.pair)
+        0 ImportOffList ('os', 'system')
+
     `str` gives the program's line, with names cut after 64 bytes, what was being loaded, and a
     hint. It is built only on demand. `verdict`, `at`, `reason`, `number` and `pair` have the full
     data.
@@ -252,6 +258,10 @@ class Refused(pickle.UnpicklingError):
 class MoreBytes(Refused):
     """The pickle is accepted, but more bytes follow it. Nothing was loaded.
 
+        >>> storklocker.loads(b"N.N.", storklocker.AllowList([]))
+        Traceback (most recent call last):
+        storklocker._answers.MoreBytes: the pickle ends after 2 of 4 bytes
+
     `taken` is the length of the pickle, `length` that of all bytes.
     """
 
@@ -279,11 +289,16 @@ class MoreBytes(Refused):
 
 class Misused(pickle.UnpicklingError):
     """The load of an accepted pickle was stopped, because it uses a listed name as no pickler
-    does.
+    does. What the pickle did before stays done: calls of listed names.
+
+        >>> allow = storklocker.AllowList({"builtins": ["bytes"]})
+        >>> storklocker.loads(b"cbuiltins\\nbytes\\n(I9\\ntR.", allow)
+        Traceback (most recent call last):
+        storklocker._answers.Misused: bytes is called with unexpected arguments
     """
 
     is_told = False
-    """Whether a guard's `on_refusal` has heard of it."""
+    """Whether it was reported to a guard's `on_refusal`."""
 
 
 def told(value: "Any") -> str:
@@ -307,9 +322,13 @@ def _told_alone(value: "Any") -> str:
 class ListFault(ValueError):
     """A text is not a list file.
 
+        >>> storklocker.AllowList.from_text("version = 2\\n[imports]\\nos = 'path'")
+        Traceback (most recent call last):
+        storklocker._answers.ListFault: list: Shape(Module) (line 3: write an array: os = ["path"])
+
     `fault` is the program's name for the reason, such as `Shape(Imports)`. `file` is the name of
     the file, `line` the line of the fault, counted from 1, and `hint` a sentence on what to write
-    there. Unknown ones are empty, or 0. `str` gives the program's line, and these.
+    there. Unknown ones are empty, or 0. `str` gives the program's line and all of these.
     """
 
     def __init__(self, fault: str, file: str = "", line: int = 0, hint: str = "") -> None:

@@ -46,7 +46,7 @@ def judge_attributes(receiver: Any, items: Iterable[Tuple[Any, Any]], is_set: bo
             continue
         judge = JUDGES.get(name)
         if judge is None or not judge(receiver, value):
-            raise Misused(f"a state sets {name[:80]!r}, which Python gives a meaning")
+            raise Misused(f"a state sets {name[:80]!r}, which has a meaning in Python")
 
 
 def _name_of(key: Any, is_set: bool) -> Any:

@@ -25,7 +25,7 @@ DIGITS, BITS = 4_300, 1 << 15
 
 def wrong(name: str) -> Misused:
     """The error for arguments that no pickler gives."""
-    return Misused(f"{name} is called with other arguments")
+    return Misused(f"{name} is called with unexpected arguments")
 
 
 def takes_text(reader: Reader, name: str, given: Tuple[Any, ...]) -> None:

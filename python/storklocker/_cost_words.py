@@ -2,7 +2,7 @@
 page takes these words too, and the default limits.
 """
 
-CHANGES = "BUILD would change what the pickle imports, for all that use it"
+CHANGES = "BUILD would change an imported object, for all who use it"
 COSTLY = "costly-keys"
 KINDS = {"DeepKey": COSTLY, "HeavyKeys": COSTLY, "BuildsImport": "changed-import"}
 """The kinds of findings, by the name of the reason for which a guard refuses the pickle."""

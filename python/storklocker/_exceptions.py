@@ -59,13 +59,13 @@ def judged_state(kind: Any, state: Any) -> Any:
     if not isinstance(state, dict):
         is_plain = getattr(kind, "__setstate__") is BaseException.__setstate__
         if state is not None and is_plain:
-            raise Misused("the state of an exception is of no known kind")
+            raise Misused("the state of an exception has an unexpected form")
         return state
     members = members_of(kind)
     kept = {}
     for name, value in dict.items(state):
         if type(name) is not str:
-            raise Misused("the state of an exception has a name that is no text")
+            raise Misused("the state of an exception has a name that isn't text")
         if name == "name_from" and issubclass(kind, ImportError):
             continue
         _judge_attribute(kind, members, name, value)
@@ -76,10 +76,10 @@ def judged_state(kind: Any, state: Any) -> Any:
 def _judge_attribute(kind: type, members: Dict[str, Any], name: str, value: Any) -> None:
     if name == "__notes__":
         if type(value) not in (list, tuple) or any(type(note) is not str for note in value):
-            raise Misused("the notes of an exception are no texts")
+            raise Misused("the notes of an exception aren't text")
     elif name == "args":
         if type(value) is not tuple:
-            raise Misused("the arguments of an exception are no tuple")
+            raise Misused("the arguments of an exception aren't a tuple")
     elif name in members or name[:2] == "__" == name[-2:]:
         is_path = isinstance(value, pathlib.PurePath) and name in _PATHS
         if name[:2] == "__" or not (_is_plain(value) or is_path):
@@ -107,7 +107,7 @@ def hashed_state(reader: Reader, error: Any, state: Any) -> Any:
         made["error_list"] = _leaves(reader, state["error_list"])
     if "error_dict" in state:
         if type(state["error_dict"]) is not dict:
-            raise Misused("the errors of an exception are in no dict")
+            raise Misused("the errors of an exception aren't in a dict")
         made["error_dict"] = {it: _leaves(reader, row) for it, row in state["error_dict"].items()}
     return made
 
@@ -115,10 +115,10 @@ def hashed_state(reader: Reader, error: Any, state: Any) -> Any:
 def _leaves(reader: Reader, errors: Any) -> List[Any]:
     """Exceptions that have a message each, in a list that the pickle doesn't have."""
     if type(errors) is not list:
-        raise Misused("the errors of an exception are in no list")
+        raise Misused("the errors of an exception aren't in a list")
     reader.pay(8 * len(errors))
     if not all(isinstance(it, BaseException) and "message" in it.__dict__ for it in errors):
-        raise Misused("an exception has others without a message")
+        raise Misused("an exception contains others without a message")
     return list(errors)
 
 
@@ -144,12 +144,12 @@ def judge_error(levels: _Levels, error: Any) -> None:
     levels[id(error)] = (error, 0)  # (some have themselves as an argument)
     level = 1 + max(_levels_in(levels, value, LEVELS) for value in held)
     if level > LEVELS:
-        raise Misused(f"more than {LEVELS} exceptions lie within one another")
+        raise Misused(f"more than {LEVELS} exceptions are nested in one another")
     levels[id(error)] = (error, level)
 
 
 def _levels_in(levels: _Levels, value: Any, room: int) -> int:
-    """How many exceptions lie within one another in a value or in the parts of a tuple."""
+    """How many exceptions are nested in one another in a value or in the parts of a tuple."""
     found = 0
     for part in value if type(value) is tuple else (value,):
         if isinstance(part, BaseException):
@@ -192,4 +192,4 @@ def _judge_places(error: Any) -> None:
     kind: Any = type(error)
     members = members_of(kind)
     if any(members[name].__get__(error) < 0 for name in ("start", "end")):
-        raise Misused("a UnicodeError has places before its text")
+        raise Misused("a UnicodeError has offsets before its text")

@@ -150,9 +150,9 @@ class Guard(Loads):
     ) -> "Guard":
         """A guard for a list file, with these settings. Raises what `AllowList.from_file` raises.
 
-        reload: how many seconds after the last look a load looks again whether the file has
-            changed, by its time, size and inode. A new list applies from that load on, even if it
-            lacks names. A broken file changes nothing, and is logged once.
+        reload: the least seconds between two looks at the file, which loads take. If its time, size
+            or inode has changed, the new list applies from that load on, even if it has fewer
+            names. A broken file changes nothing, and is logged once.
         """
         made: Guard = _later("_reloading").guard_of(cls, file, reload, settings)
         return made

@@ -67,9 +67,9 @@ def hint_of(
     at, front = verdict.at - start, read(0, 8)
     for pattern, what in _OTHERS:
         if re.match(pattern, front):
-            return f"these bytes are no pickle, but look like {what}"
+            return f"these bytes aren't a pickle, but look like {what}"
     if at == 0 and (verdict.reason in _NO_PICKLE or not front):
-        return "these bytes are no pickle" if front else "there are no bytes"
+        return "these bytes aren't a pickle" if front else "there are no bytes"
     if verdict.reason is Reason.TooLarge:
         return _of_limit(read(at, 32), limits)
     if verdict.reason is Reason.BadArgument:
@@ -100,7 +100,7 @@ def _of_argument(instruction: bytes) -> str:
     if code in (b"c", b"i"):
         names = b"\n".join(instruction[1:].split(b"\n", 2)[:2])
         if not names.isascii():
-            return "a name beyond ASCII wants protocol 4 or later: pickle it so"
+            return "a name beyond ASCII needs protocol 4 or later: pickle it with that"
     elif code in _TEXTS:
         count = _COUNTS[code]
         length = int.from_bytes(instruction[1 : 1 + count], "little")
@@ -128,7 +128,7 @@ def _of_limit(instruction: bytes, limits: Limits) -> str:
         what = "the pickle has more memo entries than the limit memo"
         return _raised(what, "memo", limits, limits.memo + 1)
     if code in _LINES:
-        return "its line is longer than any that is read; no limit raises that"
+        return "its line is longer than any that a check reads; no limit raises that"
     what = "the pickle has more stack entries than the limit stack"
     return _raised(what, "stack", limits, limits.stack + 1)
 

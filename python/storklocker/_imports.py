@@ -82,10 +82,13 @@ def missing(
     old_strings: str = "unknown",
     fix_imports: bool = True,
 ) -> List[Import]:
-    """The imports of the pickle that the list doesn't permit, each once. The limits of the list
-    apply. If no list makes the pickle acceptable, only those before its fault. If all names take
-    more than 64 MiB, these are only the first of them, as `Verdict.missing_is_cut` says of a
-    verdict.
+    """The imports of the pickle that the list doesn't permit, each once.
+
+        >>> storklocker.missing(b"cos\\nsystem\\n.", storklocker.AllowList([]))
+        [Import(module='os', name='system')]
+
+    The limits of the list apply. If no list makes the pickle acceptable, these are the imports
+    before its fault. If the names take more than 64 MiB, these are only the first of them.
     """
     listed = allow._listed_for(data, fix_imports)
     found = missing_of(data, listed, settings_of(allow, limits, old_strings))[0]

@@ -35,13 +35,13 @@ def known_state(kind: Any, state: Any) -> Any:
     """The state of an object. Refuses that of one of the library which no pickler writes."""
     judge = judge_of(kind)
     if judge is not None and not judge(state):
-        raise Misused(f"the state of a {kind.__name__} is of no known kind")
+        raise Misused(f"the state of a {kind.__name__} has an unexpected form")
     if not _is_of_pandas(kind):
         return state
     is_pair = type(state) is tuple and len(state) == 2
     rows = state if is_pair else (state, None)
     if not all(it is None or isinstance(it, dict) for it in rows):  # (of old versions of pandas)
-        raise Misused(f"the state of a {kind.__name__} is of no known kind")
+        raise Misused(f"the state of a {kind.__name__} has an unexpected form")
     return tuple(map(uncached, rows)) if is_pair else uncached(state)
 
 
@@ -55,7 +55,7 @@ def uncached(attributes: Any) -> Any:
     if not isinstance(attributes, dict) or _CACHE not in attributes:
         return attributes
     if type(attributes[_CACHE]) is not dict:
-        raise Misused("the cache of an object of pandas is no dict")
+        raise Misused("the cache of a pandas object isn't a dict")
     return {**attributes, _CACHE: {}}
 
 

@@ -50,7 +50,7 @@ class Limits(Named):
         >>> str(storklocker.check(deep, storklocker.AllowList([]), limits=limits))
         'no at 6: DeepKey'
 
-    A limit above its greatest value means that value; one of `levels` or `weight` is a ValueError.
+    A limit above its greatest value means that value; of `levels` or `weight` it is a ValueError.
 
     counted: bytes in the payload of an argument with a length; default and greatest 16,777,216.
     stack: stack entries, marks included; default and greatest 1,000,000.

@@ -25,9 +25,14 @@ STANDARD = Limits()
 class AllowList(_Pairs):
     """The pairs of a module and a name that a pickle may import. Immutable.
 
+        >>> allow = storklocker.AllowList({"collections": ["OrderedDict", "deque"]})
+        >>> ("collections", "deque") in allow, ("os", "system") in allow
+        (True, False)
+
+    Other ways to create one:
+
         AllowList([("collections", "OrderedDict"), ("a.b", "C")])
         AllowList([Order, Color, resize])
-        AllowList({"collections": ["OrderedDict", "deque"], "datetime": ["datetime"]})
         AllowList.from_file("list.toml")
         AllowList.shipped("torch", "pandas")
 

@@ -36,7 +36,7 @@ def meant_of(allow: AllowList, substitutes: Mapping[Any, Any], dangerous: Iterab
 
 def _pairs(given: Iterable[Any]) -> Iterator[Pair]:
     if isinstance(given, str):
-        raise TypeError("dangerous must be a list of names, not a text")
+        raise TypeError("dangerous must be a list of names, not a str")
     return map(_pair, given)
 
 
@@ -82,5 +82,5 @@ def require(allow: AllowList) -> None:
             name = ".".join(pair)
             raise ValueError(
                 f"{name} on the list permits everything: give it one of storklocker.substitutes, "
-                f"or say that it is meant: AllowList(.., dangerous=[{name!r}])"
+                f"or confirm it: AllowList(.., dangerous=[{name!r}])"
             )

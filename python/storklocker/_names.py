@@ -70,8 +70,8 @@ def hint_of(pair: "Pair", allow: "Container[Pair]", fixes: bool) -> str:
         return ""
     named = ".".join(new)
     if fixes:
-        return "" if new in allow else f"Python 3 calls it {named}, which is to be listed"
-    listed = "which is listed" if new in allow else "which is to be listed"
+        return "" if new in allow else f"Python 3 calls it {named}; list that name"
+    listed = "which is listed" if new in allow else "which must be listed"
     return f"Python 3 calls it {named}, {listed}: fix_imports=True"
 
 

@@ -24,7 +24,7 @@ def pair_of(it: Any) -> Tuple[str, str]:
         )
     if module == "__main__":
         raise ValueError(
-            f"{it!r:.80} is of __main__, which is another module in each program: define it in a"
+            f"{it!r:.80} is defined in __main__, which differs in each program: define it in a"
             " module that is imported"
         )
     if not isinstance(module, str):

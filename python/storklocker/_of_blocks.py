@@ -152,7 +152,7 @@ def manager_state(reader: Reader, manager: Any, state: Any) -> Any:
 
 
 def _unknown() -> Misused:
-    return Misused("the state of a frame or a series is of no known kind")
+    return Misused("the state of a frame or a series has an unexpected form")
 
 
 def _check_block(reader: Reader, values: Any, places: Any, axes: List[Any]) -> None:

@@ -35,7 +35,7 @@ class _Part(NamedTuple):
         return self.state[self.name]
 
     def wrong(self) -> Misused:
-        return Misused(f"what an estimator has as its {self.name} doesn't fit together")
+        return Misused(f"the {self.name} of an estimator contradicts itself")
 
     def columns(self) -> int:
         """How many columns the estimator has seen: it takes no other data."""
@@ -56,11 +56,11 @@ def _compares() -> bool:
 def state_of(reader: Reader, estimator: Any, state: Any) -> Any:
     """The state of an estimator, which says on loading of which version it is."""
     if type(state) is not dict:
-        raise Misused("the state of an estimator is no dict")
+        raise Misused("the state of an estimator isn't a dict")
     judge_attributes(estimator, state.items(), False)
     if any(callable(it) and callable(getattr(type(estimator), str(name), None))
            for name, it in state.items()):
-        raise Misused("the state of an estimator has a function in the place of a method")
+        raise Misused("the state of an estimator has a function in place of a method")
     made = dict(state)
     if "_sklearn_version" in state:
         made["_sklearn_version"] = version_of(state["_sklearn_version"])
@@ -181,7 +181,7 @@ def check_predictor(reader: Reader, predictor: Any) -> None:
     nodes = array_of(reader, own.get("nodes"), "V", (None,))
     wanted = sys.modules["sklearn.ensemble._hist_gradient_boosting.common"]
     if nodes.dtype != wanted.PREDICTOR_RECORD_DTYPE or len(nodes) == 0:
-        raise Misused("the nodes of a tree are of no known kind")
+        raise Misused("the nodes of a tree have an unexpected form")
     inner = nodes["is_leaf"] == 0
     check_children(reader, inner, nodes["left"].astype("i8"), nodes["right"].astype("i8"))
     if "is_categorical" not in wanted.PREDICTOR_RECORD_DTYPE.names:  # (before 0.24)
@@ -190,7 +190,7 @@ def check_predictor(reader: Reader, predictor: Any) -> None:
     for name in ("binned_left_cat_bitsets", "raw_left_cat_bitsets"):
         held = array_of(reader, own.get(name), "u", (None, 8))
         if (sets >= len(held)).any():
-            raise Misused("a node of a tree has a set of categories that there isn't")
+            raise Misused("a node of a tree has a set of categories that doesn't exist")
 
 
 _ONE = ("one_class", "epsilon_svr", "nu_svr")

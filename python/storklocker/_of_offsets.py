@@ -90,21 +90,21 @@ def _interval_array(reader: Reader, *given: Any) -> Any:
 def intervals_state(reader: Reader, array: Any, state: Any) -> Any:
     """The state of an array of intervals: a begin for each end, in arrays or indexes."""
     if reader.unbuilt.pop(id(array), None) is not array:
-        raise Misused("the state of an array is set a second time, or of one made elsewhere")
+        raise Misused("the state of an array is set twice, or the pickle made it otherwise")
     if type(state) is not tuple or len(state) != 1 or type(state[0]) is not dict:
-        raise Misused("the state of an array of intervals is of no known kind")
+        raise Misused("the state of an array of intervals has an unexpected form")
     own: Dict[Any, Any] = state[0]
     if not {"_left", "_right"} <= set(own) <= {"_left", "_right", "_dtype", "_closed"}:
-        raise Misused("the state of an array of intervals is of no known kind")
+        raise Misused("the state of an array of intervals has an unexpected form")
     both = own["_left"], own["_right"]
     if not all(is_array(reader, it) or is_index(it) for it in both):
-        raise Misused("the state of an array of intervals is of no known kind")
+        raise Misused("the state of an array of intervals has an unexpected form")
     if any(getattr(it, "ndim", 1) != 1 for it in both) or len(both[0]) != len(both[1]):
-        raise Misused("an array of intervals has no end for each begin")
+        raise Misused("an array of intervals lacks the end of an interval")
     if type(both[0]) is not type(both[1]) or both[0].dtype != both[1].dtype:
         raise Misused("an array of intervals has ends of another type")
     if type(own.get("_closed", "")) is not str:
-        raise Misused("the state of an array of intervals is of no known kind")
+        raise Misused("the state of an array of intervals has an unexpected form")
     return (dict(own),)
 
 
@@ -134,13 +134,13 @@ def date_offset_state(reader: Reader, offset: Any, state: Any) -> Any:
     reader.unbuilt.pop(id(offset), None)
     deltas: Any = sys.modules.get("dateutil.relativedelta")
     if type(state) is not dict or not all(type(name) is str for name in state):
-        raise Misused("the state of an offset is of no known kind")
+        raise Misused("the state of an offset has an unexpected form")
     judge_attributes(offset, state.items(), False)
     for name, value in state.items():
         if name == "_offset" and deltas and type(value) is deltas.relativedelta:
             continue
         if name in ("_cache", "kwds") or not _is_part(value) and not _is_weekday(value):
-            raise Misused("the state of an offset is of no known kind")
+            raise Misused("the state of an offset has an unexpected form")
     return dict(state)
 
 
@@ -224,7 +224,7 @@ def zone_state(reader: Reader, zone: Any, state: Any) -> Any:
     own = _of_file(path) if type(path) is str and len(path) <= 4 * _SHORT else None
     is_known = own is not None and all(_is_plain(state.get(name)) for name in _COMPARED)
     if own is None or not is_known or any(state[it] != own.get(it) for it in _COMPARED):
-        raise Misused("a time zone has rules that its file doesn't have here")
+        raise Misused("a time zone has rules that its file here lacks")
     return dict(own)
 
 

@@ -279,36 +279,36 @@ TABLE: Dict[Tuple[str, str], Substitute] = dict(
 
 
 def array_state(reader: Reader, array: Any, state: Any) -> Any:
-    """The state of an array of pandas over one of NumPy."""
+    """The state of a pandas array over one of NumPy."""
     import numpy
 
     if reader.unbuilt.pop(id(array), None) is not array:
-        raise Misused("the state of an array is set a second time, or of one made elsewhere")
+        raise Misused("the state of an array is set twice, or the pickle made it otherwise")
     if type(state) is not tuple or len(state) != 3 or type(state[2]) is not dict:
-        raise Misused("the state of an array of pandas is of no known kind")
+        raise Misused("the state of a pandas array has an unexpected form")
     held = [it for it in state[:2] if type(it) is numpy.ndarray and id(it) not in reader.unbuilt]
     kinds = [it for it in state[:2] if not isinstance(it, numpy.ndarray)]
     is_one = len(held) == len(kinds) == 1 and held[0].ndim > 0
     if not is_one or not set(state[2]) <= {"_freq", "_cache", "_readonly"}:
-        raise Misused("the state of an array of pandas is of no known kind")
+        raise Misused("the state of a pandas array has an unexpected form")
     name = type(array).__name__
     wanted = {"DatetimeArray": "M", "TimedeltaArray": "m", "PeriodArray": "i", "Categorical": "i",
               "StringArray": "O"}.get(name, held[0].dtype.kind)
     if held[0].dtype.kind != wanted or held[0].dtype.kind in "Mmi" and not held[0].dtype.isnative:
-        raise Misused("the state of an array of pandas has another type")
+        raise Misused("the state of a pandas array has another type")
     if name == "Categorical" and held[0].size:
         reader.pay(held[0].nbytes)
         codes = held[0].copy()  # (which nothing else has)
         known: Any = getattr(kinds[0], "categories", None)
         if not is_index(known) or codes.min() < -1 or codes.max() >= len(known):
-            raise Misused("a code of an array of pandas is of no category")
+            raise Misused("a code of a pandas array has no category")
         return (codes, kinds[0], uncached(state[2]))
     return (*state[:2], uncached(state[2]))
 
 
 def index_state(reader: Reader, index: Any, state: Any) -> Any:
     """Refuses each state of an index. Picklers set none, and others were judged by its length."""
-    raise Misused("the state of an index of pandas is of no known kind")
+    raise Misused("the state of a pandas index has an unexpected form")
 
 
 def periods_state(reader: Reader, array: Any, state: Any) -> Any:
@@ -316,43 +316,43 @@ def periods_state(reader: Reader, array: Any, state: Any) -> Any:
     import numpy
 
     if reader.unbuilt.pop(id(array), None) is not array:
-        raise Misused("the state of an array is set a second time, or of one made elsewhere")
+        raise Misused("the state of an array is set twice, or the pickle made it otherwise")
     if type(state) is not tuple or len(state) != 1 or type(state[0]) is not dict:
-        raise Misused("the state of an array of pandas is of no known kind")
+        raise Misused("the state of a pandas array has an unexpected form")
     judge_attributes(array, state[0].items(), True)
     held: Any = state[0].get("_data")
     if type(held) is not numpy.ndarray or id(held) in reader.unbuilt or held.dtype != numpy.int64:
-        raise Misused("the state of an array of pandas has another type")
+        raise Misused("the state of a pandas array has another type")
     return (uncached(dict(state[0])),)
 
 
 def check_masked(reader: Reader, array: Any) -> None:
-    """Whether an array of pandas with a mask has one of its length."""
+    """Whether a pandas array with a mask has one of its length."""
     import numpy
 
     own = vars(array)
     data, mask = own.get("_data"), own.get("_mask")
     for it in (data, mask):
         if type(it) is not numpy.ndarray or id(it) in reader.unbuilt:
-            raise Misused("the state of an array of pandas is of no known kind")
+            raise Misused("the state of a pandas array has an unexpected form")
     if data.shape != mask.shape or mask.dtype != bool or data.dtype.hasobject:
-        raise Misused("the state of an array of pandas is of no known kind")
+        raise Misused("the state of a pandas array has an unexpected form")
 
 
 def sparse_state(reader: Reader, array: Any, state: Any) -> Any:
-    """The state of a sparse array of pandas, with a value for each of its places. No tuple: pandas
+    """The state of a sparse pandas array, with a value for each of its places. No tuple: pandas
     would hand a part of one to NumPy.
     """
     from pandas._libs.sparse import SparseIndex
 
     if type(state) is not dict:
-        raise Misused("the state of a sparse array of pandas is of no known kind")
+        raise Misused("the state of a sparse pandas array has an unexpected form")
     judge_attributes(array, state.items(), False)
     places: Any = state.get("_sparse_index")
     held: Any = state.get("_sparse_values")
     is_one = isinstance(places, SparseIndex) and is_array(reader, held)
     if not is_one or len(held) != places.npoints:
-        raise Misused("the state of a sparse array of pandas is of no known kind")
+        raise Misused("the state of a sparse pandas array has an unexpected form")
     return uncached(state)
 
 
@@ -361,15 +361,15 @@ def frame_state(reader: Reader, frame: Any, state: Any) -> Any:
     is made of more attributes.
     """
     if type(state) is not dict:
-        raise Misused("the state of a frame is no dict")
+        raise Misused("the state of a frame isn't a dict")
     judge_attributes(frame, state.items(), False)
     if any(id(it) in reader.unbuilt for it in state.values()):
-        raise Misused("the state of a frame has a part without its own")
+        raise Misused("the state of a frame has a part without a state")
     known = ("_mgr", "_typ", "_metadata", "attrs", "_flags", *type(frame)._metadata)
     for name in state:
         if name not in known and hasattr(type(getattr(type(frame), str(name), None)), "__set__"):
             raise Misused("the state of a frame sets what it computes")
     if any(type(state.get(name, {})) is not dict for name in ("attrs", "_flags")):
-        raise Misused("the state of a frame has more attributes in no dict")
+        raise Misused("the state of a frame has attributes that aren't in a dict")
     keys_of(reader, [state.get("name")])
     return uncached(state)

@@ -179,13 +179,13 @@ def module_state(reader: Reader, module: Any, state: Any) -> Any:
     texts, and calls nothing before or after its own code.
     """
     if not isinstance(state, dict):
-        raise Misused("the state of a module is no dict")
+        raise Misused("the state of a module isn't a dict")
     judge_attributes(module, dict.items(state), False)
     if not type(module).__module__.startswith("torch.nn.modules."):
         return state
     for name, value in dict.items(state):
         if type(name) is not str or not _is_part(type(module), name, value):
-            raise Misused(f"a module has a {str(name)[:40]!r} that is of no known kind")
+            raise Misused(f"a module has a {str(name)[:40]!r} that has an unexpected form")
     return {name: _own(reader, value) for name, value in dict.items(state)}
 
 

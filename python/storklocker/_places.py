@@ -73,7 +73,7 @@ def _top_key(top: Dict[str, Node]) -> Place:
             return Place(node.line, f"put {key} below [limits]")
         if isinstance(node.value, list):
             return Place(node.line, f"put {shown(key)} below [imports]")
-        return Place(node.line, f"{shown(key)} is none of version, imports, {', '.join(_TABLES)}")
+        return Place(node.line, f"{shown(key)} isn't one of version, imports, {', '.join(_TABLES)}")
     return Place(0, "")
 
 
@@ -92,7 +92,7 @@ def _modules(top: Dict[str, Node]) -> List[Tuple[str, Node]]:
 def _module(top: Dict[str, Node]) -> Place:
     for module, node in _modules(top):
         if not module:
-            return Place(node.line, "a module has a name")
+            return Place(node.line, "a module needs a name")
         if isinstance(node.value, dict):
             path, inner = _path(module, node)
             return Place(inner.line, f'quote a module with dots: "{short(path)}" = [..]')
@@ -117,7 +117,7 @@ def _name(top: Dict[str, Node]) -> Place:
         for name in node.value if isinstance(node.value, list) else ():
             if not isinstance(name, Text) or not name:
                 what = "a text in quotes, and not empty"
-                return Place(node.line, f"each name of {shown(module)} is {what}")
+                return Place(node.line, f"each name of {shown(module)} must be {what}")
     return Place(0, "")
 
 
@@ -128,7 +128,7 @@ def _limits(top: Dict[str, Node]) -> Place:
 def _limit_key(top: Dict[str, Node]) -> Place:
     for key, node in top["limits"].value.items():
         if key not in _LIMITS:
-            return Place(node.line, f"{shown(key)} is none of the limits {', '.join(_LIMITS)}")
+            return Place(node.line, f"{shown(key)} isn't one of the limits {', '.join(_LIMITS)}")
     return Place(0, "")
 
 
@@ -143,7 +143,7 @@ def _limit(top: Dict[str, Node]) -> Place:
         if key != "large" and not _is_limit(key, node.value, most):
             more = "; large = true permits 4,294,967,295" if _is_raised(key, node, large) else ""
             more += f", or {MOST_SAID[key]:,} for none" if key in FURTHEST else ""
-            return Place(node.line, f"{key} is an integer from 0 to {most:,}{more}")
+            return Place(node.line, f"{key} must be an integer from 0 to {most:,}{more}")
     return Place(0, "")
 
 
@@ -176,7 +176,7 @@ def _rules(top: Dict[str, Node]) -> Place:
 def _rule_key(top: Dict[str, Node]) -> Place:
     for key, node in top["rules"].value.items():
         if key != "build":
-            return Place(node.line, f"{shown(key)} is no rule, but build is")
+            return Place(node.line, f"{shown(key)} isn't a rule; build is")
     return Place(0, "")
 
 
@@ -191,7 +191,7 @@ def _substitutes(top: Dict[str, Node]) -> Place:
 def _substitute(top: Dict[str, Node]) -> Place:
     for key, node in sorted(top["substitutes"].value.items()):
         if not key or not isinstance(node.value, Text):
-            return Place(node.line, f"write a name and what stands for it, as {_SUBSTITUTE}")
+            return Place(node.line, f"write a name and its substitute, as {_SUBSTITUTE}")
     return Place(0, "")
 
 

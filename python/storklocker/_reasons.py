@@ -4,7 +4,9 @@ import enum
 
 
 class Reason(enum.IntEnum):
-    """Why a pickle is refused. Names and numbers match the program's, and never change."""
+    """Why a pickle is refused. Names and numbers match the program's, and never change. The table
+    of docs/FORMATS.md has the meaning of each.
+    """
 
     Source = 1
     Truncated = 2

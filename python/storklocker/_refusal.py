@@ -17,11 +17,13 @@ CONTEXT: contextvars.ContextVar[Any] = contextvars.ContextVar(
 class Refusal:
     """The argument of `on_refusal`. It can be pickled.
 
-        def keep(refusal):              # to look at it, or to send it again under another list
-            log.warning("%s: %s", refusal.context, refusal.verdict)
-            Path("refused", refusal.sha256).write_bytes(refusal.data)
-
-        guard = storklocker.Guard(allow, on_refusal=keep)
+        >>> def report(refusal):        # its `data` can be kept, and loaded under another list
+        ...     print(refusal.size, "bytes:", refusal.verdict)
+        >>> allow = storklocker.AllowList([])
+        >>> guard = storklocker.Guard(allow, on_refusal=report, enforce=False)
+        >>> guard.loads(b"cdatetime\\ndate\\n.")
+        16 bytes: no at 0: ImportOffList("datetime","date")
+        <class 'datetime.date'>
 
     verdict: the verdict of the checker. It accepts the pickle if more bytes followed it.
     data: the bytes of the pickle that were read; a pickled `Refusal` leaves them out.

@@ -44,11 +44,11 @@ def takes(*places: int) -> int:
 def nothing(reader: Any, name: str, given: Tuple[Any, ...]) -> None:
     """Takes no arguments."""
     if given:
-        raise Misused(f"{name} is made with other arguments")
+        raise Misused(f"{name} is created with unexpected arguments")
 
 
 def _refuse(name: str, *given: Any) -> Any:
-    raise Misused(f"{name} is called, as no pickler does")
+    raise Misused(f"{name} is called, which no pickler does")
 
 
 class Substitute:

@@ -191,7 +191,7 @@ class Reader(pickle.Unpickler):
         """
         self._room -= cost
         if self._room < 0:
-            raise Misused("the pickle has what it shares copied too often")
+            raise Misused("the pickle's shared parts are copied too often")
 
     def step(self, count: int) -> None:
         """Counts the steps in which a substitute looks through what the pickle gives it: those of
@@ -199,7 +199,7 @@ class Reader(pickle.Unpickler):
         """
         self._steps -= count
         if self._steps < 0:
-            raise Misused("the pickle has what it shares looked through too often")
+            raise Misused("the pickle's shared parts are examined too often")
 
     def find_class(self, module: str, name: str, /) -> Any:
         pair = module, name
@@ -257,7 +257,7 @@ class Reader(pickle.Unpickler):
         object, whose class may have it called too.
         """
         if not isinstance(called, _FUNCTIONS):
-            raise Misused(f"the pickle calls {told(called)}, which a persistent id has given")
+            raise Misused(f"the pickle calls {told(called)}, which a persistent id returned")
         return called(*given)
 
     def copied_memo(self) -> Dict[int, Any]:

@@ -105,19 +105,19 @@ class Uses:
         pieces, self.is_whole, number, place, self.judges = told
         if place >= 0 and number == 0:
             raise Misused(
-                f"at byte {place:,} an object gets a state or items that the pickle hasn't made, or"
-                " that has a state"
+                f"at byte {place:,} the pickle sets a state or items on an object that it didn't"
+                " make, or that has a state"
             )
         if place >= 0 and number < 0:
             raise Misused(
-                f"at byte {place:,} the pickle calls what a call of its own has made: only what"
-                " [substitutes] of its list names may give it functions"
+                f"at byte {place:,} the pickle calls the result of its own call: only names under"
+                " [substitutes] of its list may return functions"
             )
         if place >= 0:
             pair = next(pair for pair, its in self._numbers.of.items() if its == number)
             raise Misused(
                 f"{'.'.join(pair)} is a value at byte {place:,}: it is loaded through a substitute,"
-                " which can be called, but doesn't stay in what is loaded"
+                " which can be called, but not kept in the loaded object"
             )
         return pieces
 

@@ -19,7 +19,7 @@ _told: Set[str] = set()
 def version_of(given: Any) -> str:
     """A version as a pickle has it; one of few words if many were told."""
     if type(given) is not str or len(given) > _LONGEST:
-        raise Misused("the version of an object is no text")
+        raise Misused("the version of an object isn't text")
     if given not in _told and len(_told) >= MOST:
         return _OTHER
     _told.add(given)
@@ -31,7 +31,7 @@ def model_state(reader: Any, model: Any, state: Any) -> Any:
     by its key.
     """
     if type(state) is not dict:
-        raise Misused("the state of a model is no dict")
+        raise Misused("the state of a model isn't a dict")
     judge_attributes(model, state.items(), False)
     keys = [it.attname for it in model._meta.concrete_fields if it.primary_key or it.remote_field]
     keys_of(reader, [state.get(name) for name in keys])

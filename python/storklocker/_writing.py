@@ -20,7 +20,7 @@ def text_of(allow: AllowList) -> str:
     """The list file of a list. Raises ValueError if no file can say what the list says."""
     text = "".join(f"{line}\n" for line in _lines(allow))
     if type(allow).from_text(text) != allow:
-        raise ValueError("no list file says what this list does: name its classes otherwise")
+        raise ValueError("no list file can express this list: rename its classes")
     return text
 
 
@@ -90,7 +90,7 @@ def replace(file: Union[str, os.PathLike[str]], text: str) -> None:
     made = path.with_name(f".{path.name[:200]}.{os.getpid()}-{os.urandom(4).hex()}")
     found = os.stat(path) if path.exists() else None
     if found is not None and not stat.S_ISREG(found.st_mode):
-        raise OSError(f"{os.fspath(path)!r} is no regular file")
+        raise OSError(f"{os.fspath(path)!r} isn't a regular file")
     descriptor = os.open(made, os.O_WRONLY | os.O_CREAT | os.O_EXCL, 0o666)
     try:
         with open(descriptor, "w", encoding="utf-8", newline="\n") as opened:

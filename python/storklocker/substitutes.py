@@ -14,7 +14,8 @@
     load_from_bytes    torch.storage._load_from_bytes, through a guard
 
 A check is about names: it permits the name, and the guard decides which function the name means. A
-call with other arguments raises `Misused`. A substitute can be pickled if its arguments can.
+call with arguments that the substitute doesn't permit raises `Misused`. A substitute can be pickled
+if its arguments can.
 """
 
 from __future__ import annotations
@@ -174,7 +175,7 @@ def partial(functions: Mapping[Union[Callable[..., Any], str], Iterable[str]]) -
 
     def state_of(state: Any) -> Any:
         if type(state) is not tuple or len(state) != 4 or type(state[1]) is not tuple or state[3]:
-            raise Misused("the state of a partial is of no known kind")
+            raise Misused("the state of a partial has an unexpected form")
         if not fits(state[0], state[2]):
             raise Misused("a partial of another function, or with other keywords")
         return (*state[:2], dict(state[2] or {}), None)
@@ -218,7 +219,7 @@ def load_from_bytes(guard: Guard) -> Substitute:
         from .contrib.torch import load_torch
 
         if len(given) != 1 or type(given[0]) is not bytes:
-            raise Misused("_load_from_bytes is called with other arguments")
+            raise Misused("_load_from_bytes is called with unexpected arguments")
         return load_torch(given[0], guard)
 
     return _Declared(judged, load_from_bytes, guard)

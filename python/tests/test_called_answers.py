@@ -151,7 +151,7 @@ class Answers(unittest.TestCase):
         asking = Guard(guard.allow, on_refusal=told.append)
         with self.assertRaises(Misused):
             asking.loads(b"\x80\x04" + PICKLES["by REDUCE"])
-        self.assertIn("calls what a call of its own has made", told[-1].misused)
+        self.assertIn("calls the result of its own call", told[-1].misused)
 
     def test_a_scan_says_so(self):
         for what, body in {**PICKLES, **NEWS}.items():

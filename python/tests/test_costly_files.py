@@ -27,7 +27,7 @@ KINDS = ("costly-keys", "changed-import")
 FOUND = {
     "attack": (ATTACK, "costly-keys", "byte 63 weighs more than the limit weight, 1,000,000"),
     "deep tuple": (DEEP, "costly-keys", "at byte 5,003 has more levels than the limit levels"),
-    "BUILD": (CHANGE, "changed-import", "BUILD would change what the pickle imports"),
+    "BUILD": (CHANGE, "changed-import", "BUILD would change an imported object"),
     "claimed": (b"\x80\x04" + ATTACK, "costly-keys", "the key at byte 65"),
     "cut": (ATTACK[:-1], "costly-keys", "the key at byte 63"),
     "broken": (b"\x80\x04" + ATTACK[:-1] + b"\xff", "costly-keys", "the key at byte 65"),

@@ -198,7 +198,7 @@ class Defaults(unittest.TestCase):
             try:
                 load(Guard(NOTHING, limits=FREE), MILD)
             except pickle.UnpicklingError as error:
-                self.assertEqual(str(error), "the pickle is no array: dict")
+                self.assertEqual(str(error), "the pickle isn't an array: dict")
 
     def test_each_check(self):
         for words, answer in (({}, "no at 63: HeavyKeys"), ({"limits": FREE}, "yes: 128 bytes")):

@@ -214,7 +214,7 @@ class Command(unittest.TestCase):
                 ran = self.ran(command, data, listed, "--guarded")
                 self.assertEqual(ran[0], guarded, (what, command))
         status, said = self.ran("check", P + PICKLES["bytes of a length"][0], listed)
-        self.assertEqual(said, "no: bytes is called with other arguments\n")
+        self.assertEqual(said, "no: bytes is called with unexpected arguments\n")
         status, said = self.ran("check", P + HONEST["bytes"], listed)
         self.assertEqual((status, said[:4]), (0, "yes:"))
         data = P + PICKLES["bytes of what a call answers"][0]

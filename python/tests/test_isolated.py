@@ -136,8 +136,8 @@ class Resuming(unittest.TestCase):
             self.assertEqual(self.run_command(*words, "--allow", self.list)[0], 2)
             self.put("text", b"A text that is no store\n")
             self.assertEqual(self.run_command(*words[:3], self.folder / "text")[0], 2)
-        self.assertIn("is of a scan with another list", errors.getvalue())
-        self.assertIn("is no file of --resume", errors.getvalue())
+        self.assertIn("belongs to a scan with another list", errors.getvalue())
+        self.assertIn("isn't a file of --resume", errors.getvalue())
 
 
 class Listing(unittest.TestCase):

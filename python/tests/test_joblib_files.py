@@ -71,7 +71,7 @@ GOOD = {
     "an empty array": file_of(MADE, state(shape=b"K\0\x85"), b"b\0", b"."),
 }
 HOSTILE = {
-    "behind an array": file_of(ARRAY, RUNS, b"."), "in front": file_of(RUNS, ARRAY, b"."),
+    "after an array": file_of(ARRAY, RUNS, b"."), "in front": file_of(RUNS, ARRAY, b"."),
     "in an array of objects": file_of(OBJECTS, RUNS, b".", b"."),
     "an array that is longer": file_of(MADE, state(shape=b"K\4\x85"), b"b", RAW, RUNS, b"."),
     "an array that is shorter": file_of(MADE, state(shape=b"K\0\x85"), b"b\0", RUNS, b"."),
@@ -117,7 +117,7 @@ class JoblibFiles(unittest.TestCase):
                 self.assertTrue(any(report.is_finding for report in self.reports(data[:end])), end)
 
     def test_names(self):
-        (found,) = self.reports(HOSTILE["behind an array"])
+        (found,) = self.reports(HOSTILE["after an array"])
         self.assertEqual((found.status, found.missing), ("refused", (("os", "system"),)))
         (found,) = self.reports(HOSTILE["in an array of objects"])
         self.assertEqual((found.status, found.missing), ("refused", (("os", "system"),)))

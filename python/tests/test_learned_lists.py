@@ -261,12 +261,13 @@ class Lists(Learning):
         status, _, errors = self.run_command("lint", new)
         self.assertEqual(status, 2)
         self.assertIn("line 5", errors)
-        self.assertIn("levels is an integer from 0 to 1,022, or 4,294,967,295 for none", errors)
+        said = "levels must be an integer from 0 to 1,022, or 4,294,967,295 for none"
+        self.assertIn(said, errors)
 
     def test_a_shipped_list_is_no_file_to_add_to(self):
         status, _, errors = self.run_command("list", "add", "@uuid", "a.b")
         self.assertEqual(status, 2)
-        self.assertIn("@uuid is no file", errors)
+        self.assertIn("@uuid isn't a file", errors)
         self.assertFalse(os.path.exists("@uuid"))
 
     def test_add_keeps_all_else(self):

@@ -32,8 +32,9 @@ def said(text, *words, home=None):
 
 # The modules whose docstrings have examples, and how many at least.
 EXAMPLES = {
-    "": 4, "._answers": 3, "._checking": 6, "._guard": 4, "._imports": 1, "._limits": 3,
-    "._lists": 2, "._loading": 1, "._refusal": 1, ".everywhere.installing": 1, ".metrics": 5,
+    "": 4, "._answers": 8, "._checking": 6, "._guard": 4, "._imports": 2, "._limits": 3,
+    "._lists": 4, "._loading": 1, "._refusal": 5, ".everywhere.installing": 1,
+    ".everywhere.trust": 1, ".metrics": 5,
 }
 
 

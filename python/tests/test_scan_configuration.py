@@ -99,7 +99,7 @@ class Configuration(Options):
         with unittest.mock.patch.dict(sys.modules, tomli=None):
             status, _, errors = self.ran("scan", "good")
         self.assertEqual(status, 2)
-        self.assertIn("takes Python 3.11, or the package tomli", errors)
+        self.assertIn("needs Python 3.11, or the package tomli", errors)
 
     def test_where_the_table_seems_to_begin(self):
         for text in (

@@ -148,7 +148,7 @@ class Showing(Options):
             self.assertEqual(self.ran(*words)[0], 0)
             status, out, _ = self.ran(*words, "--fail-on", "unrecognized")
             self.assertEqual(status, 1)
-            self.assertIn("no reading knows what it is", out.lower(), form)
+            self.assertIn("no reader recognizes it", out.lower(), form)
         self.put("known", self.ran("scan", "f", "--fail-on", "unrecognized", "--format", "json")[1])
         words = ("scan", "f", "--fail-on", "unrecognized", "--baseline", "known")
         self.assertEqual(self.ran(*words)[0], 0)

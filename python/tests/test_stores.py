@@ -182,7 +182,7 @@ class Stores(unittest.TestCase):
         ):
             (found,) = reports(data)
             self.assertEqual((found.status, found.kind), ("no pickle", kind))
-            said = "no value is a pickle" if kind == "SQLite" else "not read as its programs"
+            said = "no value is itself a pickle" if kind == "SQLite" else "not read as its programs"
             self.assertIn(said, found.why)
 
 

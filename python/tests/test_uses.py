@@ -131,7 +131,7 @@ class Values(unittest.TestCase):
                 self.assertEqual(
                     str(raised.exception),
                     f"builtins.getattr is a value at byte {place}: it is loaded through a"
-                    " substitute, which can be called, but doesn't stay in what is loaded",
+                    " substitute, which can be called, but not kept in the loaded object",
                 )
                 self.assertEqual(DONE, [])
             plain = Guard(AllowList(LISTED[3:], dangerous=SAID))

@@ -224,7 +224,7 @@ class Objects(unittest.TestCase):
             (nameless, "is a lambda"),
             (Moved, "isn't what a pickle finds as test_writing.Shop"),
             (lost, "isn't what a pickle finds as no_such_module.Lost"),
-            (main, "is another module in each program"),
+            (main, "differs in each program"),
             (type(None), "isn't what a pickle finds as builtins.NoneType"),
             ([].append, "belongs to an object"),
         ):

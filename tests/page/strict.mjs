@@ -22,7 +22,7 @@ globalThis.DecompressionStream = class extends TransformStream {
       const { buffer, engine } = inflate(bytes.subarray(from), { info: true });
       controller.enqueue(new Uint8Array(buffer));
       const end = from + engine.bytesWritten + (SUMS[format] ?? 0);
-      if (end !== bytes.length) throw new TypeError("bytes follow what is packed");
+      if (end !== bytes.length) throw new TypeError("bytes follow the packed contents");
     };
     super({ transform: (chunk) => { chunks.push(Buffer.from(chunk)); }, flush });
   }

@@ -60,7 +60,7 @@ LISTS = {
     "numpy": f'version = 1\n[imports]\n"joblib.numpy_pickle" = ["NumpyArrayWrapper"]\n{NUMPY}'
     '"numpy._core.multiarray" = ["_reconstruct", "scalar"]\n',
 }
-PLACES = ("row of pickles", "pickle")
+PLACES = ("stream of pickles", "pickle")
 RECORDS = b"".join(len(it).to_bytes(4, "big") + it for it in (b"}.", HOSTILE))
 STORES = ("base", "gdbm", "berkeley", "lmdb", "blocks.h5", "arrow", "parquet", "zodb", "cachelib")
 LESS = dict.fromkeys(("packed.bz2", "rows.npy", "django", "records", *STORES), "unreadable")

@@ -45,7 +45,7 @@ def _guard_backend(backend: Any, guard: Guard) -> None:
     kinds = {f"{kind.__module__}.{kind.__name__}" for kind in type(backend).__mro__}
     if "celery.backends.cache.CacheBackend" in kinds and backend.backend != "memory":
         raise TypeError(
-            "Celery's backend `cache` can't be guarded: the client of memcached unpickles by itself"
+            "Celery's backend `cache` can't be guarded: memcached's client unpickles by itself"
         )
     if "celery.backends.database.DatabaseBackend" in kinds:
         from .kombu import register_database
@@ -127,7 +127,7 @@ class _Reader:
         try:
             meta = read()
             is_result = isinstance(meta, dict) and isinstance(meta.get("status"), str)
-            meta = meta if is_result else _failed(TypeError("it is no result of a task"))
+            meta = meta if is_result else _failed(TypeError("it isn't the result of a task"))
         except errors as error:
             meta = _failed(error)
         finally:

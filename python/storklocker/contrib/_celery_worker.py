@@ -55,7 +55,7 @@ def _guard_consumer(consumer: Any) -> None:
             except _MISSHAPEN as error:
                 if message.acknowledged:
                     raise
-                return refuse(message, TypeError(f"it is no task: {type(error).__name__}"))
+                return refuse(message, TypeError(f"it isn't a task: {type(error).__name__}"))
             finally:
                 CONTEXT.reset(token)
 

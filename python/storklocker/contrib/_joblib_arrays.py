@@ -75,13 +75,13 @@ def _wrapper_of(reader: Reader, guard: Guard, place: Place) -> Type[Any]:
 
         def __setstate__(self, state: Any) -> None:
             if type(state) is not dict or self._state is not None:
-                raise Misused("the state of a wrapper is of no known kind, or set twice")
+                raise Misused("the state of a wrapper has an unexpected form, or is set twice")
             self._state = state
 
         def __call__(self, lent: Any) -> Any:
             its = held()
             if type(lent) is not _Lent or type(self._state) is not dict or its is None:
-                raise Misused("a wrapper of joblib is called with something else than its bytes")
+                raise Misused("a wrapper of joblib is called with something other than its bytes")
             return _Array(its, self._state, has_objects).made(lent, guard, place)
 
     return NumpyArrayWrapper
@@ -100,10 +100,10 @@ class _Array:
             raise Misused(f"the state of a wrapper lacks {error}") from None
         self.kind = class_of(kind, numpy.ndarray)
         if self.kind not in (numpy.ndarray, numpy.matrix, numpy.memmap):
-            raise Misused("a wrapper's class is none that joblib writes")
+            raise Misused("joblib writes no wrapper of this class")
         self.count = size_of(self.shape, self.type)
         if self.order not in ("C", "F") or self.type.subdtype is not None or not self.type.itemsize:
-            raise Misused("a wrapper's order or type is none that joblib writes")
+            raise Misused("joblib writes no wrapper with this order or type")
         if id(self.type) not in has_objects:
             has_objects[id(self.type)] = any(_objects_in(self.type))
         self.has_objects = has_objects[id(self.type)]
@@ -117,9 +117,9 @@ class _Array:
         if lent.gap.is_pickle:
             array = guard._loaded(lent.pickled, guard._decoding(None, None))
             if not isinstance(array, numpy.ndarray):
-                raise Misused("the pickle of an array of objects is no array")
+                raise Misused("the pickle of an array of objects isn't an array")
         elif lent.gap.size != self.count * self.type.itemsize:
-            raise Misused("an array doesn't have the length that its shape asks for")
+            raise Misused("an array doesn't have the length that its shape requires")
         elif self.is_mapped and place.mode is not None and place.path is not None:
             array = self._mapped(lent.gap.start, place.path, place.mode)
         else:

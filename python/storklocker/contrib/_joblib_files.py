@@ -123,9 +123,9 @@ def _unpacked(found: Opened, guard: Guard) -> Opened:
     except ImportError as error:
         raise guard.UnpicklingError(f"this Python can't unpack the file: {error}") from error
     if unpacked.fault:
-        raise guard.UnpicklingError(f"what is packed can't be read: {unpacked.fault}")
+        raise guard.UnpicklingError(f"the packed contents can't be read: {unpacked.fault}")
     if unpacked.end < source.size and found.finish is None:
-        raise guard.UnpicklingError("bytes follow what is packed")
+        raise guard.UnpicklingError("bytes follow the packed contents")
     finish = found.finish
     if finish is not None:
         finish = functools.partial(_finish, finish, unpacked.end)

@@ -33,7 +33,7 @@ def disk(guard: Guard) -> Type[Any]:
 
 def cache(guard: Guard) -> Type[Any]:
     """`diskcache.Cache` with a guarded disk. A refused value is a miss: `get` returns its default.
-    It is logged with its key, or told to the guard's `on_refusal`, where the key is the context.
+    It is logged with its key, or reported to the guard's `on_refusal` with the key as context.
     """
     from diskcache import Cache
 

@@ -76,7 +76,7 @@ def RedisCache(location: Any, params: Dict[str, Any]) -> Any:
 
 def session_serializer(guard: Guard) -> Type[Any]:
     """A class to be named by `SESSION_SERIALIZER`, in place of Django's `PickleSerializer`. A
-    refused session is empty, and is logged or told like a cache entry.
+    refused session is empty, and is logged or reported like a cache entry.
     """
     loader = CacheLoader(guard)
 

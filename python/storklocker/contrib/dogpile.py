@@ -27,8 +27,8 @@ def serialization(guard: Guard) -> Dict[str, Callable[[Any], Any]]:
 def proxy(guard: Guard) -> Type[Any]:
     """The class for the argument `wrap` of `configure`, which drops what the guard refuses.
 
-    `configure` raises TypeError for a backend that hands over objects and no bytes, as those of
-    memcached do: their client unpickles by itself what the server marks as a pickle.
+    `configure` raises TypeError for a backend that returns objects and not bytes, such as those of
+    memcached: their client unpickles by itself what the server marks as a pickle.
     """
     from dogpile.cache.proxy import ProxyBackend
 
@@ -73,7 +73,7 @@ def _kept(loader: CacheLoader, key: Any, stored: Any) -> Any:
 
 
 def _require_bytes(backend: Any) -> None:
-    """Raises TypeError unless the backend hands over the bytes that are stored."""
+    """Raises TypeError unless the backend returns the bytes that are stored."""
     from dogpile.cache.api import BytesBackend
     from dogpile.cache.backends.memory import MemoryBackend
     from dogpile.cache.backends.null import NullBackend
@@ -82,6 +82,6 @@ def _require_bytes(backend: Any) -> None:
         backend = backend.proxied
     if not isinstance(backend, (BytesBackend, MemoryBackend, NullBackend)):
         raise TypeError(
-            f"{type(backend).__name__} hands over objects, which its client unpickles by itself:"
-            " use a backend that hands over bytes, such as dogpile.cache.redis"
+            f"{type(backend).__name__} returns objects, which its client unpickles by itself: use"
+            " a backend that returns bytes, such as dogpile.cache.redis"
         )

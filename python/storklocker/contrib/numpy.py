@@ -56,7 +56,7 @@ def _array_of(data: bytes, guard: Guard) -> Any:
     if kind.hasobject:
         array = guard.loads(data[stream.tell() :])
         if not isinstance(array, numpy.ndarray):
-            raise guard.UnpicklingError(f"the pickle is no array: {type(array).__name__}")
+            raise guard.UnpicklingError(f"the pickle isn't an array: {type(array).__name__}")
         return array
     if functools.reduce(operator.mul, shape, kind.itemsize) > rest:  # NumPy takes the memory first
         raise guard.UnpicklingError("the header announces more bytes than follow")

@@ -119,7 +119,7 @@ class _Storages:
         if kind == "module" and len(saved) > 1:
             return (kind, saved[1], None, None)
         if kind != "storage" or len(saved) < 5 or not self._fits(*saved[1:5]):
-            raise self._guard.UnpicklingError("a persistent id is not that of a storage that fits")
+            raise self._guard.UnpicklingError("a persistent id names no storage that fits")
         return saved
 
     def _fits(self, storage: Any, key: Any, location: Any, count: Any) -> bool:

@@ -86,7 +86,7 @@ class Guarded:
     def load(self, plain: Type[Any], reader: Any, frame: FrameType) -> Any:
         """The object of the next pickle."""
         if self._is_primed:
-            raise pickle.UnpicklingError("a memo that was set is unknown to a check")
+            raise pickle.UnpicklingError("a check doesn't know a memo that was set")
         return self.admitting.load()
 
     def find_class(self, plain: Type[Any], reader: Any, *pair: str) -> Any:

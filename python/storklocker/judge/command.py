@@ -13,18 +13,19 @@ if TYPE_CHECKING:
 
 NOTHING, SOMETHING = 0, 1
 _DESCRIPTION = """\
-Calls the names of a module as a hostile pickle may, uses what they make, and says what it saw:
-code, commands, files, imports, other pickles, sockets, calls of what they are given, changes of
-what was there before, what modules keep, and calls that are slow, grow or end the process. It
-imports the module and RUNS ITS CODE, on purpose: in processes of its own, under limits, where an
-audit hook refuses what would harm, and without a network where the system permits that. That is no
-sandbox: compiled code gets around it. Use it on your own modules, as no privileged user.
+Calls the names of a module as a hostile pickle may, uses the results, and reports what they did:
+ran code or commands, used files, sockets, imports or other pickles, called their arguments, changed
+existing objects, kept something in a module, took too long or too much memory, or ended the
+process. It imports the module and RUNS ITS CODE, on purpose: in processes of its own, under limits,
+with an audit hook that refuses harmful events, and without a network where the system permits that.
+This is no sandbox: compiled code gets around it. Use it on your own modules, as an unprivileged
+user.
 
-What it doesn't see may be there all the same: it tells what was tried, and judges nothing.
+It reports what it tried. A name without a finding may still do harm.
 """
 _STATUSES = """exit status:
-  0  nothing of that was seen
-  1  something was seen
+  0  no name did any of that
+  1  a name did some of it
   2  a module can't be imported, has no such name, or this system can't fork
 """
 
@@ -33,16 +34,18 @@ def add_command(commands: "argparse._SubParsersAction[argparse.ArgumentParser]")
     """Adds the command to a parser."""
     it = commands.add_parser(
         "judge",
-        help="calls the names of a module as a hostile pickle may, and says what it saw",
+        help="calls the names of a module as a hostile pickle may, and reports what they did",
         description=_DESCRIPTION,
         epilog=_STATUSES,
         formatter_class=argparse.RawDescriptionHelpFormatter,
     )
     it.add_argument("names", nargs="+", metavar="MODULE", help="a module, or module:name")
-    it.add_argument("--recursive", action="store_true", help="also the modules below it")
-    it.add_argument("--methods", action="store_true", help="also the methods of its classes")
-    it.add_argument("--format", choices=("text", "json"), default="text", help="of the report")
-    it.add_argument("--seconds", type=float, default=0.5, help="what a call may take")
+    it.add_argument("--recursive", action="store_true", help="also try the modules below it")
+    it.add_argument("--methods", action="store_true", help="also try the methods of its classes")
+    it.add_argument(
+        "--format", choices=("text", "json"), default="text", help="the format of the report"
+    )
+    it.add_argument("--seconds", type=float, default=0.5, help="how long a call may take")
     it.set_defaults(run=_judge)
 
 
@@ -96,7 +99,7 @@ def _end(found: List[Judged]) -> Iterator[str]:
     yield f"{len(found):,} names were tried, {harmed:,} of which did something."
     yield f"Tried, under Python {how['python']}: {how['calls']}; with {how['shapes']} values."
     yield f"Then, with what was made: {how['uses']}. Sockets: {how['network']}."
-    yield "What wasn't tried isn't known."
+    yield "Nothing else was tried."
 
 
 def _told(found: List[Judged]) -> Dict[str, Any]:

@@ -49,8 +49,8 @@ def why_of(data: bytes, at: int) -> str:
     """What is to be told of the calls of the pickle at an offset."""
     _, is_whole, number, place, _ = uses(begin_uses(), data, at, _role_of, True)
     if place >= 0 and number < 0:
-        return f"at byte {place:,} it calls what a call of its own has made"
-    return "" if is_whole else "its calls can't be followed: it has what no pickler writes"
+        return f"at byte {place:,} it calls the result of its own call"
+    return "" if is_whole else "its calls can't be followed: no pickler writes such a pickle"
 
 
 def called_findings(held: Sequence[Tuple[Source, int]]) -> List[Finding]:

@@ -78,7 +78,7 @@ class Records(Follower):
 
     def _build(self, made: Any, state: Any) -> None:
         if not isinstance(made, Made):
-            raise NotFollowed("a state is given to what torch never gives one")
+            raise NotFollowed("a state is set on an object to which torch gives none")
         items = state.items if isinstance(state, Dict_) else None
         if made.pair[1] == _RECORD:
             self._keep(made, items or {})
@@ -96,7 +96,7 @@ class Records(Follower):
         if type(file) is not str or not _FILE.fullmatch(file):
             raise NotFollowed(f"a value is in {str(file)[:80]!r}, not in a {PART} beside it")
         if type(offset) is not int or type(length) is not int or min(offset, length) < 0:
-            raise NotFollowed("the place of a value is no number")
+            raise NotFollowed("the offset of a value isn't a number")
         self._found.append(Record(file, offset, length))
 
 

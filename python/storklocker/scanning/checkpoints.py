@@ -37,7 +37,7 @@ def checkpoint_reading(place: Place) -> Found:
         parts.add((end, part.size))
         end += part.size
     if end < place.source.size:
-        why = "it isn't zip files, one behind another: what a reader gets to isn't known"
+        why = "it isn't zip files, one after another: what a reader reaches is unknown"
         yield place.unread(_KIND, "broken-container", why)
     yield from searched(place, _KIND, known)
     beside = place.beside()
@@ -52,7 +52,7 @@ def _recorded(place: Place, beside: Source, parts: Set[Tuple[int, int]]) -> Foun
     name = _name_of(place)
     try:
         if not length_at(beside, 0, place.budget):
-            raise NotFollowed("it is no pickle that a list accepts")
+            raise NotFollowed("it isn't a pickle that a list accepts")
         for record in Records(beside, place.budget.spend).found():
             if record.file.lower() == name and (record.offset, record.length) not in parts:
                 why = f"by {METADATA}, a value of {record.length:,} bytes is at {record.offset:,}"
@@ -74,7 +74,7 @@ def records_reading(place: Place) -> Found:
     try:
         found = Records(place.source, place.budget.spend).found()
     except NotFollowed as error:
-        why = f"where torch finds values isn't known: {error}"
+        why = f"where torch finds values is unknown: {error}"
         yield place.unread(_KIND, "broken-container", why)
     else:
         if found and named.group(1):

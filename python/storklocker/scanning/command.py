@@ -33,8 +33,8 @@ UNJUDGED = 3
 _STATUSES = """exit status:
   0    everything was read to its end, and no finding is as severe as --fail-on
   1    a finding is at least as severe as --fail-on, even if something else couldn't be read:
-         refused  a guard with the list refuses it, or only a load shows whether it does (unless
-                  --guarded): the default with --allow, and always for `check`
+         refused  a guard with the list refuses it, or may (only a load decides, see --guarded):
+                  the default with --allow, and always for `check`
          danger   it imports a name that runs code or writes files
          warning  it imports a name that reads files, reaches the network or changes the process;
                   or a guard refuses it by default, because of what loading it costs or changes
@@ -106,7 +106,8 @@ def command_parser(command: str = "") -> argparse.ArgumentParser:
     """
     parser = argparse.ArgumentParser(
         "storklocker",
-        description="Lists the names that pickles would import, before anything loads them.",
+        description="Lists the names that pickles would import, before anything loads them. Start"
+        " with `storklocker scan PATH`.",
         epilog=_STATUSES,
         formatter_class=argparse.RawDescriptionHelpFormatter,
     )
@@ -122,6 +123,8 @@ def _add_scan(commands: "argparse._SubParsersAction[argparse.ArgumentParser]") -
     it = commands.add_parser(
         "scan",
         help="lists the pickles in files, and the names that they would import",
+        description="Lists the pickles in files, folders, archives, databases and models, with the"
+        " names\nthat they would import, and flags those that run code. Nothing in a file runs.",
         epilog=_STATUSES,
         formatter_class=argparse.RawDescriptionHelpFormatter,
     )
@@ -131,7 +134,10 @@ def _add_scan(commands: "argparse._SubParsersAction[argparse.ArgumentParser]") -
 
 def _add_check(commands: "argparse._SubParsersAction[argparse.ArgumentParser]") -> None:
     it = commands.add_parser(
-        "check", help="checks whether a guard with a list loads files"
+        "check",
+        help="checks whether a guard with a list loads files",
+        description="Checks whether a guard with this list loads each file: yes, or the offset and"
+        " the reason of the refusal.",
     )
     it.add_argument("paths", nargs="+", metavar="FILE", help="a file, or - for standard input")
     it.add_argument("--allow", action="append", metavar="LIST", required=True, help=LISTS)
@@ -140,13 +146,22 @@ def _add_check(commands: "argparse._SubParsersAction[argparse.ArgumentParser]") 
 
 
 def _add_imports(commands: "argparse._SubParsersAction[argparse.ArgumentParser]") -> None:
-    it = commands.add_parser("imports", help="lists the names that files would import")
+    it = commands.add_parser(
+        "imports",
+        help="lists the names that files would import",
+        description="Lists each name that the pickles in files would import, once.",
+    )
     it.add_argument("paths", nargs="+", metavar="FILE", help="a file, or - for standard input")
     it.set_defaults(run=_imports)
 
 
 def _add_learn(commands: "argparse._SubParsersAction[argparse.ArgumentParser]") -> None:
-    it = commands.add_parser("learn", help="writes a list file from trusted files or from logs")
+    it = commands.add_parser(
+        "learn",
+        help="writes a list file from trusted files or from logs",
+        description="Prints a list file with the names that trusted files import. Dangerous names"
+        " become comments: review it before use.",
+    )
     it.add_argument("paths", nargs="*", metavar="PATH", help=PATH)
     it.add_argument(
         "--from-log",
@@ -160,13 +175,18 @@ def _add_learn(commands: "argparse._SubParsersAction[argparse.ArgumentParser]") 
 
 
 def _add_lint(commands: "argparse._SubParsersAction[argparse.ArgumentParser]") -> None:
-    it = commands.add_parser("lint", help="lists the dangerous and the unjudged names in a list")
+    it = commands.add_parser(
+        "lint",
+        help="lists the dangerous and the unjudged names in a list",
+        description="Lists the names in a list that are dangerous (status 1), do more than hold"
+        " data, or that nobody has judged (status 3).",
+    )
     it.add_argument("list", metavar="LIST", help=LISTS)
     it.add_argument(
         "--fail-on",
         choices=(DANGER, UNKNOWN),
         default=UNKNOWN,
-        help="the least finding that causes a status; unknown by default",
+        help="the least severe finding that causes status 1 or 3; unknown by default",
     )
     it.set_defaults(run=_lint)
 

@@ -106,14 +106,14 @@ def _table_of(path: Path) -> Optional[Dict[str, Any]]:
     except ImportError:
         if not _has_table(text):
             return None
-        why = "takes Python 3.11, or the package tomli: --no-config leaves it out"
+        why = "needs Python 3.11, or the package tomli: --no-config ignores it"
         raise OSError(f"{path}: {_TABLE} {why}") from None
     try:
         table = reader.loads(text).get("tool", {}).get("storklocker")
     except (ValueError, AttributeError, RecursionError) as error:
         raise OSError(f"{path}: {shown(str(error))}") from None
     if table is not None and not isinstance(table, dict):
-        raise OSError(f"{path}: {_TABLE} is no table")
+        raise OSError(f"{path}: {_TABLE} isn't a table")
     return table
 
 
@@ -133,4 +133,4 @@ def _has_table(text: str) -> bool:
 def _require_own(path: Path) -> None:
     """Raises OSError for a file of another user."""
     if hasattr(os, "getuid") and path.stat().st_uid not in (os.getuid(), 0):
-        raise OSError(f"{path} belongs to another user: --no-config leaves its {_TABLE} out")
+        raise OSError(f"{path} belongs to another user: --no-config ignores its {_TABLE}")

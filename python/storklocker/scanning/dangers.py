@@ -36,7 +36,7 @@ _MAKING = (".__init__", ".__new__", ".__call__")
 """What does as much as its class."""
 _KINDS = {DANGER: "dangerous-import", WARNING: "risky-import"}
 _INNER = Row(DANGER, "It reaches into an object, and from there any object of the interpreter.")
-_MAIN = Row(WARNING, "The import of this module runs it as a command.")
+_MAIN = Row(WARNING, "Importing this module runs it as a command.")
 _DOTTED = re.compile(r"[^\W\d][\w-]*(\.[^\W\d][\w-]*)*")
 """A name with dots, as no sentences are."""
 _INWARDS = frozenset(

@@ -63,7 +63,7 @@ FORMATS = (
     _Format(
         "Python bytecode",
         HOLDS,
-        "Python runs it where it is imported",
+        "Python runs it when it is imported",
         # (flags of 3.7 and later, and the code behind a header of 8, 12 or 16 bytes)
         rb"..\r\n(?:[\0-\3]\0\0\0.{8}[\xe3c]|.{4}c\0\0\0|.{8}[\xe3c]\0\0\0)",
     ),
@@ -76,7 +76,7 @@ FORMATS = (
     _Format(
         "GGUF",
         HOLDS,
-        "programs for chats run its template",
+        "chat programs run its template",
         rb"GGUF",
         (b"chat_template",),
         rb"tokenizer\.chat_template",

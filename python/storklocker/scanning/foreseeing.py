@@ -86,7 +86,8 @@ def foreseen(source: Source, most: int, look: Look, budget: Budget) -> Foreseen:
     many, whose names and costs the list permits.
     """
     if source.size > LARGEST:
-        return Foreseen(Fate.UNDECIDED, f"its {source.size:,} bytes are too many to foresee it")
+        why = f"its {source.size:,} bytes are too many to predict its load"
+        return Foreseen(Fate.UNDECIDED, why)
     data, at, worst = source.read(0, source.size), 0, _LOADED
     told: Dict[bytes, Foreseen] = {}
     for _ in range(most):
@@ -99,7 +100,7 @@ def foreseen(source: Source, most: int, look: Look, budget: Budget) -> Foreseen:
         try:
             budget.spend(look.spent())
         except TooMuch:
-            return Foreseen(Fate.UNDECIDED, "its pickles are too many to foresee them")
+            return Foreseen(Fate.UNDECIDED, "it has too many pickles to predict their load")
         worst = worst if one.fate is Fate.LOADED else one
         at = end
     return worst
@@ -284,7 +285,7 @@ class Foreseer(Reader):
                 return asked[0]
         if type(asked) is tuple and len(asked) == 2:
             if not self.knows(_judged_of(type(asked[0]), asked[1])):
-                raise _Late("the state of an array has what only a load makes")
+                raise _Late("the state of an array has a part that only a load makes")
         return super().persistent_load(asked)
 
     def persistent(self, number: Any) -> Any:
@@ -292,7 +293,7 @@ class Foreseer(Reader):
         return Storage(number[4]) if is_storage and type(number[4]) is int else UNKNOWN
 
     def called(self, called: Any, given: Any) -> Any:
-        return self.put_off("it calls what a persistent id gives")
+        return self.put_off("it calls what a persistent id returns")
 
     def knows(self, given: Any) -> bool:
         """Whether all of these values is what a guard's reader would have here."""

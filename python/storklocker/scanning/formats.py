@@ -44,7 +44,7 @@ def rows(reports: Iterable[Report], quiet: int = 0, paint: Paint = plain) -> Ite
     if 0 < quiet < count:
         yield f"{_INDENT}{count - quiet} more without a pickle"
     if is_unknown:
-        yield f"what to do about what is unknown: {KINDS['unknown-import'].advice}"
+        yield f"what to do about unknown names: {KINDS['unknown-import'].advice}"
 
 
 def _lines(report: Report, paint: Paint) -> List[str]:

@@ -231,7 +231,7 @@ def _nothing(it: Nothing, file: str, question: Question) -> Report:
     """The report on bytes without a pickle, or with what isn't read here."""
     report = Report(it.path, it.kind, Word.NO_PICKLE, it.why, it.size, file=file)
     if it.kind == UNRECOGNIZED and question.with_unrecognized:
-        return judged(report, [Finding("unrecognized", "no reading knows what it is")])
+        return judged(report, [Finding("unrecognized", "no reader recognizes it")])
     if it.finding is None:
         return report
     return judged(report._replace(status=Word.CODE), [it.finding])
@@ -338,7 +338,7 @@ def _kind_of(piece: Piece, row: Row) -> str:
         return "text"
     if row.pickles < 2 or piece.most:
         return piece.kind
-    return "row of pickles" if piece.kind == "pickle" else f"{piece.kind}, row of pickles"
+    return "stream of pickles" if piece.kind == "pickle" else f"{piece.kind}, stream of pickles"
 
 
 _Told = Tuple[Tuple[Pair, ...], Tuple[Pair, ...], List[Finding]]

@@ -31,16 +31,17 @@ _IMPORTS = re.compile(r"(?m)^[ \t]*\[[ \t]*imports[ \t]*\][^\n]*\n")
 
 def add_commands(commands: "argparse._SubParsersAction[argparse.ArgumentParser]") -> None:
     """Adds the commands to a parser."""
-    within = commands.add_parser("list", help="shows and compares lists, and adds names to one")
+    what = "shows and compares lists, and adds names to one"
+    within = commands.add_parser("list", help=what, description=f"{what.capitalize()}.")
     its = within.add_subparsers(required=True, metavar="COMMAND")
     show = its.add_parser("show", help="prints lists as one list file")
     show.add_argument("lists", nargs="*", metavar="LIST", help=LISTS)
     show.set_defaults(run=_show)
-    diff = its.add_parser("diff", help="shows what differs between two lists; status 1 if they do")
+    diff = its.add_parser("diff", help="shows how two lists differ; status 1 if they do")
     diff.add_argument("old", metavar="OLD", help=LISTS)
     diff.add_argument("new", metavar="NEW", help=LISTS)
     diff.set_defaults(run=_diff)
-    add = its.add_parser("add", help="adds names to a list file, whose comments stay")
+    add = its.add_parser("add", help="adds names to a list file, and keeps its comments")
     add.add_argument("list", metavar="LIST", help="the list file; a new one if there is none")
     add.add_argument(
         "names", nargs="+", metavar="NAME", help="module.name, or module:name if the name has dots"
@@ -136,13 +137,13 @@ def said_by(meant: Meant) -> Dict[str, str]:
 
 def _add(asked: argparse.Namespace) -> int:
     if asked.list.startswith("@"):
-        raise OSError(f"{shown(asked.list)} is no file: names are added to a list of your own")
+        raise OSError(f"{shown(asked.list)} isn't a file: add names to a list of your own")
     path, pairs, refused = Path(asked.list), [], False
     for name in asked.names:
         pair = pair_of(name)
         why = danger_of(pair)
         if why and not asked.dangerous:
-            print(f"storklocker: {shown(name)} isn't added. {why} (--dangerous)", file=sys.stderr)
+            print(f"storklocker: {shown(name)} is not added. {why} (--dangerous)", file=sys.stderr)
             refused = True
         else:
             pairs.append(pair)
@@ -161,7 +162,7 @@ def pair_of(name: str) -> Pair:
     """The pair of a dotted name. Raises OSError if it is none."""
     module, _, own = name.partition(":") if ":" in name else name.rpartition(".")
     if not module or not own:
-        raise OSError(f"{name!r} is no name: write module.name, or module:name")
+        raise OSError(f"{name!r} isn't a name: write module.name, or module:name")
     return (module, own)
 
 
@@ -183,7 +184,7 @@ def with_names(text: str, pairs: List[Pair]) -> str:
     except ValueError:
         is_right = False
     if not is_right:
-        raise ValueError("its layout is none that is known here: add the names by hand")
+        raise ValueError("its layout is unknown: add the names by hand")
     return made
 
 

@@ -56,12 +56,12 @@ def npy_reading(place: Place) -> Found:
         behind = _behind_pickles(place, at)
         if behind > at:
             rows = source.part(at, behind - at)
-            yield Piece(place.path, "behind an array", rows, True)
+            yield Piece(place.path, "after an array", rows, True)
             at = behind
     if not at:
         return False
     if at < source.size:
-        yield from examine(place.inside("", source.part(at, source.size), "behind an array"))
+        yield from examine(place.inside("", source.part(at, source.size), "after an array"))
     return True
 
 
@@ -93,9 +93,9 @@ def _header_at(source: Source, at: int) -> _Header:
     text = source.read(at + 8 + width, length).decode("latin-1" if front[6] < 3 else "utf-8")
     found = ast.literal_eval(_LONG.sub("", text).strip())
     if set(found) != {"descr", "fortran_order", "shape"} or front[6] not in (1, 2, 3) or front[7]:
-        raise ValueError("its header is none of NumPy's")
+        raise ValueError("its header isn't NumPy's")
     if type(found["shape"]) is not tuple or type(found["fortran_order"]) is not bool:
-        raise ValueError("its shape or order is none of NumPy's")
+        raise ValueError("its shape or order isn't NumPy's")
     size, fault = _size_of(found["descr"]), ""
     if not _is_written(found["descr"]):
         fault = "its type isn't as NumPy writes it: readers differ in where it ends"

@@ -90,7 +90,8 @@ def _add_judgements(it: argparse.ArgumentParser) -> None:
     it.add_argument(
         "--fail-on",
         choices=FAIL_ON,
-        help="the least finding that causes status 1: by default refused with --allow, or unknown",
+        help="the least severe finding that causes status 1: by default refused with --allow,"
+        " otherwise unknown",
     )
     it.add_argument("--guarded", action="store_true", help=GUARDED)
 

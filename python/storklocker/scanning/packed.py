@@ -176,12 +176,12 @@ def _unpacked(place: Place, at: int, form: _Format) -> Tuple[Source, str, int]:
             begins = _is_lzma(source.read(found.end, 32)) and not is_at(source.read(at, 32))
             at = found.end if begins else at  # (LZMA alone may begin with zeros)
         if not is_at(source.read(at, 32)):
-            return in_memory(out), f"{source.size - at:,} bytes follow what is packed", gap
+            return in_memory(out), f"{source.size - at:,} bytes follow the packed contents", gap
         if at > found.end:
-            fault = "zeros stand between what is packed: readers differ"
+            fault = "zeros separate its packed parts: readers differ"
         is_same = form.is_at(source.read(at, 32))
         if form.is_certain and not is_same:
-            fault = "something else is packed behind it: readers differ"
+            fault = "other packed data follows it: readers differ"
         if at > found.end or not (form.is_certain and is_same):
             gap = out.tell() if gap <= 0 else gap
 
@@ -329,13 +329,13 @@ _UNKNOWN = tuple(
         ("rar", rb"Rar!\x1a\x07"),
         ("zstd", rb"[\x1e\x22-\x28]\xb5\x2f\xfd"),
         ("lz4", rb"(\x04\x22\x4d|\x02\x21\x4c)\x18"),
-        ("zstd or lz4, behind a frame that is skipped", rb"[\x50-\x5f]\x2a\x4d\x18"),
+        ("zstd or lz4, after a skipped frame", rb"[\x50-\x5f]\x2a\x4d\x18"),
         ("lzip", rb"LZIP\x01"),
     )
 )
 _BLOSC = struct.Struct("<BBHLLL")
 """Its version, that of what packs, flags, and the sizes: unpacked, of a block, and packed."""
-_NOT_HERE = "it is packed in a way that is not unpacked here"
+_NOT_HERE = "it is packed in a way that a scan can't unpack"
 UNREAD = re.compile(b"|".join(magic.pattern for _, magic in _UNKNOWN), re.DOTALL)
 """How a file begins that is packed in such a way, but for Blosc's."""
 

@@ -29,12 +29,12 @@ def pickle_reading(place: Place) -> Found:
     if packed:
         yield place.piece(place.around, most=1)
         rest = place.source.part(packed, place.source.size)
-        yield from examine(place.inside("", rest, "behind a pickle"))
+        yield from examine(place.inside("", rest, "after a pickle"))
         return True
     if not place.source.front().startswith(_TORCH):
         taken = yield place.piece(place.around)
         return taken is not None
     taken = yield place.piece("torch", 0, True, _TORCH_PICKLES)
     if taken:  # a reader that goes on gets to the numbers
-        yield place.piece("behind a torch file", taken)
+        yield place.piece("after a torch file", taken)
     return True

@@ -47,5 +47,5 @@ def _advice(error: OSError) -> str:
     if not PROGRAM.exists():
         return "this package has none: install a released wheel, or run ./pktool of the repository"
     if isinstance(error, PermissionError):
-        return "it isn't executable: have pip install the wheel, and where programs may run"
+        return "it isn't executable: install the wheel with pip, where programs may run"
     return error.strerror or str(error)

@@ -128,10 +128,10 @@ class Place(NamedTuple):
 
 
 Reading = Callable[[Place], Found]
-_SEARCHED = "looked through for pickles, not read as its programs read it"
+_SEARCHED = "searched for pickles, not read as its programs read it"
 _ONLY = {
     "npy": "numbers only",
-    "SQLite": "no value is a pickle, as it stands",
+    "SQLite": "no value is itself a pickle",
     **dict.fromkeys(("HDF5", "GDBM", "Berkeley DB", "LMDB", "Arrow", "Parquet"), _SEARCHED),
     "other stores": _SEARCHED,
 }
@@ -166,7 +166,7 @@ def examine(place: Place) -> Found:
     reports = place.budget.reports
     takers: List[str] = []
     if place.depth < 0:
-        raise TooMuch(f"containers are more than {DEPTH} deep in one another")
+        raise TooMuch(f"containers are nested more than {DEPTH} deep")
     asked = all_asked()(place.path, place.source)
     place.budget.spend(2 * STEP * (1 + len(asked)))
     for name, reading in asked:

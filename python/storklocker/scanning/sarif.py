@@ -27,7 +27,7 @@ _SCORES = {
     UNKNOWN: "5.0", NOTE: "2.0",
 }
 """By which Code scanning sorts: from 9 on it is critical, from 7 high, from 4 medium."""
-_PLAIN = ("pickle", "row of pickles")
+_PLAIN = ("pickle", "stream of pickles")
 """The kinds of files whose offsets are those of their pickles."""
 _TEXT = 1000
 """The most characters of a message."""

@@ -103,19 +103,19 @@ KINDS: Dict[str, Kind] = {
     ),
     "costly-keys": Kind(
         WARNING,
-        "Loading the pickle may take the reader's time or crash it",
+        "Loading the pickle may take very long, or crash the reader",
         "Load it only through a guard, which refuses it. If you trust where it comes from, `Limits`"
         " of the guard raise what it may cost.",
     ),
     "changed-import": Kind(
         WARNING,
-        "The pickle changes an object that it imports, for all who use that",
+        "The pickle changes an imported object, for all who use it",
         "Don't load it: no pickler writes such a pickle, and a guard refuses it.",
     ),
     "called-answer": Kind(
         WARNING,
-        "The pickle calls what its own call has made",
-        "Don't load it: hardly a library writes such a pickle, and a guard refuses it.",
+        "The pickle calls the result of its own call",
+        "Don't load it: almost no library writes such a pickle, and a guard refuses it.",
     ),
     "wildcard": Kind(
         WARNING,
@@ -140,7 +140,7 @@ KINDS: Dict[str, Kind] = {
     ),
     "dangling-link": Kind(
         NOTE,
-        "A link leads to nothing",
+        "A link leads nowhere",
         "Scan again where the link leads to a file, or delete it.",
     ),
     "unrecognized": Kind(

@@ -48,7 +48,7 @@ def shelf_reading(place: Place) -> Found:
     place.budget.shelves.add(place.source.place(0))
     taken = yield place.piece("dbm.dumb", most=1)
     if taken:
-        yield place.piece("behind a value", taken)
+        yield place.piece("after a value", taken)
     plain = Values(place, "dbm.dumb")
     taken_of = partial(_taken_of, place, plain)
     for (start, size), key in plain.batches.left_of(list(values.items()), taken_of):

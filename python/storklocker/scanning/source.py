@@ -88,7 +88,7 @@ class _Window(io.RawIOBase):
     def seek(self, offset: int, whence: int = os.SEEK_SET) -> int:
         base = {os.SEEK_SET: 0, os.SEEK_CUR: self._at, os.SEEK_END: self._source.size}[whence]
         if base + offset < 0:
-            raise OSError("a place in front of the first byte")
+            raise OSError("a place before the first byte")
         self._at = base + offset
         return self._at
 

@@ -161,7 +161,7 @@ class _Reader:
                 yield from self._values_of(name)
             except sqlite3.Error as error:
                 if self._is_over:
-                    why = f"{name[:80]!r} takes more steps than it may: it wasn't read"
+                    why = f"{name[:80]!r} takes too many steps: it wasn't read"
                     raise TooMuch(why) from None
                 if not str(error).startswith(_HARMLESS_FAULTS):
                     yield Made(name, b"", f"SQLite can't read its {name[:80]!r}: {error}")

@@ -89,7 +89,7 @@ class Watched(Substitute):
         return kind.__new__(kind)
 
     def _put_off(self) -> Any:
-        return self._reader.put_off(f"{self.name} is given what only a load makes")
+        return self._reader.put_off(f"{self.name} is called with something that only a load makes")
 
 
 class Storage(Answer):
@@ -123,7 +123,8 @@ class Tensors(Substitute):
     def __call__(self, *given: Any) -> Answer:
         is_one = bool(given) and type(given[0]) is self._kind
         if not is_one or any(map(self._is_unknown, given[1:])):
-            return self._reader.put_off(f"{self.name} is given what only a load makes")
+            why = f"{self.name} is called with something that only a load makes"
+            return self._reader.put_off(why)
         if self._kind is Storage:
             judge_tensor(given)
             return Tensor(None)
@@ -150,7 +151,7 @@ class PutOff(Substitute):
         self._reader = reader
 
     def __call__(self, *given: Any) -> Any:
-        return self._reader.put_off(f"{self.name} judges what it is given when it is loaded")
+        return self._reader.put_off(f"{self.name} judges its arguments during the load")
 
     def new(self, reader: Any, *given: Any) -> Any:
         return self(*given)

@@ -35,9 +35,9 @@ class Store:
             self._base.execute("insert or ignore into question values (?)", (self._digest,))
             asked = [row[0] for row in self._base.execute("select digest from question")]
         except sqlite3.Error as error:
-            raise OSError(f"{path} is no file of --resume: {error}") from None
+            raise OSError(f"{path} isn't a file of --resume: {error}") from None
         if asked != [self._digest]:
-            raise OSError(f"{path} is of a scan with another list, format or version")
+            raise OSError(f"{path} belongs to a scan with another list, format or version")
         self._base.commit()
 
     def marked(self, files: Iterable[File]) -> Iterator[File]:

@@ -83,7 +83,7 @@ def _check(file: Any) -> None:
         content = file.read(max(header.size, 0))
         file.seek(at)
         if _DIGITS.search(content) or not _has_records(content):
-            raise _Broken("a header of POSIX is at fault: the rest was not read")
+            raise _Broken("a POSIX header is broken: the rest was not read")
 
 
 def _has_records(content: bytes) -> bool:
@@ -109,7 +109,7 @@ class _Archive(tarfile.TarFile):
         """The next member, with this many in front of it."""
         entry = self.next()
         if self.headers <= count:
-            raise _Broken("this Python reads headers in a way that isn't known here")
+            raise _Broken("this Python reads headers in an unknown way")
         return entry
 
 
@@ -160,7 +160,7 @@ def _entries(
             if entry is None:
                 break
             if archive.ends:
-                odd.append("more follows the end that it marks")
+                odd.append("more follows the end marker")
             odd += _oddities(source, archive, entry)
             place.budget.spend_member()
             if not entry.isreg() and entry.type in tarfile.SUPPORTED_TYPES:

@@ -110,7 +110,7 @@ class Unseen(Substitute):
         return is_known or kind is not None and not issubclass(kind, _PARTICULAR)
 
     def _put_off(self) -> Any:
-        return self._reader.put_off(f"{self.name} judges what it is given when it is loaded")
+        return self._reader.put_off(f"{self.name} judges its arguments during the load")
 
     def new(self, reader: Any, *given: Any) -> Any:
         is_class = self._pair[1].lstrip("_")[:1].isupper() and not is_error(self._pair)
@@ -138,7 +138,7 @@ def judge_items(made: Any) -> None:
     pair = made.pair
     kind = class_of(pair)
     if is_error(pair) or kind is not None and not takes_items(kind):
-        raise Misused(f"items for what {'.'.join(pair)} makes, which is no container")
+        raise Misused(f"items for what {'.'.join(pair)} makes, which isn't a container")
 
 
 def judge_state(reader: Foreseer, made: Any, state: Any) -> None:
@@ -151,13 +151,13 @@ def judge_state(reader: Foreseer, made: Any, state: Any) -> None:
     for row in state if type(state) is tuple and len(state) == 2 else (state,):
         if type(row) is dict and not all(_is_harmless(key, row[key]) for key in row):
             if row is state and any(map(_is_refused, row)):
-                raise Misused("a state sets what Python gives a meaning")
-            reader.put_off(f"the state of a {pair[1]} sets what Python gives a meaning")
+                raise Misused("a state sets what has a meaning in Python")
+            reader.put_off(f"the state of a {pair[1]} sets what has a meaning in Python")
     judge = KNOWN.get(_BASES.get(pair, pair))
     if judge is not None and not reader.knows(state):
-        reader.put_off(f"the state of a {pair[1]} has what only a load makes")
+        reader.put_off(f"the state of a {pair[1]} has a part that only a load makes")
     elif judge is not None and not judge(state):
-        raise Misused(f"the state of a {pair[1]} is of no known kind")
+        raise Misused(f"the state of a {pair[1]} has an unexpected form")
     if package == "sklearn":
         _judge_estimator(reader, made, state)
     elif package in PACKAGES and package not in PLAIN:
@@ -198,7 +198,7 @@ def _judge_error(reader: Foreseer, pair: Pair, state: Any) -> None:
         if not reader.knows(held.get("__notes__")) or any(
             isinstance(held[name], Answer) for name in held if name in members
         ):
-            reader.put_off(f"the state of a {pair[1]} has what only a load makes")
+            reader.put_off(f"the state of a {pair[1]} has a part that only a load makes")
         else:
             judged_state(kind, state)
     elif state is not None and state != {}:

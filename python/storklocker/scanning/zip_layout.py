@@ -97,7 +97,7 @@ def _directories_at(source: Source, at: int) -> Iterator[Directory]:
     is_right = len(behind) == comment and _COMMIT.fullmatch(behind) is not None
     fault = "" if is_right else "bytes follow its end record"
     if disk or first or here != count:
-        fault = "it is one of several disks"
+        fault = "it is a part of a split archive"
     plain = Directory(at, at, start, size, count, fault)
     large = _large(source, plain)
     if large is not None:
@@ -214,7 +214,7 @@ def fault_of(source: Source, found: Directory, listed: List[Entry]) -> str:
     ends = [entry.at for entry in members[1:]] + [found.start + shift]
     begin = members[0].at if members else ends[0]
     if begin and not _is_program(source, begin, bool(members)):
-        return "its first bytes are of no member"
+        return "its first bytes belong to no member"
     data, base = b"", 0
     for entry, end in zip(members, ends):
         if not 0 <= entry.at - base <= len(data) - _LOCAL.size - len(entry.name):

@@ -244,7 +244,7 @@ def _unpacked(packed: Source, method: int, place: Place) -> Tuple[Source, str]:
         return packed.part(0, 0), f"{NO_MODULE}: {error}"
     fault = found.fault
     if not fault and found.end != packed.size:
-        fault = "bytes follow what is packed"
+        fault = "bytes follow the packed contents"
     return in_memory(found.data), fault
 
 

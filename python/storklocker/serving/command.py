@@ -13,7 +13,10 @@ _FAULT = 2
 def add_command(commands: "argparse._SubParsersAction[argparse.ArgumentParser]") -> None:
     """Adds the command to a parser."""
     it = commands.add_parser(
-        "serve", help="answers over HTTP and clamd's protocol whether a guard loads what it is sent"
+        "serve",
+        help="answers requests for verdicts, over HTTP and clamd's protocol",
+        description="Answers over HTTP, or by clamd's protocol, whether a guard with a list loads"
+        " the bytes of a request.",
     )
     add_options(it)
     it.set_defaults(run=run)

@@ -83,7 +83,7 @@ def _tls_of(asked: argparse.Namespace) -> Optional[_Tls]:
     if given == (None, None):
         return None
     if None in given:
-        raise OSError("--tls-certificate and --tls-key need each other")
+        raise OSError("--tls-certificate and --tls-key must be given together")
     return _Tls(*given)
 
 
@@ -189,7 +189,7 @@ class Daemon:
                 try:
                     self._tls.read()
                 except OSError:
-                    _LOG.error("The certificate is not read, and stays as it was")
+                    _LOG.error("The certificate could not be read, and stays as it was")
 
     async def _read_lists(self, is_told: bool) -> None:
         """Takes the lists as they are now; a fault leaves them as they were. Nothing of a list is
@@ -203,11 +203,11 @@ class Daemon:
                 return
         except (OSError, Ended) as error:
             if is_told or not self._desk.is_stale:
-                _LOG.error("The lists stay as they were: they are not read (%s)", _kind_of(error))
+                _LOG.error("The lists stay as they were: reading failed (%s)", _kind_of(error))
             self._desk.is_stale = True
             return
         self._desk.is_stale = False
-        _LOG.info("The lists are read: %s", ", ".join(f"{k} {v}" for k, v in found.etags.items()))
+        _LOG.info("The lists were read: %s", ", ".join(f"{k} {v}" for k, v in found.etags.items()))
 
     async def _stop(self) -> None:
         """Ends when what runs has been answered, at the latest after the time of a request."""

@@ -118,7 +118,7 @@ class Desk:
     def _answer(self, kind: str, listed: str, told: Told, body: Body) -> Answer:
         """What the command would say and end with."""
         if not told.reports:
-            raise ValueError("a worker told nothing")
+            raise ValueError("a worker reported nothing")
         status, lines = self._said(kind, told.reports)
         return Answer(status, lines, told.reports, listed, told.etag, body.size)
 

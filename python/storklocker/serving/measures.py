@@ -28,8 +28,8 @@ def _lines(
     for it, kind, what, value in (
         ("read_bytes_total", "counter", "Bytes of bodies that were read.", desk.read),
         ("worker_deaths_total", "counter", "Workers that died.", desk.workers.deaths),
-        ("turned_away_total", "counter", "Connections too many.", connections.turned_away),
-        ("workers", "gauge", "Workers that answer.", desk.workers.alive),
+        ("turned_away_total", "counter", "Connections over the limit.", connections.turned_away),
+        ("workers", "gauge", "Workers that are ready.", desk.workers.alive),
         ("connections", "gauge", "Connections.", connections.count),
         ("stale_lists", "gauge", "Whether the lists could not be read again.", int(desk.is_stale)),
         ("asking", "gauge", "Requests that are being answered.", connections.busy),

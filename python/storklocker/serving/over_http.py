@@ -117,14 +117,14 @@ class Api:
                 answer.headers["WWW-Authenticate"] = "Bearer"
                 return answer
             if "Origin" in request.headers:
-                return _fault(routes.FORBIDDEN, "pages of a browser are not answered")
+                return _fault(routes.FORBIDDEN, "requests of browser pages are refused")
         if request.method == "POST":
             if request.headers.get("Content-Encoding", "identity") != "identity":
-                return _fault(routes.ENCODED, "send the bytes as they are")
+                return _fault(routes.ENCODED, "send the bytes without a Content-Encoding")
             if (request.content_length or 0) > self._desk.room.each:
                 return _fault(routes.TOO_LARGE, "too many bytes")
             if self.is_ending:
-                return _fault(routes.BUSY, "the daemon ends")
+                return _fault(routes.BUSY, "the daemon is stopping")
         return None
 
     def _has_token(self, request: web.Request) -> bool:
@@ -182,7 +182,7 @@ class Api:
 
     async def _health(self, _: web.Request) -> web.Response:
         if self.is_ending or not self._desk.workers.alive:
-            return _fault(routes.BUSY, "no worker is there, or the daemon ends")
+            return _fault(routes.BUSY, "no worker is ready, or the daemon is stopping")
         found = {"version": __version__, "workers": self._desk.workers.alive}
         return _json(routes.OK, found)
 

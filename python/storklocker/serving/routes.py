@@ -15,13 +15,13 @@ BAD, UNAUTHORIZED, FORBIDDEN, UNKNOWN, LATE_BODY, CHANGED, TOO_LARGE, ENCODED = 
 NOT_MODIFIED, NOT_ALLOWED, BROKEN, ABSENT, BUSY, LATE = 304, 405, 500, 501, 503, 504
 
 MEANINGS: Dict[int, str] = {
-    OK: "Yes: the command of this name ends with status 0. Nothing else is answered so.",
+    OK: "Yes: the command of this name ends with status 0. No other answer has this status.",
     NOT_MODIFIED: "The list is the one that If-None-Match names.",
     BAD: "The body is malformed or was cut. There is no verdict.",
     UNAUTHORIZED: "The token is missing or wrong.",
     FORBIDDEN: "A browser sent it for a page (Origin).",
     UNKNOWN: "There is no list of this name, or nothing at this path.",
-    NOT_ALLOWED: "The path has another method.",
+    NOT_ALLOWED: "The path doesn't have this method.",
     LATE_BODY: "The body took too long. There is no verdict.",
     CHANGED: "The list isn't the one that If-Match names. There is no verdict.",
     TOO_LARGE: "The body, or what it becomes, has too many bytes. There is no verdict.",
@@ -29,7 +29,7 @@ MEANINGS: Dict[int, str] = {
     NO: "No: the command ends with status 1 or 2. More of the body isn't read.",
     BROKEN: "A fault of the daemon. There is no verdict.",
     ABSENT: "This package has no program `pktool`.",
-    BUSY: "A worker died, there is no room, or the daemon ends. There is no verdict: ask again.",
+    BUSY: "A worker died, no room is left, or the daemon is stopping. No verdict: ask again.",
     LATE: "Judging took too long. There is no verdict.",
 }
 """What each status means."""

@@ -12,8 +12,8 @@ from ..scanning.options import GUARDED
 
 _MIB = 1 << 20
 LISTED = (
-    "a list file, or @NAME,@NAME for shipped lists, with a name before an equals sign, by which"
-    " requests ask for it; without one, the default list; several of one name are united"
+    "a list file, or @NAME,@NAME for shipped lists; requests ask for it by the NAME before =, and"
+    " without that it is the default list; several of one name are united"
 )
 
 
@@ -45,7 +45,7 @@ def add_options(it: argparse.ArgumentParser) -> None:
         "--reload",
         type=_seconds,
         metavar="SECONDS",
-        help="look at the list files so often; SIGHUP has them read, too",
+        help="how often to look for changed list files; SIGHUP reads them too",
     )
 
 
@@ -56,8 +56,8 @@ def _add_addresses(it: argparse.ArgumentParser) -> None:
         action="append",
         default=[],
         metavar="ADDRESS:PORT",
-        help="where to answer HTTP, such as 127.0.0.1:8470, which is the default; other addresses"
-        " than those of this machine need --token",
+        help="an address for HTTP; 127.0.0.1:8470 by default; addresses that other machines can"
+        " reach need --token",
     )
     it.add_argument("--unix", action="append", default=[], metavar="PATH", help="a socket for HTTP")
     it.add_argument(
@@ -66,7 +66,7 @@ def _add_addresses(it: argparse.ArgumentParser) -> None:
         action="append",
         default=[],
         metavar="ADDRESS",
-        help="where to speak clamd's protocol, which has no token: a path, or an address of this"
+        help="an address for clamd's protocol, which has no token: a path, or an address of this"
         " machine, such as 127.0.0.1:3310",
     )
     it.add_argument(
@@ -80,7 +80,7 @@ def _add_addresses(it: argparse.ArgumentParser) -> None:
 
 def _add_keys(it: argparse.ArgumentParser) -> None:
     it.add_argument(
-        "--token", type=Path, metavar="FILE", help="a file with the token that requests must have"
+        "--token", type=Path, metavar="FILE", help="a file with the token that requests must send"
     )
     it.add_argument(
         "--tls-certificate", type=Path, metavar="FILE", help="the certificates of the server, PEM"
@@ -98,7 +98,7 @@ def _add_limits(it: argparse.ArgumentParser) -> None:
     )
     for option, value, what in (
         ("bytes", 256 * _MIB, "the most bytes of a body"),
-        ("memory", 2048 * _MIB, "the most bytes that a worker takes, and all bodies together"),
+        ("memory", 2048 * _MIB, "the most bytes of memory of a worker, and of all bodies together"),
         ("connections", 512, "the most connections"),
     ):
         it.add_argument(
@@ -113,7 +113,7 @@ def _add_limits(it: argparse.ArgumentParser) -> None:
         type=_seconds,
         default=30.0,
         metavar="SECONDS",
-        help="after which a request ends in an error; 30 by default",
+        help="how long a request may take; 30 by default",
     )
 
 

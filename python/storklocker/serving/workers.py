@@ -233,7 +233,7 @@ class Workers:
         except Exception as error:
             self._replace(worker)
             if not isinstance(error, Ended):
-                _LOG.error("A worker answered what isn't an answer: %s", type(error).__name__)
+                _LOG.error("A worker sent a malformed answer: %s", type(error).__name__)
             return Late() if loop.time() >= ends else Ended()
         finally:
             clock.cancel()
