@@ -87,8 +87,8 @@ class Terminal(Options):
         for data, allow, wanted in (
             (BAD, "list.toml", "Don't load the refused files"),
             (GOOD, "list.toml", "A guard with this list loads these files"),
-            (GOOD, "", "Nothing known that runs code; no list has judged these files"),
-            (PARTIAL, "", "Nothing known that runs code, but some names do more"),
+            (GOOD, "", "No name known to run code was found; no list has judged these files"),
+            (PARTIAL, "", "No name known to run code was found, but some names do more"),
             (b"\x80\x04]]", "", "Don't load the unreadable files: they could not be read"),
             (b"A text\n", "", "No pickle was found"),
         ):
@@ -280,7 +280,7 @@ class Baseline(Options):
     @needs("/dev/pts/ptmx")
     def test_a_terminal_counts_them(self):
         _, lines = self.shown("scan", "f", *self.kept(), NO_COLOR="1")
-        self.assertEqual(lines[0], "Nothing was found but what is known")
+        self.assertEqual(lines[0], "Nothing new was found")
         self.assertRegex(lines[-1], r"nothing was found in 3 files, but \d known findings")
 
 

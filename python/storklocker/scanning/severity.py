@@ -48,8 +48,8 @@ KINDS: Dict[str, Kind] = {
     "undecided": Kind(
         UNDECIDED,
         "The list has names that a guard loads through substitutes",
-        "Load it through a guard with this list, which judges how it uses them; --guarded says that"
-        " one will.",
+        "Load it through a guard with this list, which judges how it uses them. Pass --guarded if"
+        " you do.",
     ),
     "dangerous-import": Kind(
         DANGER,

@@ -83,7 +83,7 @@ class Summary:
     def headline(self) -> Tuple[str, str]:
         """The verdict in a reader's words, and the severity or the word that it is about."""
         if self.known and not self._severities:
-            return "Nothing was found but what is known", ""
+            return "Nothing new was found", ""
         headline = headline_of(self._severities, self._words)
         return HEADLINES[headline], headline
 

@@ -49,10 +49,10 @@ HEADLINES: Dict[str, str] = {
     DANGER: "Don't load the dangerous files: they run code",
     UNREADABLE: "Don't load the unreadable files: they could not be read to their end",
     UNDECIDED: "Load the undecided files only through a guard: only a load decides about them",
-    WARNING: "Nothing known that runs code, but some names do more than hold data",
+    WARNING: "No name known to run code was found, but some names do more than hold data",
     UNKNOWN: "Don't load the unknown files yet: nobody has judged what their names do",
-    NOTE: "Nothing known that runs code in what was read",
-    Word.UNJUDGED: "Nothing known that runs code; no list has judged these files:"
+    NOTE: "No name known to run code was found in what could be read",
+    Word.UNJUDGED: "No name known to run code was found; no list has judged these files:"
     " if you trust their source, `storklocker learn` writes one",
     Word.ACCEPTED: "A guard with this list loads these files",
     Word.NO_PICKLE: "No pickle was found",
