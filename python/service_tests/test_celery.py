@@ -173,7 +173,7 @@ def try_worker(celery_app, log, refused):
             said = raised(app.AsyncResult(name))
             assert "DecodeError" in said and "refused" in said, said
         assert all("NotRegistered" in raised(app.AsyncResult(name)) for name in unknown)
-        assert "no task" in raised(app.AsyncResult(odd))
+        assert "isn't a task" in raised(app.AsyncResult(odd))
         assert app.AsyncResult(silent).state == "PENDING"
     assert values == [*range(1, half + 1), *(common.good(it) for it in range(half))]
     # (the client, whose list lacks Celery's exceptions, tells of unknown tasks)

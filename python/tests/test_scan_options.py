@@ -273,7 +273,7 @@ class Baseline(Options):
             status, out, errors = self.ran("scan", "f", "--baseline", self.put("known", text))
             if text:
                 self.assertEqual((status, out), (2, ""), text[:9])
-                self.assertIn("known is no report of `scan --format json`", errors)
+                self.assertIn("known isn't a report of `scan --format json`", errors)
             else:
                 self.assertEqual(status, 1)
 

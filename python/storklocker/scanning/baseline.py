@@ -21,7 +21,7 @@ class Baseline:
             with open(path, encoding="utf-8") as opened:
                 self._known = {key for report in _reports(opened.read()) for key in _keys(report)}
         except (ValueError, TypeError, KeyError, AttributeError, RecursionError):
-            raise OSError(f"{path} is no report of `scan --format json`") from None
+            raise OSError(f"{path} isn't a report of `scan --format json`") from None
 
     def marked(self, reports: Iterable[Report]) -> Iterator[Report]:
         """The reports, in which the known findings are marked."""

@@ -143,7 +143,7 @@ def _add(asked: argparse.Namespace) -> int:
         pair = pair_of(name)
         why = danger_of(pair)
         if why and not asked.dangerous:
-            print(f"storklocker: {shown(name)} is not added. {why} (--dangerous)", file=sys.stderr)
+            print(f"storklocker: {shown(name)} isn't added. {why} (--dangerous)", file=sys.stderr)
             refused = True
         else:
             pairs.append(pair)
