@@ -34,9 +34,9 @@ HINTS = [
     ("c\xe9t\xe9\nname\n.".encode(), None, "needs protocol 4"),
     ("cm\nn\xe9\n.".encode(), None, "needs protocol 4"),
     (b"", None, "there are no bytes"),
-    (b"hello", None, "no pickle"),
-    (b"<xml>", None, "no pickle"),
-    (b"null", None, "no pickle"),
+    (b"hello", None, "aren't a pickle"),
+    (b"<xml>", None, "aren't a pickle"),
+    (b"null", None, "aren't a pickle"),
     (b'{"a": 1}', None, "JSON"),
     (b' [1, 2]', None, "JSON"),
     (gzip.compress(b"N."), None, "gzip"),
@@ -83,7 +83,7 @@ class Hints(unittest.TestCase):
         self.assertIn("the limit stack, 1: Limits(stack=2)", raised.exception.hint)
 
     def test_files(self):
-        for data, hint in ((b"hello", "no pickle"), (SURROGATE, "lone surrogate")):
+        for data, hint in ((b"hello", "aren't a pickle"), (SURROGATE, "lone surrogate")):
             with self.assertRaises(storklocker.Refused) as raised:
                 Guard(NOTHING).load(io.BytesIO(data))
             self.assertIn(hint, raised.exception.hint)

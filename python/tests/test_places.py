@@ -15,7 +15,7 @@ FAULTS = [
     (FRONT + 'a = ["b"]\n\nos = "path"', "Shape(Module)", 5, 'os = ["path"]'),
     (FRONT + 'a = ["b"]\nos = 7', "Shape(Module)", 4, 'os = ["name"]'),
     (FRONT + '"" = []', "Shape(Module)", 3, "needs a name"),
-    (FRONT + 'os = [\n  "path",\n  ""]', "Shape(Name)", 3, "each name of os is a text"),
+    (FRONT + 'os = [\n  "path",\n  ""]', "Shape(Name)", 3, "each name of os must be a text"),
     (FRONT + "os = [path]", "Syntax", 3, 'quote a text: "path"'),
     (FRONT + "a = []\n[limits]\nstack = many", "Syntax", 5, '"many"'),
     (FRONT + "a = []\na = []", "Syntax", 4, "in line 3"),
