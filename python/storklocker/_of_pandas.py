@@ -368,7 +368,7 @@ def frame_state(reader: Reader, frame: Any, state: Any) -> Any:
     known = ("_mgr", "_typ", "_metadata", "attrs", "_flags", *type(frame)._metadata)
     for name in state:
         if name not in known and hasattr(type(getattr(type(frame), str(name), None)), "__set__"):
-            raise Misused("the state of a frame sets what it computes")
+            raise Misused("the state of a frame sets an attribute that it computes")
     if any(type(state.get(name, {})) is not dict for name in ("attrs", "_flags")):
         raise Misused("the state of a frame has attributes that aren't in a dict")
     keys_of(reader, [state.get("name")])

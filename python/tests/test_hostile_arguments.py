@@ -42,7 +42,7 @@ class Hostile(unittest.TestCase):
             env={**os.environ, "PYTHONPATH": str(IMPORTED_FROM)}, encoding="utf-8",
         )
         for word in ("takes too long", "memory", "ended: 6\n", "dangerous", "changes what was",
-                     "ended: 6, behind 2 others"):
+                     "ended: 6, after 2 others"):
             self.assertIn(word, ran.stdout)
 
 

@@ -68,10 +68,10 @@ class Lists(Learning):
         allow = AllowList.from_text(out)
         self.assertEqual([*allow], [("collections", "Counter"), ("shop.models", "Order")])
         Guard(allow)
-        self.assertRegex(out, r'"Counter",  # asked 2 times, \d{4}-\d\d-\d\d for key\\x1b\[2J to')
-        self.assertRegex(out, r'# "eval",  # asked once, .* Dangerous: ')
+        self.assertRegex(out, r'"Counter",  # requested 2 times, \d{4}-\d\d-\d\d for key\\x1b\[2J to')
+        self.assertRegex(out, r'# "eval",  # requested once, .* Dangerous: ')
         status, out, _ = self.run_command("learn", "--from-log", self.log, "--from-log", self.log)
-        self.assertIn("asked 4 times", out)
+        self.assertIn("requested 4 times", out)
         self.assertEqual(self.run_command("learn")[0], 2)
         self.assertEqual(self.run_command("learn", "--from-log", self.folder / "none")[0], 2)
 

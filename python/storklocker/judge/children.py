@@ -78,7 +78,7 @@ class Children:
         """What each of some fresh processes shows of the last of a row of cases: of it alone, or
         else of all of them.
         """
-        for tried, where in ((row[-1:], ""), (row, f", behind {len(row) - 1} others")):
+        for tried, where in ((row[-1:], ""), (row, f", after {len(row) - 1} others")):
             for _ in range(self._times):
                 told = self._ran(tried, 1)[2]
                 if told is None:

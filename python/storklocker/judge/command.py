@@ -98,7 +98,7 @@ def _end(found: List[Judged]) -> Iterator[str]:
     harmed = sum(bool(it.seen) for it in found)
     yield f"{len(found):,} names were tried, {harmed:,} of which did something."
     yield f"Tried, under Python {how['python']}: {how['calls']}; with {how['shapes']} values."
-    yield f"Then, with what was made: {how['uses']}. Sockets: {how['network']}."
+    yield f"Then, with the results: {how['uses']}. Sockets: {how['network']}."
     yield "Nothing else was tried."
 
 

@@ -12,10 +12,10 @@ def forms(called: bytes, given: bytes) -> Iterator[Tuple[str, bytes]]:
     for count in (1, 2, 3, 5):
         yield f"called with {count}", called + b"(" + given * count + b"tR."
     for k, other in enumerate((b"K\1", shapes.text("a"), b"]")):
-        yield f"called behind {k}", called + b"(" + other + given + b"tR."
+        yield f"called after {k}", called + b"(" + other + given + b"tR."
     yield "called before a text", called + b"(" + given + shapes.text("a") + b"tR."
     yield "made", called + b"(" + given + b"t\x81."
-    yield "made with words", called + b"(" + given + b"t}\x92."
+    yield "called with keywords", called + b"(" + given + b"t}\x92."
     yield "made by OBJ", b"(" + called + given + b"o."
     yield "items put", called + b")R(" + given + b"e."
     yield "members put", called + b")\x81(" + given + b"\x90."

@@ -24,7 +24,7 @@ class Probe:
     """Something callable, which tells when it is called."""
 
     def __call__(self, *given: Any, **named: Any) -> Any:
-        WATCH.note("call: it calls what it is given")
+        WATCH.note("call: it calls its argument")
         return self
 
 
@@ -49,12 +49,12 @@ OBJECTS: Dict[str, Callable[[], Any]] = {
     "a stream of a pickle": lambda: io.BytesIO(COMMAND),
     "a stream of code": lambda: io.StringIO(CODE),
     "a path object": lambda: pathlib.Path("kept"),
-    "what tells its calls": Probe,
-    "a dict of what tells its calls": lambda: {"a": Probe()},
+    "what reports its calls": Probe,
+    "a dict of what reports its calls": lambda: {"a": Probe()},
     "the class int": lambda: int,
 }
 """What makes each object, by its name."""
-TELLING = ("what tells its calls", "a dict of what tells its calls", "a dict of names")
+TELLING = ("what reports its calls", "a dict of what reports its calls", "a dict of names")
 """Those that have something callable in them, which tells when it is called."""
 
 

@@ -73,7 +73,7 @@ class Records(Follower):
     def _new(self, made_by: Any, words: Any) -> Any:
         name = made_by.pair[1] if isinstance(made_by, Global) else ""
         if name != _RECORD and name not in _CALLED or name == _RECORD and words != ():
-            raise NotFollowed(f"it calls {name[:80] or 'what is not shown'}, as torch never does")
+            raise NotFollowed(f"it calls {name[:80] or 'a hidden name'}, which torch never does")
         return Made(made_by.pair, words)
 
     def _build(self, made: Any, state: Any) -> None:

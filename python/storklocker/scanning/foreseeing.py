@@ -268,7 +268,7 @@ class Foreseer(Reader):
 
     def _stand_in(self, pair: Pair) -> Any:
         if pair[1].rpartition(".")[2] in _ARRAYS:
-            self.put_off(f"{pair[0]}.{pair[1]} may be what a guard substitutes")
+            self.put_off(f"{pair[0]}.{pair[1]} may have a substitute")
         return self.named(pair)
 
     def persistent_load(self, asked: Any, /) -> Any:
@@ -276,7 +276,7 @@ class Foreseer(Reader):
         if type(asked) is tuple and len(asked) > 1 and isinstance(asked[0], (Named, Answer)):
             if len(asked) == 2 or type(asked[2]) is int and asked[2] & (HAS_STATE | HAS_ITEMS):
                 if not (_is_own(asked[0]) or self.takes_any):
-                    self.put_off(f"a state or items are for what {_told(asked[0])}")
+                    self.put_off(f"a state or items are set on what {_told(asked[0])}")
                 elif len(asked) == 2 and not self.takes_any:
                     judge_state(self, asked[0], asked[1])
                 elif not self.takes_any and asked[2] & HAS_ITEMS:

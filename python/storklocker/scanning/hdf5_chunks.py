@@ -79,7 +79,7 @@ def hdf5_reading(place: Place) -> Found:
     filters = filters_of(place.source, place.budget)
     if filters.unread:
         what = ", ".join(filters.unread)
-        why = f"its chunks may be packed by {what}, which isn't read here"
+        why = f"its chunks may be packed by {what}, which a scan can't unpack"
         yield place.unread("HDF5", "unread-pickles", why)
     if filters.has_deflate:
         yield from _deflated(place, filters.sizes)
@@ -94,7 +94,7 @@ def filters_of(source: Source, budget: Budget) -> Filters:
     for block in _blocks(source, _LONGEST):
         budget.spend(1 + min(len(block), BLOCK) // 64)
         if _SHARED in block:
-            unread["what shared messages say"] = None
+            unread["filters of shared messages"] = None
         for it in _MESSAGE.finditer(block):
             budget.spend()
             found.update(filter(None, (_message(block, it.start(), front) for front in _FRONTS)))

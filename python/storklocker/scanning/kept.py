@@ -194,7 +194,7 @@ def told_of_kept(
     kept: Kept, status: Word, why: str, allow: Optional[AllowList], findings: List[Finding]
 ) -> Tuple[Word, str]:
     """The word and the line of a row of which one Unpickler reads something else. Adds findings."""
-    name = shown(dotted(pair_of(kept.names[0]))) if kept.names else "what isn't known"
+    name = shown(dotted(pair_of(kept.names[0]))) if kept.names else "an unknown name"
     said = f"one Unpickler that loads all pickles imports {name}, and others don't"
     findings.append(Finding("differing-readings", said))
     if allow is None or status is Word.REFUSED:

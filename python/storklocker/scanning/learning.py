@@ -106,7 +106,7 @@ class Learned:
         if seen is not None:
             key = f" for {shown(seen.key, 80)}" if seen.key else ""
             times = "once" if seen.times == 1 else f"{seen.times:,} times"
-            words.append(f"asked {times}, {_day(seen.first)}{key} to {_day(seen.last)}")
+            words.append(f"requested {times}, {_day(seen.first)}{key} to {_day(seen.last)}")
         return ", ".join(words)
 
 

@@ -104,8 +104,8 @@ KINDS: Dict[str, Kind] = {
     "costly-keys": Kind(
         WARNING,
         "Loading the pickle may take very long, or crash the reader",
-        "Load it only through a guard, which refuses it. If you trust where it comes from, `Limits`"
-        " of the guard raise what it may cost.",
+        "Load it only through a guard, which refuses it. If you trust where it comes from, raise"
+        " the guard's `Limits`.",
     ),
     "changed-import": Kind(
         WARNING,

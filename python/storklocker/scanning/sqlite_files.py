@@ -136,7 +136,7 @@ def _unread(place: Place, source: Source, told: Set[str]) -> Iterator[Unread]:
     name = unread_packing(source) or lacking_at(source.front()[:_HEADER])
     if name and name not in told:
         told.add(name)
-        why = f"values may be packed by {name}, which isn't read here"
+        why = f"values may be packed by {name}, which a scan can't unpack"
         yield place.unread(KIND, "unread-pickles", why)
 
 

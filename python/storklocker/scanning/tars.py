@@ -224,7 +224,7 @@ def _oddities(source: Source, archive: tarfile.TarFile, entry: tarfile.TarInfo) 
     if "size" in entry.pax_headers and entry.size < _LARGE:
         found.append(f"{name} has two sizes")
     if entry.size and not entry.isreg() and entry.type in tarfile.SUPPORTED_TYPES:
-        found.append(f"{name} has contents, but is no file")
+        found.append(f"{name} has contents, but isn't a file")
     if not entry.issparse() and entry.offset_data + entry.size > source.size:
         found.append(f"{name} is truncated")
     return found

@@ -161,7 +161,7 @@ def judge_state(reader: Foreseer, made: Any, state: Any) -> None:
     if package == "sklearn":
         _judge_estimator(reader, made, state)
     elif package in PACKAGES and package not in PLAIN:
-        reader.put_off(f"a state or items are for what {'.'.join(pair)} makes")
+        reader.put_off(f"a state or items are set on what {'.'.join(pair)} makes")
 
 
 def _is_refused(key: Any) -> bool:
@@ -179,7 +179,7 @@ def _is_harmless(key: Any, value: Any) -> bool:
 def _judge_estimator(reader: Foreseer, made: Any, state: Any) -> None:
     """Judges the state of an estimator made of nothing, where its class doesn't matter."""
     pair = made.pair
-    why = f"a state or items are for what {'.'.join(pair)} makes"
+    why = f"a state or items are set on what {'.'.join(pair)} makes"
     is_plain = type(state) is dict and not isinstance(state.get("tree_"), Answer)
     if not made.is_bare or not is_plain or ".".join(pair) == PREDICTOR:
         reader.put_off(why)
@@ -202,4 +202,4 @@ def _judge_error(reader: Foreseer, pair: Pair, state: Any) -> None:
         else:
             judged_state(kind, state)
     elif state is not None and state != {}:
-        reader.put_off(f"a state or items are for what {'.'.join(pair)} makes")
+        reader.put_off(f"a state or items are set on what {'.'.join(pair)} makes")

@@ -116,7 +116,7 @@ def _large(source: Source, plain: Directory) -> Optional[Directory]:
     near = plain.at - _LOCATOR.size - _END64.size
     record = source.read(near, _END64.size) if near >= 0 else b""
     if len(record) < _END64.size or record[:4] != b"PK\x06\x06":
-        return plain._replace(fault="its locator is not behind an end record for large files")
+        return plain._replace(fault="its locator doesn't follow an end record for large files")
     _, length, _, _, disk, first, here, count, size, start = _END64.unpack(record)
     fault = plain.fault
     if at != near or length != _END64.size - 12 or disks > 1 or disk or first or here != count:
