@@ -68,7 +68,8 @@ class Lists(Learning):
         allow = AllowList.from_text(out)
         self.assertEqual([*allow], [("collections", "Counter"), ("shop.models", "Order")])
         Guard(allow)
-        self.assertRegex(out, r'"Counter",  # requested 2 times, \d{4}-\d\d-\d\d for key\\x1b\[2J to')
+        wanted = r'"Counter",  # requested 2 times, \d{4}-\d\d-\d\d for key\\x1b\[2J to'
+        self.assertRegex(out, wanted)
         self.assertRegex(out, r'# "eval",  # requested once, .* Dangerous: ')
         status, out, _ = self.run_command("learn", "--from-log", self.log, "--from-log", self.log)
         self.assertIn("requested 4 times", out)

@@ -166,7 +166,7 @@ class _Reader:
                 if not str(error).startswith(_HARMLESS_FAULTS):
                     yield Made(name, b"", f"SQLite can't read its {name[:80]!r}: {error}")
             if self._changing:
-                why = f"what its {name[:80]!r} has depends on {self._changing}()"
+                why = f"the contents of its {name[:80]!r} depend on {self._changing}()"
                 yield Made(name, b"", f"{why}: readers differ")
 
     def _names(self) -> List[str]:
