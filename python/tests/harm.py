@@ -144,8 +144,9 @@ def seen(folder):
 
 
 def _bytes_of(path):
-    with contextlib.suppress(OSError):  # (a folder, or gone meanwhile)
-        return path.read_bytes()
+    with contextlib.suppress(OSError):  # (gone meanwhile)
+        if path.is_file():  # (a pipe that has a name would never end)
+            return path.read_bytes()
     return b""
 
 
@@ -191,17 +192,31 @@ def harm(data):
             Path("..", f"{folder.name}.error").write_text(f"{type(error).__name__}: {error}")
         finally:
             os._exit(0)
-    os.waitpid(child, 0)
     told = folder.with_name(f"{folder.name}.error")
+    has_ended = waits(child, lambda: seen(folder) != before, SECONDS)
     error = told.read_text() if told.exists() else "nothing happened"
     last = time.monotonic() + SETTLING
     while error not in LACKING and seen(folder) == before and time.monotonic() < last:
         time.sleep(0.05)
     word = "harmed" if seen(folder) != before else "absent" if error in LACKING else error
+    with contextlib.suppress(ProcessLookupError):
+        os.killpg(child, signal.SIGKILL)  # and what it has begun
+    if not has_ended:
+        os.waitpid(child, 0)
     shutil.rmtree(folder, ignore_errors=True)  # (something may still write there)
     if told.exists():
         told.unlink()
     return word
+
+
+def waits(child, is_done, seconds):
+    """Waits until a child has ended, which is said, or something is done, or so many seconds."""
+    last = time.monotonic() + seconds
+    while not is_done() and time.monotonic() < last:
+        if os.waitpid(child, os.WNOHANG) != (0, 0):
+            return True
+        time.sleep(0.02)
+    return False
 
 
 def main():

@@ -103,16 +103,20 @@ class Table(unittest.TestCase):
 
     def test_each_danger_does_harm(self):
         lines = "".join(json.dumps(row) + "\n" for row in self.dangers)
-        with tempfile.TemporaryDirectory() as folder:
+        with tempfile.TemporaryDirectory() as folder, tempfile.TemporaryFile("w+") as output:
+            # (no pipe, which what has done harm would hold open)
             ran = subprocess.run(
                 [sys.executable, "-W", "ignore", harm.__file__],
                 input=lines.encode(),
-                capture_output=True,
-                check=True,
+                stdout=output,
+                stderr=subprocess.STDOUT,
                 env={**os.environ, "TMPDIR": folder, "PYTHONDONTWRITEBYTECODE": "1"},
             )
-        words = [json.loads(line) for line in ran.stdout.splitlines()]
-        self.assertEqual(len(words), len(self.dangers), ran.stderr)
+            output.seek(0)
+            said = output.read()
+        self.assertEqual(ran.returncode, 0, said)
+        words = [json.loads(line) for line in said.splitlines() if line.startswith('"')]
+        self.assertEqual(len(words), len(self.dangers), said)
         told = zip(self.dangers, words)
         self.assertEqual([it for it in told if it[1] not in ("harmed", "absent")], [])
         self.assertGreater(words.count("harmed"), 100)
