@@ -11,7 +11,7 @@
 
 A `Guard` replaces the module `pickle`: it has `load`, `loads`, `dump`, `dumps`, `Pickler` and
 `Unpickler`. It checks and loads one immutable copy of the bytes. Where it also judges objects, the
-reader gets this copy with BUILD and calls respelled.
+reader gets this copy with BUILD, calls and frames rewritten.
 
     check, check_row     check a pickle, or a stream of pickles, without loading anything
     loads                a guarded load in one call

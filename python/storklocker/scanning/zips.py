@@ -174,7 +174,8 @@ def _twice(place: Place, texts: List[str]) -> Found:
     names = [text.partition("\0")[0] for text in texts]
     if len(set(names)) < len(names):
         twice = [name for name, count in Counter(names).items() if count > 1]
-        why = f"{len(twice)} names are of two members, such as {twice[0][:80]!r}: readers differ"
+        more = f" and {len(twice) - 1} more" if len(twice) > 1 else ""
+        why = f"several members are called {twice[0][:80]!r}{more}: readers differ"
         yield place.unread("zip", "differing-readings", why)
     pickles = sum(name.rpartition("/")[2].lower() == "data.pkl" for name in names)
     if pickles > 1:
