@@ -29,7 +29,8 @@ class Named(_Tuple):
         if "__match_args__" in vars(cls):
             cls._fields = vars(cls)["__match_args__"]
             for place, field in enumerate(cls._fields):
-                setattr(cls, field, property(operator.itemgetter(place)))
+                held = property(operator.itemgetter(place), doc=f"Field {place}, see the class.")
+                setattr(cls, field, held)
 
     @classmethod
     def _make(cls: "Type[_Own]", values: "Iterable[Any]") -> "_Own":
@@ -82,29 +83,30 @@ class Verdict(Named):
         (False, 0, 'ImportOffList', ('os', 'system'))
 
     `str` gives the line that the program prints.
+
+    accepted: whether the pickle is accepted.
+    taken: if accepted, the number of bytes, up to and including STOP.
+    imports: if accepted, the number of imports. If refused, 0, except in the Refused that
+        `storklocker.imports` raises, which has the number of imports before `at`.
+    at: if refused, the offset of the refused instruction.
+    reason: if refused, the Reason.
+    number: the code byte of UnknownOpcode, the protocol of UnsupportedProtocol, or the memo number
+        of MissingMemo.
+    pair: the module and the name that ended the check, for ImportOffList.
+    pickles: the number of accepted pickles; of a refused stream, those before the refused one.
+    missing: each import off the list; `missing_is_cut` says whether some are left out.
     """
 
     __match_args__ = ("accepted", "taken", "imports", "at", "reason", "number", "pair", "pickles")
 
     accepted: bool
     taken: int
-    """If accepted: the number of bytes, up to and including STOP."""
     imports: int
-    """If accepted: the number of imports. If refused: 0, except in the Refused that `imports`
-    raises, which has the number of imports before `at`.
-    """
     at: int
-    """If refused: the offset of the refused instruction."""
     reason: "Optional[Reason]"
-    """If refused: the reason."""
     number: "Optional[int]"
-    """The code byte of UnknownOpcode, the protocol of UnsupportedProtocol, or the memo number of
-    MissingMemo.
-    """
     pair: "Optional[Tuple[str, str]]"
-    """The module and the name that ended the check, for ImportOffList."""
     pickles: int
-    """The number of accepted pickles. In a refused stream, those before the refused one."""
     _asked: "Tuple[Any, ...]" = ()
     """The arguments of the check, if it refused an import; `missing` needs them."""
     _missing: "Optional[Tuple[Import, ...]]" = None
