@@ -76,7 +76,7 @@ class Starters(unittest.TestCase):
             self.assertEqual(AllowList.shipped(name), getattr(lists, name))
         self.assertEqual(len(AllowList.shipped()), 0)
         for wrong in ("nothing", "@torch, @", ""):
-            with self.assertRaisesRegex(ValueError, "isn't a shipped list; these are: @celery, "):
+            with self.assertRaisesRegex(ValueError, "isn't one of the lists @celery, "):
                 AllowList.shipped(wrong)
 
     def test_they_go_together(self):

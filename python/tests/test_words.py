@@ -207,7 +207,7 @@ class Lists(unittest.TestCase):
             self.assertEqual(self.status(*given)[0], wanted, given)
         status, told = self.status("@nowhere")
         self.assertEqual(status, 2)
-        self.assertIn("@nowhere isn't a shipped list; these are: @celery, ", told)
+        self.assertIn("@nowhere isn't one of the lists @celery, ", told)
 
     def told(self, *words):
         """The status of a command, and what it prints."""

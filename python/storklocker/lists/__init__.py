@@ -86,7 +86,7 @@ def name_of(word: str) -> str:
     name = word.strip().lstrip("@").replace("-", "_").upper()
     name = _SHORT.get(name, name)
     if name not in __all__:
-        raise ValueError(f"{word} isn't a shipped list; these are: {', '.join(words())}")
+        raise ValueError(f"{word} isn't one of the lists {', '.join(words())}")
     return name
 
 

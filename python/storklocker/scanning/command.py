@@ -307,7 +307,7 @@ _GETATTR = (
 )
 _SUBSTITUTED = """\
 A Guard loads some of these names through substitutes, which judge what a pickle does with them.
-Under this list a pickle may crash other readers, or run code in them, also after pktool check."""
+Under this list a pickle may crash other readers, or run code in them, even after pktool check."""
 
 
 def _lint(asked: argparse.Namespace) -> int:
