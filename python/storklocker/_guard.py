@@ -51,13 +51,12 @@ class Guard(Loads):
         {'size': 38}
         >>> guard.load(io.BytesIO(b"N."))              # the next pickle in a file
 
-    Many caches take one: `SomeCache(serializer=guard)`.
-
     It has the names of `pickle`: `load`, `loads`, `dump`, `dumps`, `Pickler`, `Unpickler`, the
-    errors and the protocols. A guard is immutable. Threads may share it, and it can be copied,
-    pickled and sent to workers (if `on_refusal` can be).
+    errors and the protocols, so many caches take one as `serializer`. A guard is immutable. Threads
+    may share it, and it can be copied, pickled and sent to workers (if `on_refusal` can be).
 
-    allow: the AllowList.
+    allow: the AllowList. A name that permits everything raises ValueError, unless it has a
+        substitute or the list confirms it.
     limits: Limits in addition to those of the list. By default they limit the cost of keys;
         `Limits(levels=None, weight=None, work=None)` doesn't.
     old_strings: how Python 2 strings are decoded, as for `check`. With "ascii" and "bytes" pickles
@@ -73,7 +72,7 @@ class Guard(Loads):
         TooLarge. The default is 1 GiB.
     build: the objects on which BUILD may set attributes. "made", the default, excludes imported
         objects, so that a pickle changes no listed class or function; "any" also allows that,
-        except under a list with substitutes. The list's own `build` comes first.
+        except under a list with substitutes. The list's own `build` overrides this.
     """
 
     PickleError = pickle.PickleError
