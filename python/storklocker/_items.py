@@ -13,6 +13,7 @@ from collections import deque
 from typing import Any
 
 from ._answers import Misused
+from ._facts import PACKAGES
 
 _HEAP = 1 << 9
 """The flag of classes that are made while Python runs, as all are that are written in Python."""
@@ -31,7 +32,11 @@ def takes_items(kind: type) -> bool:
 
 
 def _is_own(kind: type) -> bool:
-    """Whether a class, of which no part is compiled, says itself how its objects are pickled."""
+    """Whether a class, of which no part is compiled, says itself how its objects are pickled. Those
+    of packages have methods by the names that a reader calls, but none of their pickles has items.
+    """
+    if any(it.__module__.partition(".")[0] in PACKAGES for it in kind.__mro__):
+        return False
     held = (vars(it)[word] for it in kind.__mro__[:-1] for word in _SAYING if word in vars(it))
     return isinstance(next(held, None), types.FunctionType) and all(
         it in (object, *_CONTAINERS) or it.__flags__ & _HEAP for it in kind.__mro__

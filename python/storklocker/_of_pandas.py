@@ -15,7 +15,7 @@ from ._calls import wrong
 from ._library import uncached
 from ._of_sklearn import whole
 from ._substitute import Substitute
-from ._weighing import SCALARS, Scales, keys_of
+from ._weighing import SCALARS, keys_of
 
 if TYPE_CHECKING:
     from ._substitutes import Reader
@@ -68,12 +68,6 @@ def is_array(reader: Reader, it: Any) -> bool:
     return is_one and id(it) not in reader.unbuilt
 
 
-def _is_label(reader: Reader, it: Any) -> bool:
-    if type(it) is tuple:
-        Scales(reader, True).weigh(it)
-    return True
-
-
 def is_whole(*bounds: Tuple[int, int]) -> Callable[..., bool]:
     """Says whether values are whole numbers within these bounds."""
     return lambda *given: len(given) <= len(bounds) and all(
@@ -98,16 +92,40 @@ def _index_words(reader: Reader, given: Tuple[Any, ...]) -> Tuple[Any, Dict[str,
         raise wrong("_new_Index")
     if not (freq is None or _is_offset(freq)):
         raise wrong("_new_Index")
-    if "data" in words and not (is_array(reader, words["data"]) or is_index(words["data"])):
-        raise wrong("_new_Index")
+    if "data" in words:
+        _check_data(reader, kind, words["data"], freq)
     for word in ("data", "left", "right"):
         if word in words:
             _pay_for(reader, words[word])
-    if "name" in words:
-        _is_label(reader, words["name"])
+    names = words.get("names", [])
+    if type(names) is not list:
+        raise wrong("_new_Index")
+    keys_of(reader, [words.get("name"), *names])
+    if words.get("sortorder") is not None:
+        whole(words["sortorder"], -_MOST, _MOST)
     if "levels" in words or "codes" in words:
         return kind, {**words, **_levels(reader, words)}
     return kind, dict(words)
+
+
+def _check_data(reader: Reader, kind: Any, data: Any, freq: Any) -> None:
+    """Judges the array of an index: pandas would make times of texts, and compares each time of a
+    frequency with the one before.
+    """
+    import pandas
+
+    if not (is_array(reader, data) or is_index(data)):
+        raise wrong("_new_Index")
+    if getattr(data.dtype, "hasobject", False) and kind is not pandas.Index:
+        raise wrong("_new_Index")
+    if freq is not None:
+        reader.step(len(data) * (_TIMED + (abs(freq.n) if _is_repeated(freq) else 0)))
+
+
+def _is_repeated(freq: Any) -> bool:
+    """Whether an offset is added as often as it says."""
+    names = {base.__name__ for base in type(freq).__mro__}
+    return "RelativeDeltaOffset" in names or type(freq).__name__ == "DateOffset"
 
 
 def _pay_for(reader: Reader, it: Any) -> None:
@@ -157,10 +175,7 @@ def _levels(reader: Reader, words: Dict[str, Any]) -> Dict[str, Any]:
 def _index(reader: Reader, *given: Any) -> Any:
     from pandas.core.indexes import base
 
-    kind, words = _index_words(reader, given)
-    if words.get("freq") is not None and "data" in words:
-        reader.step(_TIMED * len(words["data"]))  # (pandas compares each date with the one before)
-    return base._new_Index(kind, words)
+    return base._new_Index(*_index_words(reader, given))
 
 
 def _times(reader: Reader, *given: Any) -> Any:
@@ -281,6 +296,7 @@ TABLE: Dict[Tuple[str, str], Substitute] = dict(
 def array_state(reader: Reader, array: Any, state: Any) -> Any:
     """The state of a pandas array over one of NumPy."""
     import numpy
+    from pandas.api.extensions import ExtensionDtype
 
     if reader.unbuilt.pop(id(array), None) is not array:
         raise Misused("the state of an array is set twice, or the pickle made it otherwise")
@@ -289,6 +305,8 @@ def array_state(reader: Reader, array: Any, state: Any) -> Any:
     held = [it for it in state[:2] if type(it) is numpy.ndarray and id(it) not in reader.unbuilt]
     kinds = [it for it in state[:2] if not isinstance(it, numpy.ndarray)]
     is_one = len(held) == len(kinds) == 1 and held[0].ndim > 0
+    is_one = is_one and isinstance(kinds[0], (numpy.dtype, ExtensionDtype))
+    is_one = is_one and id(kinds[0]) not in reader.unbuilt
     if not is_one or not set(state[2]) <= {"_freq", "_cache", "_readonly"}:
         raise Misused("the state of a pandas array has an unexpected form")
     name = type(array).__name__

@@ -15,6 +15,7 @@ sys.path[:0] = [str(Path(__file__).resolve().parent)]
 import honest  # noqa: E402
 import trees  # noqa: E402
 from children import SECONDS, Children, begin, is_here  # noqa: E402
+from mutating import SLOW  # noqa: E402
 from storklocker import Guard, lists  # noqa: E402
 from storklocker.judge import shapes  # noqa: E402
 from storklocker.judge.forms import forms  # noqa: E402
@@ -24,39 +25,52 @@ MOST, PLACES = 4, 60
 """How many findings of a name are told, and how many places of an honest pickle are tried: of more
 these are spread over all.
 """
+FEW = ("called with 1", "called behind 1", "made", "items put", "built")
+"""The ways for a value that takes long to judge."""
 EVERY = 50
 """After how many pickles what was there before is looked at."""
 
 
-def cases(pair, held):
-    """The name of each case, and its pickle, given the trees of honest pickles."""
+def cases(pair, users):
+    """The name of each case, and its pickle, given what uses names in honest pickles."""
     called = shapes.name(*pair)
     yield "called with nothing", b"\x80\x04" + called + b")R."
     yield "made of nothing", b"\x80\x04" + called + b")\x81."
     for word, data in shapes.kinds().items():
         for form, body in forms(called, data):
-            yield f"{form}: {word}", b"\x80\x04" + body
-    found = min((it for it in map(lambda root: named_in(root, pair), held) if it is not None),
-                key=lambda it: it[2], default=None)
-    if found is None:
-        return
-    root, node, _ = found
-    shared, places = trees.shared(root), own_places(node)
+            if len(data) < SLOW or form in FEW:
+                yield f"{form}: {word}", b"\x80\x04" + body
+    root, node = users.get(trees.import_of(*pair), (None, None))
+    places = [] if node is None else own_places(node)
+    shared = trees.shared(root) if places else ()
     for at, place in enumerate(places[:: 1 + len(places) // PLACES]):
+        before, after = trees.around(root, shared, place)
         for word, data in shapes.kinds().items():
-            instead = {id(place): trees.Node(trees.RAW, data)}
-            yield f"at place {at}: {word}", trees.Writer(shared, instead).written(root, 4)
+            yield f"at place {at}: {word}", before + data + after
 
 
-def named_in(root, pair):
-    """A tree, a node in it that calls a name, or is it, and the size of the tree; None without one.
+def users_of_names(held):
+    """Of trees, by the instruction of each name: the smallest tree with a call of it, or else with
+    a call that is given it, or with it alone; and the node that calls it, or is it.
     """
-    spelled = f"c{pair[0]}\n{pair[1]}\n".encode()
-    rows = [node for node, _ in trees.nodes(root)]
-    callers = (node for node in rows if node.kind in trees.CALLS
-               and any(part.data == spelled for part in node.parts))
-    node = next(callers, None) or next((it for it in rows if it.data == spelled), None)
-    return None if node is None else (root, node, len(rows))
+    found = {}
+    for root in held:
+        rows = [node for node, _ in trees.nodes(root)]
+        for node in rows:
+            for rank, names in enumerate(_names_of(node)):
+                for it in names:
+                    key = rank, len(rows)
+                    if it.kind == trees.NAME and (it.data not in found or key < found[it.data][0]):
+                        found[it.data] = key, (root, node)
+    return {spelled: user for spelled, (_, user) in found.items()}
+
+
+def _names_of(node):
+    """What a node calls, what it is called with, and what it is."""
+    if node.kind not in trees.CALLS:
+        return (), (), (node,)
+    called, *given = node.parts
+    return (called,), [it for part in given for it in (part, *part.parts)], ()
 
 
 def own_places(node):
@@ -78,15 +92,15 @@ def run(name, tried, seconds, only, is_told):
     data = honest.pickles(name, is_quick=False)
     allow = of_here(getattr(lists, name), data)
     load = honest.loader(name, Guard(widened(allow)))
-    held = [root for root in map(trees.parsed_or_none, data) if root is not None]
+    users = users_of_names(filter(None, map(trees.parsed_or_none, data)))
     pairs = [pair for pair in allow if pair not in tried and is_here(pair)]
     tried.update(pairs)
     warm(load, [*data, *(case for pair in pairs for case in few_of(pair))])
     found = []
     for many_tried, pair in enumerate(pairs, 1):
-        if only not in (None, ".".join(pair)):
+        if not ".".join(pair).startswith(only):
             continue
-        words, made = zip(*cases(pair, held))
+        words, made = zip(*cases(pair, users))
         if is_told:
             print(f"{name}, {many_tried} of {len(pairs)}: {'.'.join(pair)}, {len(made):,} pickles",
                   file=sys.stderr, flush=True)
@@ -116,7 +130,7 @@ def warm(load, made):
 def main():
     parser = argparse.ArgumentParser(description=__doc__.partition("\n\n")[0])
     parser.add_argument("lists", nargs="*", metavar="LIST")
-    parser.add_argument("--name", help="only this name")
+    parser.add_argument("--name", default="", help="only names that begin so")
     parser.add_argument("--verbose", action="store_true", help="tell each name as it is tried")
     parser.add_argument("--seconds", type=float, default=SECONDS, help="for a case, at most")
     asked = parser.parse_args()

@@ -11,7 +11,7 @@ from trees import (
     ADDS, AGAIN, CALL, CALLS, FROZEN, ITEMS, NAME, NEW, OBJ, PAIRS, RAW, ROW, STATE, Node
 )
 
-_SLOW = 2_000
+SLOW = 2_000
 """A fragment of more bytes is seldom taken."""
 _NUMBERS = (0, 1, 2, 3, 7, 64, 127, 255, 256, 65_535, 1 << 31, (1 << 32) - 1, 1 << 40, 1 << 63)
 
@@ -30,11 +30,10 @@ class Mutator:
                 self._trees.append((root, rows, data[1]))
                 for node in rows:
                     self._like.setdefault(_sort(node), []).append(node)
-        self._names = [Node(NAME, b"c%b\n%b\n" % (module.encode(), word.encode()))
-                       for module, word in names]
+        self._names = [Node(NAME, trees.import_of(*pair)) for pair in names]
         self._words = _words(names)
-        self._quick = [Node(RAW, it) for it in fragments if len(it) < _SLOW]
-        self._slow = [Node(RAW, it) for it in fragments if len(it) >= _SLOW]
+        self._quick = [Node(RAW, it) for it in fragments if len(it) < SLOW]
+        self._slow = [Node(RAW, it) for it in fragments if len(it) >= SLOW]
 
     def made(self, seed):
         """The pickle of a seed."""
