@@ -20,6 +20,8 @@ from disturbing import ending, expect, expect_done, expect_form, expect_names, e
 from disturbing import large, lay, names, run, run_all, start, test, value_of
 
 MOST_NAMES = 100
+INTERRUPTS = 60
+MOST_INTERRUPTS = 2000
 
 
 # ---- runs side by side
@@ -67,27 +69,33 @@ def interrupt(folder: pathlib.Path, file: pathlib.Path, out: pathlib.Path, numbe
     """Kills a run: at some moment, or as soon as there is a new file."""
     before = names(folder)
     ran = start(file, out)
-    end = time.monotonic() + random.uniform(0, 0.03)
-    while ran.poll() is None and time.monotonic() < end:
-        if number % 2 and names(folder) != before:
-            break
+    if number % 2:
+        while ran.poll() is None and names(folder) == before:
+            pass
+    else:
+        time.sleep(random.uniform(0, 0.03))
     ran.send_signal((signal.SIGINT, signal.SIGTERM, signal.SIGKILL)[number % 3])
     ending(ran)
 
 
 def interrupted(folder: pathlib.Path, is_input: bool) -> int:
-    """Interrupts runs that find what earlier ones left. Returns how many left something."""
-    source, most = large("left"), 60
+    """Interrupts runs that find what earlier ones left. Returns how many left something: there are
+    more runs where none did yet, as on a busy machine.
+    """
+    source, left = large("left"), 0
     value = value_of(source)
     file = folder / ("out" if is_input else "file")
-    for number in range(most):
+    for number in range(MOST_INTERRUPTS):
         lay(file, source)
         out = file if is_input else lay(folder / "out", OLD)
         interrupt(folder, file, out, number)
         content = out.read_bytes()
         expect(content in (OLD, source) or value_of(content) == value, f"{number}: torn or lost")
         expect(not is_input or value_of(content) == value, f"{number}: the input is lost")
-    return len(names(folder)) - len({file.name, "out"})
+        left = len(names(folder)) - len({file.name, "out"})
+        if left and number >= INTERRUPTS:
+            break
+    return left
 
 
 @test
