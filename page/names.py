@@ -19,15 +19,38 @@ _PACKAGE = Path(__file__).resolve().parent.parent / "python" / "storklocker"
 
 
 def module(name: str) -> Any:
-    """A module of the package that needs no compiled one, such as `scanning.words`, imported
-    without the package around it.
+    """A module of the package, such as `scanning.words`, imported without the package around it.
+    The compiled one has a stand-in: nothing that is defined when it is imported needs it.
     """
-    folder, _, last = name.rpartition(".")
-    around = f"storklocker_without_{folder}"
-    if around not in sys.modules:
-        made = sys.modules[around] = ModuleType(around)
-        made.__path__ = [str(_PACKAGE / folder)]
-    return importlib.import_module(f"{around}.{last}")
+    around = "storklocker_unbuilt"
+    folder = name.rpartition(".")[0]
+    for made, held in ((around, _PACKAGE), (f"{around}.{folder}".rstrip("."), _PACKAGE / folder)):
+        if made not in sys.modules:
+            sys.modules[made] = ModuleType(made)
+            sys.modules[made].__path__ = [str(held)]
+    compiled = sys.modules.setdefault(f"{around}._storklocker", ModuleType("_storklocker"))
+    compiled.__getattr__ = lambda name: None  # type: ignore[assignment]
+    return importlib.import_module(f"{around}.{name}")
+
+
+def formats() -> List[Dict[str, Any]]:
+    """The formats whose readers run something else, with patterns of their bytes as text."""
+    foreign = module("scanning.foreign")
+    both = [*foreign.NAMED.items(), *(("", it) for it in foreign.FORMATS)]
+    return [
+        {
+            "kind": it.kind, "finding": it.finding, "why": it.why, "isJson": it.is_json,
+            "ending": ending, "front": it.front.decode("latin-1"),
+            "holding": it.holding and it.holding.decode("latin-1"),
+        }
+        for ending, it in both
+    ]
+
+
+def members() -> List[Dict[str, str]]:
+    """What zip files are, by a pattern of the name of a member."""
+    found = module("scanning.foreign").MEMBERS.items()
+    return [{"pattern": pattern, **it._asdict()} for pattern, it in found]
 
 
 def substituted() -> Tuple[List[str], List[str]]:

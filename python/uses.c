@@ -188,7 +188,8 @@ static int is_callable(struct uses *u, slot called) {
 
 /* What a call of an object makes. */
 static slot answer_of(const struct uses *u, slot called) {
-    int is_meant = kind_of(called) != NAME && name_of(called) == MEANT;
+    int is_known = kind_of(called) >= GIVEN && kind_of(called) <= JUDGED;
+    int is_meant = is_known && name_of(called) == MEANT;
     return SLOT(MADE, is_meant ? MEANT : role_of(u, called) & ANSWERS ? ANSWERING : 0, 0);
 }
 

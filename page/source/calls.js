@@ -4,7 +4,7 @@
 import { Follower, NotFollowed } from "./following.js";
 import { isWrapper } from "./joblib.js";
 
-const MADE = { isMade: true };
+const MADE = { isMade: true }, WITH_CLASS = { isWithClass: true };
 const isClass = (it) => Boolean(it?.isName) && isWrapper(it);
 
 class Calls extends Follower {
@@ -18,7 +18,7 @@ class Calls extends Follower {
 
   // Of a tuple only such a class is of interest, from which a function makes a wrapper.
   tuple(values) {
-    this.stack.push(values.find(isClass) ?? null);
+    this.stack.push(values.some(isClass) ? WITH_CLASS : null);
   }
 
   make(called) {
@@ -32,7 +32,7 @@ class Calls extends Follower {
   }
 
   reduce(called, words) {
-    this.call(called, isClass(words));
+    this.call(called, words === WITH_CLASS);
   }
 
   instance() {

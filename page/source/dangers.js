@@ -33,6 +33,7 @@ export class Known {
   // pairs in the shipped lists, each as "module name".
   constructor({ table, renames, listed }) {
     Object.assign(this, { rows: new Map(), same: new Map(), under: new Map(), begun: [] });
+    Object.assign(this, { texts: new Set(), enums: new Set() });
     this.renaming = new Renaming(renames);
     this.listed = new Set(listed);
     for (const [header, lines] of sections(table)) this.add(header, lines);
@@ -41,7 +42,11 @@ export class Known {
   add(header, lines) {
     const end = header.indexOf("]");
     const kind = header.slice(1, end), told = header.slice(end + 2);
-    if (kind === "text" || kind === "enum") return; // what follows pickles asks them
+    if (kind === "text" || kind === "enum") {
+      const names = kind === "text" ? this.texts : this.enums; // what follows pickles asks them
+      for (const name of lines.join(" ").split(/\s+/)) names.add(name);
+      return;
+    }
     if (kind === "same" || kind === "alias") {
       for (const line of lines) this.same.set(...line.split(/\s+/, 2));
     } else if (kind === "danger") {

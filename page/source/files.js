@@ -8,7 +8,9 @@ import { readZip } from "./zip.js";
 const DEEPEST = 4;
 const MEMBERS = 20_000;
 const UNPACKED = 2 ** 30;
-const BLOCK = 512;
+const BLOSC = 16; // the bytes of its header
+const BLOCK = 512, PIECE = 1 << 20;
+const NUMBERS = [[100, 8], [108, 8], [116, 8], [124, 12], [136, 12], [148, 8]];
 
 const XZ = [0xfd, 0x37, 0x7a, 0x58, 0x5a];
 const PACKED = [
@@ -34,10 +36,13 @@ const STORES = [
   [/^(?:ARROW1|FEA1)/, "Arrow"],
   [/^PAR1/, "Parquet"],
   [/^(?:FS(?:21|20|30)|SEQ[\x04-\x06])/, "other stores"],
+  [/^(?:REDIS[0-9]{4}|\*[1-9][0-9]{0,9}\r\n\$[0-9])/, "Redis"],
   [/^[\x81-\x8f\xde][^]{0,9}(?:\xa2|\xc4\x02)nd\xc3/, "other stores"],
   [/^[^\x80][^]{3}\x80[\x02-\x05]/, "cachelib"],
 ];
+const LOCAL = [0x50, 0x4b, 3, 4], USTAR = [0x75, 0x73, 0x74, 0x61, 0x72];
 const DIFFERING = "differing-readings";
+const STORAGE = /^((?:.*\/)?(?:data|constants))\/[0-9]+$/s; // the numbers of a tensor of torch's
 const NUMPY = [0x93, 0x4e, 0x55, 0x4d, 0x50, 0x59];
 
 const HEADER = new RegExp("^\\{'descr': '[<>|=]([biufcSUmM])([0-9]{1,4})(?:\\[[a-zA-Z0-9]*\\])?', "
@@ -45,6 +50,13 @@ const HEADER = new RegExp("^\\{'descr': '[<>|=]([biufcSUmM])([0-9]{1,4})(?:\\[[a
 
 const OBJECTS = new RegExp("^\\{'descr': (?:'\\|O'|\\[[^{]*'\\|O'[^{]*\\]), 'fortran_order': "
   + "(?:True|False), 'shape': \\([0-9, ]*\\), \\} *\n?$");
+
+let memberFormats = [];
+
+// What zip files are by the names of their members: a `pattern`, and what is told.
+export function learnMembers(formats) {
+  memberFormats = formats.map((it) => ({ ...it, pattern: new RegExp(`^(?:${it.pattern})$`, "s") }));
+}
 
 export class Budget {
   constructor() {
@@ -66,7 +78,7 @@ function begins(bytes, with_) {
 // The pieces of a file: `{ path, kind, blob }`, or `{ path, kind, problem, fault }` where something
 // can't be read, or `{ path, kind, isOther, why }` where nothing is a pickle. Kinds and faults are
 // those of `storklocker scan`.
-export async function* piecesOf(path, blob, budget, depth = 0, kind = "pickle") {
+export async function* piecesOf(path, blob, budget, depth = 0, kind = "pickle", isRaw = false) {
   const front = new Uint8Array(await blob.slice(0, 2 * BLOCK).arrayBuffer());
   const packed = PACKED.find(([magic]) => begins(front, magic));
   const zip = await readZip(blob, budget);
@@ -77,6 +89,14 @@ export async function* piecesOf(path, blob, budget, depth = 0, kind = "pickle") 
   }
   if (zip) yield* insideZip(path, zip, budget, depth);
   if (zip && begins(front, [0x50, 0x4b])) return;
+  if (begins(front, LOCAL)) {
+    const problem = "This zip file has no directory: readers differ about it.";
+    yield { path, kind: "zip", fault: "broken-container", problem };
+  }
+  if (begins(front.subarray(257), USTAR) && !isTar(front)) {
+    const problem = "The checksum of this tar file is wrong: readers differ about it.";
+    yield { path, kind: "tar", fault: DIFFERING, problem };
+  }
   if (packed && !packed[1]) {
     const problem = `This page can't unpack ${packed[2]}. \`storklocker scan\` may.`;
     yield { path, kind: packed[2], fault: "unknown-container", problem };
@@ -85,14 +105,18 @@ export async function* piecesOf(path, blob, budget, depth = 0, kind = "pickle") 
   } else if (isTar(front)) {
     yield* insideTar(path, blob, budget, depth);
     yield { path, kind, blob, isAside: true }; // the name of its first member may begin a pickle
+  } else if (isBlosc(front, blob.size)) {
+    yield { path, kind: "Blosc", fault: "unknown-container", problem: "It is packed by Blosc." };
   } else if (isLzma(front)) {
     yield unread(path, "LZMA");
+  } else if (!isRaw && front[0] === 0 && await isBehindZeros(blob)) {
+    yield unread(path, "what stands behind zeros");
   } else if (begins(front, NUMPY)) {
     yield* insideArray(path, blob, front);
   } else if (storeOf(front) || await isRecord(blob, 0)) {
     yield unread(path, storeOf(front) ?? "other stores");
   } else {
-    yield { path, kind, blob, isWhole: depth === 0 };
+    yield { path, kind, blob, isRaw, isInner: depth > 0 };
   }
 }
 
@@ -115,7 +139,7 @@ async function lengthAt(blob, at) {
   return bytes.byteLength === 4 ? new DataView(bytes).getUint32(0) : NaN;
 }
 
-function unread(path, kind) {
+export function unread(path, kind) {
   const problem = `This page doesn't read ${kind}. \`storklocker scan\` does.`;
   return { path, kind, fault: "unknown-container", problem };
 }
@@ -129,29 +153,58 @@ export async function packedBehind(path, blob) {
   return isZlib ? unread(path, "packed contents after a pickle") : undefined;
 }
 
+// Whether it may be packed by Blosc, as chunks of zarr are: by the sizes that it announces.
+function isBlosc(front, size) {
+  if (front.length < BLOSC) return false;
+  const [unpacked, part, packed] = new Uint32Array(front.slice(4, BLOSC).buffer);
+  const isSize = packed >= BLOSC && packed <= Math.min(size, unpacked + 2 * BLOSC);
+  return front[0] >= 1 && front[0] <= 5 && front[1] === 1 && isSize && part > 0 && part <= unpacked;
+}
+
+// Whether zeros stand in front of a tar file, or of what is packed: an empty stream of LZMA may be
+// zeros.
+async function isBehindZeros(blob) {
+  let at = 0, front = new Uint8Array();
+  while (at < blob.size && front.every((byte) => byte === 0)) {
+    front = new Uint8Array(await blob.slice(at, at + PIECE).arrayBuffer());
+    at += PIECE;
+  }
+  at -= PIECE - front.findIndex((byte) => byte !== 0);
+  const block = Math.floor(at / BLOCK) * BLOCK;
+  const data = new Uint8Array(await blob.slice(block, block + 2 * BLOCK).arrayBuffer());
+  const behind = data.slice(at - block);
+  return isTar(data) || begins(data.subarray(257), USTAR) || begins(behind, XZ) || isLzma(behind);
+}
+
 // Whether it is LZMA alone, as packers begin it, which has no magic: its window, or a size that
-// isn't known. An empty one may be zeros, with xz behind them.
+// isn't known.
 function isLzma(front) {
-  const behind = front.subarray(front.findIndex((byte) => byte !== 0));
-  if (front[0] === 0 && begins(behind, XZ)) return true;
   if (front.length < 14 || front[0] >= 225) return false;
   const window = new DataView(front.buffer).getUint32(1, true);
-  const isWindow = window >= 4096 && Number.isInteger(Math.log2(window));
+  const isWindow = window >= 4096 && window % 4096 === 0;
   const isEndless = front.subarray(5, 13).every((byte) => byte === 0xff);
   return isEndless || (isWindow && (front[12] === 0 || front[13] === 0));
 }
 
 async function* insideZip(path, zip, budget, depth) {
   for (const problem of zip.problems) yield { path, kind: "zip", fault: DIFFERING, problem };
+  const all = zip.members.map(({ name: it }) => it);
+  for (const told of memberFormats) {
+    if (all.some((it) => told.pattern.test(it))) yield { path, ...told };
+  }
+  if (!zip.problems.length && !zip.members.length) yield { path, kind: "zip", isOther: true };
+  const names = new Set(all);
   for (const member of zip.members) {
-    const inner = `${path} › ${member.name}`;
-    if (!member.isFolder) yield* opened(inner, "zip member", await member.open(), budget, depth);
+    const inner = `${path} › ${member.name}`, storage = STORAGE.exec(member.name);
+    const isRaw = storage !== null && names.has(`${storage[1]}.pkl`);
+    const found = member.isFolder ? {} : await member.open();
+    yield* opened(inner, "zip member", found, budget, depth, isRaw);
   }
 }
 
-async function* opened(path, kind, { blob, problem }, budget, depth) {
+async function* opened(path, kind, { blob, problem }, budget, depth, isRaw = false) {
   if (problem) yield { path, kind, fault: "broken-container", problem };
-  if (blob) yield* piecesOf(path, blob, budget, depth + 1, kind);
+  if (blob) yield* piecesOf(path, blob, budget, depth + 1, kind, isRaw);
 }
 
 async function* unpack(path, blob, kind, budget, depth) {
@@ -199,12 +252,29 @@ async function* insideTar(path, blob, budget, depth) {
     }
     const inner = `${path} › ${name(block, 0, 100)}`;
     const body = blob.slice(at + BLOCK, at + BLOCK + size);
+    if (await isOdd(block, body)) {
+      const problem = "Readers differ about a header of this tar file.";
+      yield { path, kind: "tar", fault: DIFFERING, problem };
+    }
     if (size > 0) yield* piecesOf(inner, body, budget, depth + 1, "tar member");
     at += BLOCK + Math.ceil(size / BLOCK) * BLOCK;
   }
   const rest = blob.slice(at);
-  const problem = "Bytes follow the end of this tar file.";
-  if (!(await isZero(rest))) yield { path, kind: "tar", fault: DIFFERING, problem };
+  const problem = "Bytes follow the end of this tar file, or it is truncated.";
+  const isWhole = rest.size % BLOCK === 0 && await isZero(rest);
+  if (!isWhole) yield { path, kind: "tar", fault: DIFFERING, problem };
+}
+
+// Whether readers differ about a header: in its numbers, in what isn't a file and has contents, or
+// in what follows it by another size.
+async function isOdd(block, body) {
+  const type = String.fromCharCode(block[156]);
+  const isOctal = NUMBERS.every(([at, size]) => block[at] === 0x80 || block[at] === 0xff
+    || /^ *[0-7]*[ \0]*$/.test(String.fromCharCode(...block.subarray(at, at + size))));
+  const records = "xg".includes(type) ? await body.text() : "";
+  const isExtended = "xXgLK".includes(type), isFile = "0\x007S".includes(type);
+  return !isOctal || (!isExtended && !isFile && "123456".includes(type) && body.size > 0)
+    || / size=/.test(records) || (type === "g" && / (?:link)?path=/.test(records));
 }
 
 async function isZero(blob) {
@@ -214,17 +284,16 @@ async function isZero(blob) {
 
 // An array of NumPy is a pickle behind its header if its type has objects.
 async function* insideArray(path, blob, front) {
-  const isShort = front[6] === 1;
-  const length = isShort
-    ? front[8] + 256 * front[9]
-    : new DataView(front.buffer).getUint32(8, true);
-  const start = (isShort ? 10 : 12) + length;
+  const isShort = front[6] === 1, view = new DataView(front.buffer);
+  const isCut = front.length < 12;
+  const length = isCut ? 0 : isShort ? view.getUint16(8, true) : view.getUint32(8, true);
+  const start = Math.min((isShort ? 10 : 12) + length, blob.size);
   const header = await blob.slice(isShort ? 10 : 12, Math.min(start, 1 << 16)).text();
   const size = sizeOf(header);
   if (header.includes("O")) {
     const problem = "Its type isn't one that NumPy writes: readers may differ.";
     if (!OBJECTS.test(header)) yield { path, kind: "npy", fault: DIFFERING, problem };
-    yield { path: `${path} › objects`, kind: "npy", blob: blob.slice(start), isWhole: true };
+    yield { path: `${path} › objects`, kind: "npy", blob: blob.slice(start), isClaimed: true };
   } else if (start + size === blob.size) {
     yield { path, kind: "npy", isOther: true, why: "numbers only" };
   } else {

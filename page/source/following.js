@@ -64,10 +64,11 @@ export function handlers(said, others) {
 
 // The number of the memo entry that an instruction names.
 function memoNumber(read) {
-  return read.code === GET || read.code === PUT
-    ? parseInt(read.lines()[0], 10) : read.number(read.from, read.at - read.from);
+  if (read.code !== GET && read.code !== PUT) return read.number(read.from, read.at - read.from);
+  const digits = read.lines()[0].split("\0", 1)[0].trim().replace(/(?<=[0-9])_(?=[0-9])/g, "");
+  return /^\+?[0-9]+$/.test(digits) ? Number(digits) : fail("no number");
 }
-const GET = "g".charCodeAt(0), PUT = "p".charCodeAt(0), BUILD = "b".charCodeAt(0);
+const [GET, PUT, BUILD, POP] = [..."gpb0"].map((it) => it.charCodeAt(0));
 export const STOP = ".".charCodeAt(0);
 
 // Whether the pickle at an offset sets a state.
@@ -83,7 +84,8 @@ export function setsState(bytes, at) {
 
 // ---- what is on the stack and in the memo
 
-export const ANY = { isAny: true };
+// What may be a text, and what is none.
+export const ANY = { isAny: true }, OTHER = { isOther: true };
 const MARK = { isMark: true }, LONGEST = 1 << 12;
 
 export function fail(why) {
@@ -108,13 +110,26 @@ export class Follower {
 
   // Follows it up to STOP.
   follow() {
-    for (this.read.next(); this.read.code !== STOP; this.read.next()) {
-      HANDLERS[this.read.code](this);
-    }
+    for (this.read.next(); this.read.code !== STOP; this.read.next()) this.step();
+  }
+
+  step() {
+    HANDLERS[this.read.code](this);
+  }
+
+  // A frame, which ends there.
+  begin(end) {
+    this.frame = end;
   }
 
   pop() {
-    return this.stack.length ? this.stack.pop() : fail("an item is missing");
+    if (this.read.code !== POP || !this.stack.length) this.top();
+    return this.stack.pop();
+  }
+
+  top() {
+    const it = this.stack.at(-1);
+    return it === undefined || it === MARK ? fail("an item is missing") : it;
   }
 
   toMark() {
@@ -132,9 +147,19 @@ export class Follower {
     this.stack.push(...pushed);
   }
 
+  // The module and the name that the lines of an instruction have.
+  spelled() {
+    try {
+      return utf8.decode(this.read.argument()).split("\n", 2);
+    } catch {
+      return fail("a name that isn't UTF-8");
+    }
+  }
+
   tupleOf(count) {
-    if (this.stack.length < count) fail("an item is missing");
-    this.tuple(this.stack.splice(this.stack.length - count));
+    const values = this.stack.splice(-count);
+    if (values.length < count || values.includes(MARK)) fail("an item is missing");
+    this.tuple(values);
   }
 
   // What a derived class judges: values go where they are followed no more; a persistent id, EXT
@@ -161,6 +186,7 @@ export class Follower {
 
   build() {
     this.hidden(1);
+    this.top();
   }
 
   make() {
@@ -189,21 +215,52 @@ export class Follower {
 
 // ---- numbers and texts
 
-const utf8 = new TextDecoder("utf-8", { fatal: true }), latin = new TextDecoder("latin1");
+const utf8 = new TextDecoder("utf-8", { fatal: true, ignoreBOM: true });
+const latin = new TextDecoder("latin1");
+const NUMERALS = /^(?:[ \t\r\f\v0-9a-foxlA-FOXL_.+-]*|\s*[+-]*(?:nan|inf|infinity)\s*)$/i;
+const QUOTED = /\\(?:x([0-9a-fA-F]{2})|([0-7]{1,3})|([^]))/g;
+const RAW = /\\(?:u([0-9a-fA-F]{4})|U(000[0-9a-fA-F]{5}|0010[0-9a-fA-F]{4})|([^]))/g;
+const LETTERS = { a: "\x07", b: "\b", f: "\f", n: "\n", r: "\r", t: "\t", v: "\v" };
 
-function pushText(decoder) {
-  return ({ stack, read }) => {
-    const bytes = read.argument();
-    if (bytes.length > LONGEST) {
-      stack.push(ANY);
-      return;
-    }
-    try {
-      stack.push(decoder.decode(bytes));
-    } catch {
-      fail("a text that isn't UTF-8");
-    }
-  };
+function pushText({ stack, read }) {
+  const bytes = read.argument();
+  if (bytes.length > LONGEST) {
+    stack.push(ANY);
+    return;
+  }
+  try {
+    stack.push(utf8.decode(bytes));
+  } catch {
+    // (readers take lone surrogates, of which no module has any in its name)
+    stack.push(/\xed[\xa0-\xbf]/.test(binary(bytes)) ? OTHER : fail("a text that isn't UTF-8"));
+  }
+}
+
+function binary(bytes) {
+  return String.fromCharCode(...bytes);
+}
+
+function pushOldText({ stack, read }) {
+  const bytes = read.argument();
+  stack.push(bytes.length > LONGEST ? ANY : latin.decode(bytes));
+}
+
+function pushQuoted({ stack, read }) {
+  const line = read.lines()[0].trim(), [quote] = line;
+  if (line.length < 2 || !line.endsWith(quote) || !`'"`.includes(quote)) fail("no quotes");
+  stack.push(line.slice(1, -1).replace(QUOTED, unescaped));
+}
+
+function unescaped(all, hex, octal, letter) {
+  if (letter) return LETTERS[letter] ?? (`\\'"`.includes(letter) ? letter : all);
+  return String.fromCharCode((hex ? parseInt(hex, 16) : parseInt(octal, 8)) & 255);
+}
+
+function pushRaw({ stack, read }) {
+  stack.push(read.lines()[0].replace(RAW, (all, short, long, letter) => {
+    if (letter) return letter === "u" || letter === "U" ? fail("an escape") : all;
+    return String.fromCodePoint(parseInt(short ?? long, 16));
+  }));
 }
 
 function pushNumber(isSigned) {
@@ -211,43 +268,45 @@ function pushNumber(isSigned) {
     const bytes = read.argument(), size = bytes.length;
     const made = read.number(read.from, size);
     const isNegative = isSigned && size > 0 && bytes[size - 1] > 0x7f;
-    stack.push(size > 6 ? ANY : isNegative ? made - 2 ** (8 * size) : made);
+    stack.push(size > 6 ? OTHER : isNegative ? made - 2 ** (8 * size) : made);
   };
 }
 
 function pushLine({ stack, read }) {
-  const line = read.lines()[0].replace(/L$/, "");
+  const line = read.lines()[0].split("\0", 1)[0];
+  if (!NUMERALS.test(line)) fail("no number");
+  const digits = line.replace(/L$/, "");
   if (line === "00" || line === "01") stack.push(line === "01");
-  else stack.push(/^-?[0-9]{1,15}$/.test(line) ? Number(line) : ANY);
+  else stack.push(/^-?[0-9]{1,15}$/.test(digits) ? Number(digits) : OTHER);
 }
 
 const HANDLERS = handlers({
   "(": ({ stack }) => stack.push(MARK), "0": (it) => it.pop(), "1": (it) => it.toMark(),
-  "2": (it) => { const top = it.pop(); it.stack.push(top, top); },
+  "2": (it) => it.stack.push(it.top()),
   "N": ({ stack }) => stack.push(null), "\x88": ({ stack }) => stack.push(true),
   "\x89": ({ stack }) => stack.push(false), ")": ({ stack }) => stack.push([]),
   "}": ({ stack }) => stack.push(new Map()), "t": (it) => it.tuple(it.toMark()),
   "\x85": (it) => it.tupleOf(1), "\x86": (it) => it.tupleOf(2), "\x87": (it) => it.tupleOf(3),
-  "c": (it) => it.name(...it.read.lines()),
+  "c": (it) => it.name(...it.spelled()),
   "\x93": (it) => { const name = it.pop(); it.name(it.pop(), name); },
-  "s": (it) => { const value = it.pop(); it.items([it.pop(), value]); },
-  "u": (it) => it.items(it.toMark()),
+  "s": (it) => { const value = it.pop(), key = it.pop(); it.top(); it.items([key, value]); },
+  "u": (it) => { const values = it.toMark(); it.top(); it.items(values); },
   "d": (it) => { const values = it.toMark(); it.stack.push(new Map()); it.items(values); },
   "\x81": (it) => { const words = it.pop(); it.make(it.pop(), words); },
   "R": (it) => { const words = it.pop(); it.reduce(it.pop(), words); }, "b": (it) => it.build(),
-  "\x95": (it) => { it.frame = it.read.at + it.read.number(it.read.from, 8); },
-  "pqr": (it) => it.memo.set(memoNumber(it.read), it.stack.at(-1)),
-  "\x94": (it) => it.memo.set(it.memo.size, it.stack.at(-1)),
+  "\x95": (it) => it.begin(it.read.at + it.read.number(it.read.from, 8)),
+  "pqr": (it) => it.memo.set(memoNumber(it.read), it.top()),
+  "\x94": (it) => it.memo.set(it.memo.size, it.top()),
   "ghj": (it) => {
     const number = memoNumber(it.read);
     it.stack.push(it.memo.has(number) ? it.memo.get(number) : fail("no memo entry"));
   },
-  "\x82\x83\x84\x97P": (it) => it.given(0, ANY), "\x98": (it) => it.given(0),
+  "\x82\x83\x84\x97": (it) => it.given(0, ANY), "\x98": (it) => { it.top(); it.given(0); },
+  "P": (it) => (it.read.argument().some((byte) => byte > 0x7f) ? fail("an id") : it.given(0, ANY)),
   "Q": (it) => it.given(1, ANY), "i": (it) => it.instance(), "o": (it) => it.instanceOf(),
-  "l\x91": (it) => it.hiddenToMark(ANY), "e\x90": (it) => it.hiddenToMark(),
-  "a": (it) => it.hidden(1), "\x92": (it) => it.makeNamed(it.pop()), "\x80": () => {},
-  "KM": pushNumber(false), "J\x8a\x8b": pushNumber(true), "IL": pushLine,
-  "X\x8c\x8d": pushText(utf8), "TU": pushText(latin),
-  "V": ({ stack, read }) => stack.push(read.lines()[0]),
-  "S": ({ stack, read }) => stack.push(read.lines()[0].slice(1, -1)),
-}, ({ stack }) => stack.push(ANY));
+  "l\x91": (it) => it.hiddenToMark(OTHER), "e\x90": (it) => { it.hiddenToMark(); it.top(); },
+  "a": (it) => { it.hidden(1); it.top(); }, "\x92": (it) => it.makeNamed(it.pop()),
+  "\x80": ({ bytes, read }) => (bytes[read.from] > 5 ? fail("no such protocol") : undefined),
+  "KM": pushNumber(false), "J\x8a\x8b": pushNumber(true), "FIL": pushLine,
+  "X\x8c\x8d": pushText, "TU": pushOldText, "V": pushRaw, "S": pushQuoted,
+}, ({ stack }) => stack.push(OTHER));

@@ -1,10 +1,13 @@
 // The word, the kind and the findings of a part, by the rules of `storklocker scan`. What the words
 // are, how bad a finding is and what to do about it come from the package, by page/make.
 
-import { verdictLine } from "./words.js";
+import { dotted, verdictLine } from "./words.js";
 
 const [YES, NO, NO_LIST] = [0, 1, 2];
+const GETATTR = "builtins.getattr";
 const RISKS = { danger: "dangerous-import", warning: "risky-import", unknown: "unknown-import" };
+
+const isIn = (listed, { module, name }) => listed.has(JSON.stringify([module, name]));
 
 export class Judge {
   // said: `severities` and `words`, the worst first, `kinds` of findings, `headlines`, and what a
@@ -27,7 +30,7 @@ export class Judge {
       return "unreadable";
     }
     const isMild = worst === "warning" || worst === "unknown";
-    return isMild && status === "unjudged" ? worst : status;
+    return isMild && ["unjudged", "code"].includes(status) ? worst : status;
   }
 
   // The line above all that was found.
@@ -51,12 +54,20 @@ export class Judge {
       const findings = [{ kind: part.fault ?? "unreadable", why: part.problem }];
       return { ...part, word: "unreadable", why: part.problem, findings };
     }
+    if (part.finding) {
+      const findings = [{ kind: part.finding, why: part.why }];
+      return { ...part, word: this.word("code", findings), findings };
+    }
     if (part.isOther) return { ...part, word: "no pickle", why: part.why ?? "", findings: [] };
     const isListed = pairs.length > 0 && part.verdict.status !== NO_LIST;
     const listed = isListed
       ? new Set(pairs.map(({ module, name }) => JSON.stringify([module, name]))) : null;
-    const findings = this.found(part, listed);
-    let [status, why] = this.status(part, listed, findings);
+    let findings = this.found(part, listed);
+    let [status, why] = part.isKept
+      ? this.kept(part, listed, findings) : this.status(part, listed, findings);
+    const isSafe = part.hasMembers && !["refused", "unreadable"].includes(this.worst(
+      findings.filter((it) => it.name !== GETATTR)));
+    if (isSafe) findings = findings.filter((it) => it.name !== GETATTR);
     if (part.verdict.status === NO_LIST) why = verdictLine(part.verdict);
     if (part.raw) {
       status = status === "refused" ? status : "unreadable";
@@ -85,6 +96,12 @@ export class Judge {
     const line = verdictLine(verdict);
     if (verdict.status === NO) findings.push({ kind: "refused", why: line });
     if (verdict.status === NO) return ["refused", line];
+    const off = part.isStream && part.imports.find((it) => !isIn(listed, it));
+    if (off) {
+      const why = `no: pickle.load imports ${dotted(off.module, off.name)} of this stream`;
+      findings.push({ kind: "refused", why });
+      return ["refused", why];
+    }
     if (part.calls) {
       findings.push({ kind: "refused", why: part.calls });
       return ["refused", `no: ${part.calls}`];
@@ -92,6 +109,17 @@ export class Judge {
     const why = this.undecided(part, listed);
     if (why) findings.push({ kind: "undecided", why });
     return why ? ["undecided", why] : ["accepted", line];
+  }
+
+  // What one Unpickler imports that loads all pickles of a row. Adds the findings that go with it.
+  kept({ imports }, listed, findings) {
+    const name = dotted(imports[0].module, imports[0].name);
+    const why = `one Unpickler that loads all pickles imports ${name}, and others don't`;
+    findings.push({ kind: "differing-readings", why });
+    if (listed === null) return ["unjudged", why];
+    if (imports.every((it) => isIn(listed, it))) return ["accepted", why];
+    findings.push({ kind: "refused", why });
+    return ["refused", `no: ${why}`];
   }
 
   // Why only a load decides about an accepted pickle; empty if it doesn't.
@@ -116,7 +144,7 @@ export class Judge {
     if (imports === null) findings.push({ kind: "too-much", why: "it imports too many names" });
     for (const { module, name } of imports ?? []) {
       const { severity, why } = this.known.of(module, name);
-      const isListed = listed?.has(JSON.stringify([module, name])) && severity !== "danger";
+      const isListed = listed && isIn(listed, { module, name }) && severity !== "danger";
       if (severity === "harmless" || isListed) continue;
       findings.push({ kind: module === null ? "hidden-import" : RISKS[severity], why,
         name: module === null ? "" : `${module}.${name}` });

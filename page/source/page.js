@@ -40,8 +40,8 @@ function begin() {
   worker = new Worker(place);
   worker.onmessage = ({ data }) => handlers[data.kind](data);
   worker.onerror = (event) => handlers.failed({ why: event.message || "it can't start" });
-  const told = { costs: packed.said.costs, renames: packed.known.renames };
-  worker.postMessage({ kind: "begin", code, known: told, source: get("list").value });
+  const told = { costs: packed.said.costs, known: packed.known, ...packed.formats };
+  worker.postMessage({ kind: "begin", code, told, source: get("list").value });
 }
 
 const handlers = {
@@ -157,9 +157,9 @@ function choose(id) {
   else listing.mark(placeOf(part));
 }
 
-function told({ word, isOther, any, verdict }) {
-  if (!any) return "";
-  if (isOther) return `${sentence(any)} Nothing is imported before that.`;
+function told({ isOther, isKept, any, verdict }) {
+  if (!any || isKept) return "";
+  if (isOther) return `${sentence(any)} No reader gets to an import.`;
   if (pairs.length > 0 || verdict.status > 1) return sentence(verdict);
   return any.status === 1 ? sentence(any) : "";
 }

@@ -33,6 +33,9 @@ export async function readZip(blob, budget) {
     zip.members.push(await memberOf(blob, entry, budget, covered));
     at = entry.next;
   }
+  if (zip.members.length % 2 ** 16 !== end.count) {
+    zip.problems.push("Its directory has other members than its end record says.");
+  }
   zip.problems.push(...gaps(covered, end.start), ...repeated(zip.members));
   return zip;
 }
@@ -43,10 +46,19 @@ async function findEnd(blob) {
   for (let at = tail.byteLength - END_SIZE; at >= 0; at -= 1) {
     if (tail.getUint32(at, true) !== END) continue;
     const end = { size: tail.getUint32(at + 12, true), start: tail.getUint32(at + 16, true) };
+    end.count = tail.getUint16(at + 10, true);
     end.problems = at + END_SIZE === tail.byteLength
       ? [] : ["Bytes follow the end record of this zip file: readers may differ about it."];
+    if ([4, 6].some((disk) => tail.getUint16(at + disk, true) !== 0)
+      || tail.getUint16(at + 8, true) !== end.count) {
+      end.problems.push("It is one of several disks: readers differ.");
+    }
     const isLong = end.start === 0xffffffff || end.size === 0xffffffff;
-    return isLong ? { ...end, ...(await longEnd(blob, start + at)) } : end;
+    const found = isLong ? { ...end, ...(await longEnd(blob, start + at)) } : end;
+    if (found.start + found.size !== (found.place ?? start + at)) {
+      end.problems.push("Bytes stand between its directory and its end: readers may differ.");
+    }
+    return found;
   }
   return null;
 }
@@ -54,10 +66,10 @@ async function findEnd(blob) {
 // The end record for large files stands in front of the other one.
 async function longEnd(blob, before) {
   const locator = await view(blob, Math.max(0, before - LOCATOR_SIZE), LOCATOR_SIZE);
-  const record = await view(blob, Number(locator.getBigUint64(8, true)), 56);
+  const place = Number(locator.getBigUint64(8, true)), record = await view(blob, place, 56);
   if (record.byteLength < 56 || record.getUint32(0, true) !== END_64) return { size: Infinity };
   const long = (at) => Number(record.getBigUint64(at, true));
-  return { size: long(40), start: long(48) };
+  return { size: long(40), start: long(48), count: long(32) % 2 ** 16, place };
 }
 
 function entryAt(directory, at) {

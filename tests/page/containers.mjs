@@ -34,8 +34,8 @@ function kindOf({ problem, isOther, verdict }) {
   return verdict.status === 0 ? "yes" : "no";
 }
 
-const known = JSON.parse(readFileSync(0, "utf8"));
-await ask({ kind: "begin", code: readFileSync(module), known, source: LIST });
+const begun = JSON.parse(readFileSync(0, "utf8"));
+await ask({ kind: "begin", code: readFileSync(module), told: begun, source: LIST });
 for (const name of readdirSync(files).sort()) {
   await ask({ kind: "files", files: [new File([readFileSync(join(files, name))], name)] });
   const parts = told.filter((it) => it.kind === "part").map(({ part }) => kindOf(part));

@@ -17,7 +17,7 @@ import zipfile
 from pathlib import Path
 from typing import Dict
 
-from sentences import maker, scripts
+from sentences import begun, scripts
 
 ROOT = Path(__file__).resolve().parent.parent.parent
 FILES = 1000
@@ -90,7 +90,7 @@ def fault(module: Path) -> str:
             (files / f"{number:04}").write_bytes(packed)
         inner = Path(__file__).with_suffix(".mjs")
         words = ["node", *map(str, (inner, its, module, files))]
-        told = json.dumps({"costs": maker().costs(), "renames": maker().names.renames()})
+        told = json.dumps(begun())
         ran = subprocess.run(words, input=told, capture_output=True, text=True, check=False)
     lines = [line.split() for line in ran.stdout.splitlines()]
     if ran.returncode or len(lines) != FILES or not any(reads.values()):

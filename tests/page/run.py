@@ -32,6 +32,7 @@ import containers  # noqa: E402
 import sights  # noqa: E402
 import sentences  # noqa: E402
 import verdicts  # noqa: E402
+import walks  # noqa: E402
 
 
 def shipped(folder: Path) -> Optional[Path]:
@@ -99,6 +100,7 @@ def main() -> int:
         why = sentences.lacking()
         if not why and module is not None:
             found["verdicts"] = verdicts.fault(module)
+            found["walks"] = walks.fault(module)
     if why:
         skipped.append(f"what the page says of names: {why}")
     else:

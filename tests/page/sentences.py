@@ -13,7 +13,7 @@ import subprocess
 import tempfile
 from pathlib import Path
 from types import ModuleType
-from typing import Iterator, List, Set, Tuple
+from typing import Any, Dict, Iterator, List, Set, Tuple
 
 HERE = Path(__file__).resolve().parent
 ROOT = HERE.parent.parent
@@ -41,6 +41,13 @@ def maker() -> ModuleType:
     module = importlib.util.module_from_spec(spec)
     loader.exec_module(module)
     return module
+
+
+def begun() -> Dict[str, Any]:
+    """What the page's worker has of words and names."""
+    made = maker()
+    formats = {"formats": made.names.formats(), "members": made.names.members()}
+    return {"costs": made.costs(), "known": made.known(), **formats}
 
 
 @contextlib.contextmanager

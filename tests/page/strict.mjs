@@ -1,7 +1,7 @@
 // Node unpacks what follows a packed stream too, or passes it over. Browsers end there with a
 // fault, as the standard says; so does this in Node's place.
 
-import { inflateRawSync, inflateSync } from "node:zlib";
+import { gunzipSync, inflateRawSync, inflateSync } from "node:zlib";
 
 const SUMS = { gzip: 8, deflate: 0 }; // the bytes of checksums that node doesn't count
 
@@ -23,6 +23,7 @@ globalThis.DecompressionStream = class extends TransformStream {
       controller.enqueue(new Uint8Array(buffer));
       const end = from + engine.bytesWritten + (SUMS[format] ?? 0);
       if (end !== bytes.length) throw new TypeError("bytes follow the packed contents");
+      if (format === "gzip") gunzipSync(bytes); // its checksum
     };
     super({ transform: (chunk) => { chunks.push(Buffer.from(chunk)); }, flush });
   }

@@ -9,7 +9,7 @@ import { pathToFileURL } from "node:url";
 import "./strict.mjs";
 
 const [folder, module, files] = process.argv.slice(2);
-const { known, said, lists } = JSON.parse(readFileSync(0, "utf8"));
+const { begun, said, lists } = JSON.parse(readFileSync(0, "utf8"));
 let told = [];
 let ended = null;
 
@@ -22,7 +22,7 @@ const from = (name) => import(pathToFileURL(join(folder, name)));
 await from("worker.js");
 const { Judge } = await from("judging.js");
 const { Known } = await from("dangers.js");
-const judge = new Judge(said, new Known(known));
+const judge = new Judge(said, new Known(begun.known));
 
 function ask(data) {
   told = [];
@@ -44,8 +44,7 @@ function parted(pairs) {
 
 const found = {};
 for (const [name, source] of Object.entries(lists)) {
-  const begun = { costs: said.costs, renames: known.renames };
-  await ask({ kind: "begin", code: readFileSync(module), known: begun, source });
+  await ask({ kind: "begin", code: readFileSync(module), told: begun, source });
   const { pairs } = told.find((it) => it.kind === "list");
   found[name] = {};
   for (const file of readdirSync(files).sort()) {

@@ -22,8 +22,8 @@ import zlib
 from pathlib import Path
 from typing import Any, Dict, Iterable, Iterator, List, Set, Tuple
 
-from corpus import files as files_of_tests
-from sentences import maker, scripts
+import corpus
+from sentences import begun, maker, scripts
 
 HERE = Path(__file__).resolve().parent
 ROOT = HERE.parent.parent
@@ -192,15 +192,17 @@ def _kinds(parts: Iterable[Dict[str, Any]], word: str) -> Set[str]:
 
 def fault(module: Path) -> str:
     """Where they differ, or nothing."""
-    own, others = {**_files(), **dict(_of_libraries())}, files_of_tests()
-    found, words = _page(module, {**own, **others})
-    differing = itertools.chain(_differing(own, found, words), _milder(others, found, words))
+    own = {**_files(), **dict(_of_libraries()), **corpus.rows()}
+    others, read = corpus.files(), corpus.read()
+    found, words = _page(module, {**own, **others, **read})
+    differing = itertools.chain(
+        _differing(own, found, words), _milder(others, found, words), _calmer(read, found, words)
+    )
     return "".join(itertools.islice(differing, 9))
 
 
 def _page(module: Path, files: Dict[str, bytes]) -> Any:
-    made = maker()
-    asked = {"known": made.known(), "said": made.said(), "lists": LISTS}
+    asked = {"begun": begun(), "said": maker().said(), "lists": LISTS}
     with tempfile.TemporaryDirectory() as folder, scripts() as its:
         for name, data in files.items():
             Path(folder, name).write_bytes(data)
@@ -240,6 +242,15 @@ def _milder(files: Dict[str, bytes], found: Any, words: List[str]) -> Iterator[s
         is_asked = page == "undecided" and _may_ask(listed, scan)
         is_same = page == scan and _told(parts)[1] <= _told(reports)[1]
         if not (is_same or is_unread or is_asked):
+            yield f"{name} under {listed!r}: {parts}, scan: {reports}\n"
+
+
+def _calmer(files: Dict[str, bytes], found: Any, words: List[str]) -> Iterator[str]:
+    """Where the page has a milder word than `scan`, but for what it can't read."""
+    for listed, name in itertools.product(("", "some"), sorted(files)):
+        parts, reports = found[listed][name], _scanned(name, files[name], LISTS[listed])
+        page, scan = _word(parts, "word", words), _word(reports, "status", words)
+        if page != "unreadable" and words.index(page) > words.index(scan):
             yield f"{name} under {listed!r}: {parts}, scan: {reports}\n"
 
 

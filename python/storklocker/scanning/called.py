@@ -24,8 +24,11 @@ def _role_of(module: bytes, name: bytes) -> int:
     """The role of what these instructions import. Without a list no name has a substitute, and what
     wrappers make is called where a file of joblib has an array.
     """
-    is_wrapper = any(wrapper in name for wrapper in _WRAPPERS)
-    return IS_WRAPPER * NUMBERED + 1 if is_wrapper else 0
+    if not any(wrapper in name for wrapper in _WRAPPERS):
+        return 0
+    from .._uses import named_by  # few files are joblib's
+
+    return IS_WRAPPER * NUMBERED + 1 if named_by(module, name, False) in WRAPPERS else 0
 
 
 class Look:
