@@ -15,7 +15,9 @@ import zlib
 from typing import Dict, Iterator, List, NamedTuple, Optional, Set, Tuple
 
 from .budget import Budget, TooMuch
-from .hdf5_indexes import Chunk, datasets_in
+from .hdf5_elsewhere import elsewhere_in
+from .hdf5_indexes import Chunk, Dataset, datasets_in
+from .hdf5_rows import rows_across
 from .marks import HDF5
 from .readings import Found, Place
 from .source import BLOCK, Source, in_memory
@@ -84,7 +86,17 @@ def hdf5_reading(place: Place) -> Found:
     if filters.has_deflate:
         yield from _deflated(place, filters.sizes)
     yield from _in_order(place, filters.all[:_MOST_SIZES])
+    start = start_of(place.source)
+    width = place.source.read(start + 13 - 4 * (place.source.read(start + 8, 1) > b"\1"), 1)
+    for why in dict.fromkeys(elsewhere_in(place.source, start, width[0], place.budget)):
+        yield place.unread("HDF5", "unread-pickles", why)
     return True
+
+
+def start_of(source: Source) -> int:
+    """Where the first block of the file is."""
+    places = (0, *(512 << it for it in range(48)))
+    return next((at for at in places if source.read(at, len(HDF5)) == HDF5), 0)
 
 
 def filters_of(source: Source, budget: Budget) -> Filters:
@@ -195,13 +207,14 @@ class _Held:
 
 def _in_order(place: Place, filters: Tuple[_Filters, ...]) -> Found:
     """The pickles in datasets whose chunks don't lie in their order, one behind another."""
-    source = place.source
-    start = next((at for at in (0, *(512 << it for it in range(48))) if at < source.size
-                  and source.read(at, len(HDF5)) == HDF5), 0)
-    all_chunks = list(datasets_in(source, start, place.budget))
-    order = sorted({chunk.at for chunks in all_chunks for chunk in chunks})
+    source, start = place.source, start_of(place.source)
+    found = list(datasets_in(source, start, place.budget))
+    order = sorted({chunk.at for dataset in found for chunk in dataset.chunks})
     place_of = {at: number for number, at in enumerate(order)}
-    for number, chunks in enumerate(all_chunks):
+    for number, dataset in enumerate(found):
+        for its in (*filters, ()):
+            yield from _in_rows(place, dataset, its, f"dataset {number}, rows")
+        chunks = dataset.chunks
         pairs = tuple(zip(chunks, chunks[1:]))
         has_mask = any(chunk.mask for chunk in chunks)
         if has_mask or any(one.at + one.size != next_.at for one, next_ in pairs):
@@ -209,6 +222,25 @@ def _in_order(place: Place, filters: Tuple[_Filters, ...]) -> Found:
         if has_mask or any(place_of[one.at] + 1 != place_of[it.at] for one, it in pairs):
             for its in filters:
                 yield from _joined(place, chunks, its, f"dataset {number}")
+    return True
+
+
+def _in_rows(place: Place, dataset: Dataset, filters: _Filters, name: str) -> Found:
+    """The pickles in rows that lie across chunks. Of very long rows parts are looked through."""
+    held = _Held(1, name)
+    for chunks in dataset.beside:
+        size = max(dataset.width, max(it.size for it in chunks))
+        count = min(max(_LARGEST // size, 2), len(chunks))
+        for at in range(0, max(len(chunks) - count // 2, 1), max(count // 2, 1)):
+            parts = []
+            for it in chunks[at : at + count]:
+                place.budget.spend(4 + it.size // _UNPACKED_AT)
+                data = place.source.read(it.at, it.size)
+                parts.append(_plain(data, it.mask, filters, place))
+            held.data += rows_across(parts, dataset.width)
+            if len(held.data) >= _TOGETHER:
+                yield from held.looked_through(place)
+    yield from held.looked_through(place)
     return True
 
 

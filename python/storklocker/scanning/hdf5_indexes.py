@@ -7,10 +7,12 @@ extended.
 
 from __future__ import annotations
 
+import math
 import re
 from typing import Callable, Dict, Iterator, List, NamedTuple, Optional, Set, Tuple
 
 from .budget import STEP, Budget
+from .hdf5_rows import NEAR, beside, counts_near
 from .source import BLOCK, Source
 
 _LAYOUT = re.compile(rb"\x03\x02[\2-\x21]|[\4\5]\x02[\0-\3][\2-\x21][\1-\x08]")
@@ -36,32 +38,46 @@ class Chunk(NamedTuple):
 
 
 class _Layout(NamedTuple):
-    """Where an index is, the number of dimensions, and the bytes of a chunk without filters."""
+    """Where an index is, the number of dimensions, the bytes of a chunk without filters, and its
+    dimensions, of which the last is the size of an item.
+    """
 
     address: int
     rank: int
     size: int
+    dims: Tuple[int, ...]
 
 
 _Entries = List[Tuple[Tuple[int, ...], Chunk]]
 """Chunks, each with the place in its dataset."""
 
 
-def datasets_in(source: Source, start: int, budget: Budget) -> Iterator[List[Chunk]]:
-    """The chunks of each dataset of the file whose first block is at an offset, in their order."""
+class Dataset(NamedTuple):
+    """The chunks of a dataset in their order; those that lie beside one another, if these have
+    several rows; and the bytes of a row that one of them has.
+    """
+
+    chunks: List[Chunk]
+    beside: List[List[Chunk]]
+    width: int
+
+
+def datasets_in(source: Source, start: int, budget: Budget) -> Iterator[Dataset]:
+    """Each dataset of the file whose first block is at an offset."""
     file = _File(source, start, budget)
     seen: Set[_Layout] = set()
     for at in range(0, source.size, BLOCK) if file.width in _WIDTHS else ():
         block = source.read(at, BLOCK + _LONGEST)
         for found in _LAYOUT.finditer(block, 0, BLOCK + 4):
             budget.spend(3)
+            place = at + found.start()
             layout, reader = file.layout(block[found.start() : found.start() + _LONGEST])
             if layout is not None and layout not in seen:
                 seen.add(layout)
                 budget.spend()
                 entries = sorted(reader(layout), key=lambda it: it[0])
                 if entries:
-                    yield [chunk for _, chunk in entries]
+                    yield file.dataset(layout, entries, source.read(max(place - NEAR, 0), 2 * NEAR))
 
 
 class _File:
@@ -95,13 +111,25 @@ class _File:
             begin = place + 1 + _SKIPPED.get(kind, 0)
             address = _number(data[begin : begin + self.width])
             place = 5
-        size = 1
-        for number in range(rank):
-            size *= _number(data[place + number * dims : place + (number + 1) * dims])
+        ends = range(place + dims, place + (rank + 1) * dims, dims)
+        its = tuple(_number(data[end - dims : end]) for end in ends)
+        size = math.prod(its)
         if not 0 < size < self._source.size << 10 or address >= self._source.size:
             return None, self._tree
         reader = self._arrays.get(self._source.read(self._start + address, _SIGNATURE))
-        return (None, self._tree) if reader is None else (_Layout(address, rank - 1, size), reader)
+        if reader is None:
+            return None, self._tree
+        return _Layout(address, rank - 1, size, its), reader
+
+    def dataset(self, layout: _Layout, entries: _Entries, near: bytes) -> Dataset:
+        """The dataset of these chunks, whose size some bytes may tell."""
+        *dims, item = layout.dims
+        chunks = [chunk for _, chunk in entries]
+        if len(dims) < 2:
+            return Dataset(chunks, [], layout.size)
+        self._budget.spend(len(entries) // 8)
+        counts = counts_near(near, dims, self._length)
+        return Dataset(chunks, list(beside(entries, dims, counts)), dims[-1] * item)
 
     # ---- the indexes
 
