@@ -33,9 +33,10 @@ _BITS = 128
 
 def substitute_for(it: Any) -> Optional[Substitute]:
     """The substitute for what a name of a package means, if it has one, or for an enum."""
+    function = _of_numpy.function_of(it)  # (which has a module since NumPy 2.2)
     module = getattr(it, "__module__", None)
-    if type(module) is not str:
-        return _of_numpy.function_of(it)
+    if function is not None or type(module) is not str:
+        return function
     if isinstance(it, enum.EnumMeta):
         return _members(it)
     package = module.partition(".")[0]

@@ -80,8 +80,9 @@ class Rows(unittest.TestCase):
             elif answer == "enum":
                 self.assertTrue(issubclass(type(it), (enum.Enum, enum.EnumMeta)), pair)
             elif answer == "its package's":
-                is_judged = substitute_of(pair) is not None or not callable(it)
-                self.assertTrue(is_judged or issubclass(it, BaseException), pair)
+                is_error = isinstance(it, type) and issubclass(it, BaseException)
+                self.assertTrue(
+                    is_error or not callable(it) or substitute_of(pair) is not None, pair)
 
     def test_every_danger_has_one(self):
         for name, row in dangers.known().rows.items():
