@@ -294,8 +294,8 @@ class Signatures(unittest.TestCase):
                 guard = Guard(lists.CELERY, fix_imports=True)
                 self.assertRaises(Misused, guard.loads, data[:-1] + b"K\1\x85R.")
                 self.assertEqual(self.ran, [])
-                loaded = guard.loads(data)
-                self.assertEqual((loaded, type(loaded)), (made, type(made)))
+                loaded, plain = guard.loads(data), pickle.loads(data)
+                self.assertEqual((loaded, type(loaded)), (plain, type(made)))
         pickle.loads(pickle.dumps(one, 2)[:-1] + b"K\1\x85R.")  # (the control)
         self.assertEqual(self.ran, [(1, 2)])
 

@@ -243,14 +243,15 @@ class Places(unittest.TestCase):
     def test_urls(self):
         memory = importlib.import_module("fsspec").filesystem("memory")
         self.addCleanup(memory.store.clear)
-        memory.pipe("/c/__0_0.distcp", zipped(("archive/data.pkl", b"N.")))
+        url = "memory://c/__0_0.distcp"
+        memory.pipe(url, zipped(("archive/data.pkl", b"N.")))
         process = isolated.Isolated(Question(ALLOW))
         self.addCleanup(process.end)
         for offset, is_evil in ((b"K\0", False), (b"K\7", True)):
-            size = len(memory.cat("/c/__0_0.distcp")).to_bytes(1, "little")
+            size = len(memory.cat(url)).to_bytes(1, "little")
             record = RECORD + b")\x81" + state(offset=offset, length=b"K" + size) + b"b."
-            memory.pipe("/c/.metadata", record)
-            (file,) = Files(["memory://c/__0_0.distcp"])
+            memory.pipe("memory://c/.metadata", record)
+            (file,) = Files([url])
             for found in (scan.scan_file(file, Question(ALLOW)), process.scan(file)):
                 self.assertEqual(any(it.is_finding for it in found), is_evil, found)
 
