@@ -1,10 +1,15 @@
 /* What is told of a pickle, once its instructions were followed. */
 #include "uses.h"
 
-static void freed(PyObject *capsule) {
-    struct kept *kept = PyCapsule_GetPointer(capsule, NULL);
+static void free_kept(struct kept *kept) {
     PyMem_Free(kept->memo);
     PyMem_Free(kept->dicts);
+    Py_XDECREF(kept->far);
+}
+
+static void freed(PyObject *capsule) {
+    struct kept *kept = PyCapsule_GetPointer(capsule, NULL);
+    free_kept(kept);
     PyMem_Free(kept);
 }
 
@@ -21,14 +26,19 @@ static int judged_in(const struct uses *u, int is) {
     return is != DONE || u->is_named ? NAMES : u->changes.is_more ? OBJECTS : NOTHING;
 }
 
-/* Follows a pickle, and returns what is told of it, as `told_of` does if names may be real. */
-static PyObject *told(struct uses *u, PyObject *data, size_t start, int *what) {
-    PyObject *pieces = NULL;
+/* Follows the pickle at an offset. */
+static int follow(struct uses *u, PyObject *data, size_t start) {
     u->bytes = (const uint8_t *)PyBytes_AsString(data);
     u->length = (size_t)PyBytes_Size(data);
     u->start = start > u->length ? u->length : start;
     u->next = u->changes.last = u->start;
-    int is = followed_all(u);
+    return followed_all(u);
+}
+
+/* Follows a pickle, and returns what is told of it, as `told_of` does if names may be real. */
+static PyObject *told(struct uses *u, PyObject *data, size_t start, int *what) {
+    PyObject *pieces = NULL;
+    int is = follow(u, data, start);
     *what = judged_in(u, is);
     if (is != FAILED && *what == NOTHING && u->are_real)
         return Py_BuildValue("");
@@ -69,15 +79,47 @@ PyObject *uses(PyObject *Py_UNUSED(module), PyObject *args) {
     return made;
 }
 
+/* (Roles are written before they are read.) */
+static void begin(struct kept *kept) {
+    kept->memo = kept->dicts = NULL;
+    kept->far = NULL;
+    kept->numbers = kept->entries = kept->calls = kept->count = kept->room = 0;
+}
+
 PyObject *told_of(PyObject *data, PyObject *number_of, PyObject *numbers, int *what) {
-    struct kept kept; /* (roles are written before they are read) */
-    kept.memo = kept.dicts = NULL;
-    kept.numbers = kept.entries = kept.calls = kept.count = kept.room = 0;
+    struct kept kept;
     struct uses u = {.kept = &kept, .fault = ABSENT, .number_of = number_of, .numbers = numbers,
                      .are_real = 1};
+    begin(&kept);
     PyObject *made = told(&u, data, 0, what);
     free_uses(&u);
-    PyMem_Free(kept.memo);
-    PyMem_Free(kept.dicts);
+    free_kept(&kept);
     return made;
+}
+
+PyObject *unjudged(PyObject *Py_UNUSED(module), PyObject *args) {
+    PyObject *values, *number_of, *numbers;
+    int takes_any, is_judging, is = DONE, what = NOTHING;
+    Py_ssize_t first, next, size;
+    if (!PyArg_ParseTuple(args, "O!nOO!pp", &PyList_Type, &values, &first, &number_of,
+                          &PyDict_Type, &numbers, &takes_any, &is_judging))
+        return NULL;
+    char *front = "", *bytes;
+    for (next = first; what == NOTHING && next < PyList_Size(values); next++) {
+        struct kept kept;
+        struct uses u = {.kept = &kept, .fault = ABSENT, .number_of = number_of,
+                         .numbers = numbers, .takes_any = takes_any};
+        PyObject *data = PyList_GetItem(values, next);
+        if (data == NULL || PyBytes_AsStringAndSize(data, &bytes, &size) < 0)
+            return NULL;
+        front = next == first ? bytes : front;
+        if (size < 2 || memcmp(bytes, front, 2) != 0)
+            break;
+        begin(&kept);
+        is = follow(&u, data, 0);
+        what = is_judging ? judged_in(&u, is) : is != DONE;
+        free_uses(&u);
+        free_kept(&kept);
+    }
+    return is != FAILED ? PyLong_FromSsize_t(next - (what != NOTHING)) : NULL;
 }

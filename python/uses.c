@@ -250,9 +250,9 @@ static int share(struct uses *u, slot s) {
 
 static int get(struct uses *u) {
     uint64_t number;
-    if (!parse_number(u->bytes + u->at, u->next - u->at, &number) || number >= u->kept->numbers)
+    if (!parse_number(u->bytes + u->at, u->next - u->at, &number))
         return LOST;
-    slot s = u->kept->memo[number];
+    slot s = kept_under(u->kept, number);
     if (kind_of(s) == ABSENT || share(u, s) != DONE)
         return LOST;
     return push(u, kind_of(s) == NAME ? SLOT(NAME, name_of(s), u->at) : s);
@@ -268,23 +268,10 @@ static int put(struct uses *u, size_t last) {
         return LOST;
     if (number > u->length + SPARE || !are_there(u, 1))
         return LOST;
-    if (number >= kept->numbers) {
-        size_t size = number < 2 * kept->numbers ? 2 * kept->numbers : (size_t)number + 16;
-        slot *more = PyMem_Realloc(kept->memo, size * sizeof *more);
-        if (more == NULL) {
-            PyErr_NoMemory();
-            return FAILED;
-        }
-        memset(more + kept->numbers, 0, (size - kept->numbers) * sizeof *more);
-        kept->memo = more;
-        kept->numbers = size;
-    }
     slot *top = u->stack + u->size - 1;
     if (kind_of(*top) == NAME && place_of(*top) != last)
         *top |= MASK(1);
-    kept->entries += kind_of(kept->memo[number]) == ABSENT;
-    kept->memo[number] = *top;
-    return DONE;
+    return keep_under(kept, number, *top);
 }
 
 /* Follows an instruction that moves objects, or pushes a name. */

@@ -34,9 +34,11 @@ enum { BECOMES_REAL = 1, IS_PASSED = 2, WRAPS = 4, IS_JUDGED = 8, TAKES = 4 };
 enum { OF_NONE = 1 << 12, OF_ONE = 2 << 12, OF_TEXT = 4 << 12, OF_TEXTS = 8 << 12,
        NEW_OF_NONE = 16 << 12, IS_FREE = 31 << 12, ANSWERS = 32 << 12 };
 
-/* What the pickles of one reader have in common. */
+/* What the pickles of one reader have in common. The memo has `numbers` slots. What is kept under a
+   far greater number is in a dict, because room for all that are smaller would take too long. */
 struct kept {
     slot *memo, *dicts; /* of each dict the class that it has as a value; OTHER if it is shared */
+    PyObject *far;
     size_t numbers, entries, calls; /* `calls` of all pickles before this one */
     size_t count, room;             /* of dicts, and for them */
     uint32_t roles[MOST];
@@ -102,6 +104,10 @@ static inline int push(struct uses *u, slot s) {
 /* Follows usual instructions from a place on, but not the last of the pickle, as long as there is
    room for what they push. Returns where they end. `last`: the last one that isn't a PUT. */
 size_t usual_run(struct uses *u, size_t at, size_t *last);
+
+/* What the memo has under a number, and puts an object there. */
+slot kept_under(const struct kept *kept, uint64_t number);
+int keep_under(struct kept *kept, uint64_t number, slot s);
 
 /* Pushes what is imported by the names that two instructions push, or one. */
 int imported(struct uses *u, size_t module, size_t name);

@@ -203,22 +203,3 @@ PyObject *respelled(
         PyErr_SetString(PyExc_ValueError, "the places of real objects don't ascend in the pickle");
     return NULL;
 }
-
-PyObject *walked(PyObject *Py_UNUSED(module), PyObject *args) {
-    PyObject *data;
-    Py_ssize_t start;
-    if (!PyArg_ParseTuple(args, "Sn", &data, &start))
-        return NULL;
-    const uint8_t *bytes = (const uint8_t *)PyBytes_AsString(data);
-    size_t length = (size_t)PyBytes_Size(data), at = (size_t)start, taken = 1;
-    int is_stopped = 0;
-    if (start < 0 || at > length) {
-        PyErr_SetString(PyExc_ValueError, "the start lies outside of the data");
-        return NULL;
-    }
-    while (!is_stopped && at < length && (taken = length_of(bytes + at, length - at)) > 0) {
-        is_stopped = bytes[at] == '.';
-        at += taken;
-    }
-    return Py_BuildValue("nN", (Py_ssize_t)at, PyBool_FromLong(is_stopped));
-}

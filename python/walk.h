@@ -16,9 +16,18 @@ static inline void *zeros(size_t size) {
     return made != NULL ? memset(made, 0, size) : NULL;
 }
 
-/* Takes bytes and the offset of an instruction. Returns where the whole instructions from there on
-   end, at the latest after STOP, and whether the last is STOP. */
+/* Takes bytes, the offset of an instruction, and how many pickles follow one another from there
+   on, by default one. Returns where their whole instructions end, at the latest after the last
+   STOP, and whether the last is STOP. */
 PyObject *walked(PyObject *module, PyObject *args);
+
+/* How many of the first items of a list are bytes whose instructions end with the only STOP. */
+PyObject *whole(PyObject *module, PyObject *values);
+
+/* Takes bytes, a list of places in them, which ascend, where to begin, the most bytes of a value,
+   and how many to walk through for what isn't one. Returns the begin and end of each value with
+   PROTO of protocol 2 to 5 and STOP, in front of one another. */
+PyObject *wholes(PyObject *module, PyObject *args);
 
 /* Whether one of the texts in a tuple, bytes that aren't empty, stands in the bytes. */
 PyObject *holds(PyObject *module, PyObject *args);
@@ -49,6 +58,13 @@ PyObject *followed(PyObject *module, PyObject *args);
    pickle. */
 PyObject *begin_uses(PyObject *module, PyObject *args);
 PyObject *uses(PyObject *module, PyObject *args);
+
+/* Takes a list of pickles, an index, what `uses` takes as a function, a dict that remembers what
+   that says, whether BUILD may take what a pickle hasn't made, and whether anything is judged.
+   Returns the index of the first pickle from there on in which a reader of it alone has something
+   to judge, or, if it judges nothing, which isn't followed up to STOP; or which begins with another
+   protocol. */
+PyObject *unjudged(PyObject *module, PyObject *args);
 
 /* What a reader has to judge: nothing, objects, or what names stand for. */
 enum { NOTHING, OBJECTS, NAMES };

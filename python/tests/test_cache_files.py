@@ -14,7 +14,7 @@ import zlib
 
 from common import needs
 from storklocker import AllowList
-from storklocker.scanning import readings
+from storklocker.scanning import lenient, readings, spelled
 from test_readings import EVIL, RUNS, reports
 
 
@@ -121,6 +121,20 @@ class CacheFiles(unittest.TestCase):
             found = reports(data, AllowList([]))
             self.assertFalse(any(it.is_finding for it in found), data)
             self.assertNotIn("cachelib", {it.kind for it in found})
+
+    def test_a_line_that_is_not_read_to_its_end(self):
+        """A NUL ends the name of a module, which only one of Python itself can have."""
+        zeros = bytes(1 << 18) + b"a"
+        for front, is_found, is_told in (
+            (b"m0.pickle\0", lenient.is_found_here, False),
+            (b"m0.pickle\0", lambda word: True, True),  # the control
+            (b"m0.pios\0", lenient.is_found_here, True),
+        ):
+            with unittest.mock.patch.object(spelled, "_LINE", 1 << 10), unittest.mock.patch.object(
+                lenient, "is_found_here", is_found
+            ):
+                found = reports(front + zeros, AllowList([]))
+            self.assertEqual([it.kind for it in found] == ["cachelib"], is_told, found)
 
 
 class Soon(unittest.TestCase):

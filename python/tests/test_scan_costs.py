@@ -2,6 +2,7 @@
 
 import bz2
 import gzip
+import io
 import json
 import lzma
 import pathlib
@@ -12,9 +13,13 @@ import tempfile
 import time
 import unittest
 import zlib
+from unittest import mock
 
 import storklocker
 from common import needs
+from storklocker import AllowList, check_row
+from storklocker.scanning import dangers, rows
+from storklocker.scanning.judging import Question, reports_of
 from test_readings import HDF5, header, npy, tar, with_record
 
 DEFLATE = b"\x0b\0\x18\0\0\0\0\0\1\1\0\0\0\0\0\0\1\0\0\0\1\0\1\0\6\0\0\0\0\0\0\0"
@@ -84,6 +89,10 @@ class Cost(unittest.TestCase):
             "empty": PACKED + zlib.compress(b"") * 120_000,
             "chunk": PACKED + zlib.compress(bytes(range(256)) * 400_000, 9),
             "endless": tar(header(b"a", -512), b"") * 2,
+            "memo": b"".join(
+                b"\x80\x04ca\nb\nr\0\0\x0f\0J%b\x86." % struct.pack("<I", number)
+                for number in range(48_000)
+            ),
         }
         for name, data in made.items():
             self.assertLess(len(data), 1_100_000, name)
@@ -91,6 +100,48 @@ class Cost(unittest.TestCase):
             self.assertLess(seconds, SECONDS, name)
             self.assertLess(peak, 256, name)
             self.assertLess(size, 1_000_000, name)
+
+
+class Steps(unittest.TestCase):
+    """What is done once for a file, and not for each of its pickles or names."""
+
+    def calls(self, module, name, data, allow=None):
+        """How often a scan of these bytes calls a function of a module, and its reports."""
+        seen, real = [], getattr(module, name)
+        with mock.patch.object(module, name, lambda *given: seen.append(given) or real(*given)):
+            found = list(reports_of("x", io.BytesIO(data), Question(allow)))
+        return len(seen), found
+
+    def test_modules_are_found_in_lists_of_folders(self):
+        data = b"".join(b"cm%d\nx\n0" % number for number in range(9_000)) + b"\xff"
+        dangers.is_found_here.cache_clear()
+        calls, _ = self.calls(dangers.PathFinder, "find_spec", data)
+        self.assertLess(calls, 10)
+        dangers.is_found_here.cache_clear()
+        with mock.patch.object(dangers, "_packages_in", lambda path: None):  # the control
+            calls, _ = self.calls(dangers.PathFinder, "find_spec", data)
+        self.assertGreaterEqual(calls, 9_000)
+
+    def test_a_row_with_another_end(self):
+        """As far as nothing is new it is taken by one call, also if that doesn't get to its end."""
+        for end in (b"\xff", b"(", b"cos\nsystem\n.", b"N.(", b"\x80\x04cm\nx\n." + b"N." * 9_000):
+            data = b"\x80\x04N." * 120_000 + end
+            calls, found = self.calls(rows, "imports_within", data)
+            self.assertLess(calls, 9_000)
+            with mock.patch.object(rows, "_ONE_BY_ONE", 1 << 40):
+                few = b"\x80\x04N." * 3_000 + end
+                calls, others = self.calls(rows, "imports_within", few)
+            self.assertGreaterEqual(calls, 3_000)  # the control
+            found, others = ([(it.status, it.imports) for it in those] for those in (found, others))
+            self.assertEqual(found, others)
+
+    def test_a_long_row_fills_the_memo_of_one_unpickler(self):
+        """It has more entries than a guard permits: no other Unpickler stops there."""
+        listed = AllowList([("datetime", "datetime")])
+        data = (b"\x80\x04cdatetime\ndatetime\n" + b"\x94" * 11 + b".") * 100_000
+        (report,) = reports_of("x", io.BytesIO(data), Question(listed))
+        self.assertEqual(report.status, "accepted", report.why)
+        self.assertFalse(check_row(data, listed, one_unpickler=True))
 
 
 if __name__ == "__main__":

@@ -13,10 +13,9 @@ from typing import (
     TYPE_CHECKING, Deque, Dict, Iterable, Iterator, List, Optional, Sequence, Set, Tuple
 )
 
-from .._storklocker import walked
+from .._storklocker import wholes
 from .budget import Budget
 from .dangers import is_harmful, is_suspect, suspect_heads
-from .rows import CLAIM
 from .source import Source
 from .trails import Trails, texts_in
 from .values import Values
@@ -62,10 +61,8 @@ _SEARCHED_AT = 16
 """For so many bytes in one step the patterns are looked for."""
 _STEP = 1 << 16
 """So many places of a block are its own: the bytes behind them show what begins there."""
-_WALKED, _LEAST = 1 << 18, 16
-"""So many bytes of a block are walked through for what isn't a whole value, each for this many at
-the least.
-"""
+_WALKED = 1 << 18
+"""So many bytes of a block are walked through for what isn't a whole value."""
 _BEFORE, _AFTER = re.compile(rb"[\x8cX\x8dUT]"), 64
 """What pushes a text whose length may lie in the value behind it; and more bytes than such a
 length and the first word take.
@@ -102,7 +99,6 @@ class Block:
         self._taken: Set[int] = set()
         self._quiet = self._passed_over = 0
         self.shown, self.gap = data, len(data)
-        self._walks = _WALKED
 
     def look_ahead(self, known: Iterable[_Part]) -> None:
         """Finds the plain values, but for those in front of the end or in parts that are known."""
@@ -112,24 +108,17 @@ class Block:
 
     def _whole(self, known: Iterable[_Part], end: int) -> List[_Part]:
         """The small values with STOP, in front of one another."""
-        found: List[_Part] = []
-        parts, start = iter(known), self.start
-        part = next(parts, _NONE)
-        for at in self._begun:
-            while part[0] - start <= at:
-                end, part = max(end, part[1] - start), next(parts, _NONE)
-            if at < end or self.data[at] != _CODE:
-                continue
-            behind, is_whole = walked(self.data, at)
-            if is_whole and behind - at <= FIRST:
-                end = behind
-                if end <= part[0] - start and CLAIM.match(self.data, at):
-                    found.append((at, end))
-                continue
-            self._walks -= _LEAST + behind - at
-            if self._walks < 0:
-                break
-        return found
+        found = wholes(self.data, self._begun, max(end, 0), FIRST, _WALKED)
+        parts, free = iter(known), []
+        part = next(parts, None)
+        if part is None:
+            return found
+        for at, behind in found:
+            while part[1] - self.start <= at:
+                part = next(parts, _NONE)
+            if behind <= part[0] - self.start:
+                free.append((at, behind))
+        return free
 
     def _taken_of(self, those: Sequence[_Part]) -> int:
         count, imports = self.values.quiet_of([self.data[at:end] for at, end in those])

@@ -4,9 +4,9 @@ signature of Celery runs the task that a text names.
 
 from __future__ import annotations
 
-from typing import List, Sequence, Tuple
+from typing import Dict, List, Sequence, Tuple
 
-from .._storklocker import begin_uses, uses, walked
+from .._storklocker import begin_uses, unjudged, uses, walked
 from .._substitute import IS_WRAPPER, NUMBERED
 from .budget import LOOKED_AT
 from .joblib_cutting import WRAPPERS
@@ -36,11 +36,18 @@ class Look:
 
     def __init__(self) -> None:
         self._steps = 0
+        self._numbers: Dict[bytes, int] = {}
 
     def spent(self) -> int:
         """The steps that it has taken since it was last asked."""
         steps, self._steps = self._steps, 0
         return steps
+
+    def unfound(self, values: List[bytes], start: int) -> int:
+        """The index from which on there may be anything to be told of these pickles."""
+        found = unjudged(values, start, _role_of, self._numbers, True, False)
+        self._steps += found - start + sum(map(len, values[start:found])) // LOOKED_AT
+        return found
 
     def finds(self, data: bytes) -> bool:
         """Whether anything is to be told of a pickle."""

@@ -7,6 +7,7 @@ may be just as harmful, so it is a finding too.
 from __future__ import annotations
 
 import functools
+import os
 import re
 import sys
 from importlib.machinery import PathFinder
@@ -134,12 +135,25 @@ def may_be_imported(module: str, name: str) -> bool:
     return is_module(module) and (is_suspect(module) or is_found_here(module))
 
 
+@functools.lru_cache(maxsize=1)
+def _packages_in(path: Tuple[str, ...]) -> Optional[FrozenSet[str]]:
+    """What may be a package in these folders, in lower case; None if one is no folder."""
+    try:
+        names = [name for it in path if os.path.exists(it or ".") for name in os.listdir(it or ".")]
+    except OSError:
+        return None
+    return frozenset(name.partition(".")[0].lower() for name in names)
+
+
 @functools.lru_cache(maxsize=4096)
 def is_found_here(module: str) -> bool:
     """Whether this Python finds the package of a module, which isn't imported."""
     package = module.partition("\0")[0].partition(".")[0]
     if package in sys.builtin_module_names:
         return True
+    packages = _packages_in(tuple(sys.path))
+    if packages is not None and package.lower() not in packages:
+        return False  # (a hostile file has many names, and to look for each takes long)
     try:
         return PathFinder.find_spec(package) is not None
     except (ImportError, OSError, ValueError):

@@ -20,7 +20,7 @@ from .._answers import Misused
 from .._lists import AllowList, has_substitutes
 from .._names import are_old, renamed
 from .._objects import found
-from .._storklocker import begin_uses, walked
+from .._storklocker import begin_uses, unjudged, walked
 from .._items import SHOWING
 from .._of_packages import PACKAGES
 from .._states import HAS_ITEMS, HAS_STATE
@@ -124,12 +124,23 @@ class Look:
         """
         return self.of(data).fate is not Fate.LOADED
 
-    def of(self, data: bytes) -> Foreseen:
-        """What a guard does with a pickle."""
+    def unfound(self, values: List[bytes], start: int) -> int:
+        """The index from which on there may be anything to be told of these pickles."""
+        uses = self._uses_of(values[start])
+        found = unjudged(values, start, uses.number_of, uses.numbers, uses.takes_any, True)
+        self._steps += found - start + sum(map(len, values[start:found])) // LOOKED_AT
+        return found
+
+    def _uses_of(self, data: bytes) -> _ForeseenUses:
         is_old = are_old(data)
         uses = self._uses.get(is_old)
         if uses is None or uses.names > _MOST_NAMES:
             uses = self._uses[is_old] = _ForeseenUses(Foreseer(self._allow, is_old, "ASCII"))
+        return uses
+
+    def of(self, data: bytes) -> Foreseen:
+        """What a guard does with a pickle."""
+        uses = self._uses_of(data)
         uses.begin()
         self._steps += 1 + len(data) // LOOKED_AT
         try:
@@ -168,12 +179,14 @@ class _Late(Exception):
 class _ForeseenUses(Uses):
     """Follows pickles, each by itself, without importing what they name."""
 
-    __slots__ = ("_reader", "_roles")
+    __slots__ = ("_reader", "_roles", "numbers")
 
     def __init__(self, reader: Foreseer) -> None:
         super().__init__(reader.own, WRAPPERS, meant(reader.allow), is_shared=False)
         self._reader, self.takes_any = reader, reader.is_any
         self._roles: Dict[Tuple[bytes, bytes], int] = {}
+        self.numbers: Dict[bytes, int] = {}
+        """What is known of names, by the instructions that push them."""
 
     @property
     def names(self) -> int:
@@ -188,6 +201,10 @@ class _ForeseenUses(Uses):
     def begin(self) -> None:
         """Forgets what the memo of the last pickle has."""
         self._kept = begin_uses()
+
+    def number_of(self, module: bytes, name: bytes) -> int:
+        """The number and the role of what an import asks for, as for any pickles."""
+        return self._number_of(module, name)
 
     def _number_of(self, module: bytes, name: bytes) -> int:
         found = self._roles.get((module, name))

@@ -13,6 +13,7 @@ import functools
 import pickletools
 from typing import Any, Callable, Dict, List, NamedTuple, Optional, Tuple
 
+from .dangers import is_found_here
 from .source import Source
 from .spelled import (
     LENGTHS, Lost, Spelled, Stop, decoded, encoded, is_module, is_number, number_of, unescaped
@@ -157,7 +158,14 @@ class Walk(Spelled):
 
     def by_lines(self, coding: str = "utf-8") -> None:
         """GLOBAL. Either line may be the last one."""
-        module, name = self.line(True), self.line(True)
+        begin = self.at
+        try:
+            module, name = self.line(True), self.line(True)
+        except Lost:
+            word, nul, _ = self.source.read(begin, _LONGEST).partition(b"\0")
+            if nul and not is_found_here(word.decode("utf-8", "replace")):
+                raise Stop from None  # (no other module is found by what is in front of a NUL)
+            raise
         for text in (module, name):
             decoded(text, coding)
         self._import(module, name)

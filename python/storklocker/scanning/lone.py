@@ -4,12 +4,13 @@ from __future__ import annotations
 
 import functools
 import io
+import itertools
 from typing import TYPE_CHECKING, List, NamedTuple, Optional, Set, Tuple, Union
 
 from .._checking import check_row
 from .._lists import AllowList, settings_of, within
 from .._pairs import records
-from .._storklocker import imports, walked
+from .._storklocker import imports, whole
 from .costs import with_costs
 from .dangers import import_findings
 from .joblib_files import WRAPPER_NAMES
@@ -89,7 +90,8 @@ class Lone:
         more is to be told than that it imports what is listed, as `told_of_value` finds it, by few
         calls; and how many imports these make.
         """
-        data, ends = b"".join(values), [] if self._is_limited else _ends_of(values)
+        count = 0 if self._is_limited else whole(values)
+        data, ends = b"".join(values), [*itertools.accumulate(map(len, values[:count]))]
         has_looked = not len(listed)
         while ends:
             found = check_row(data[: ends[-1]], listed, limits=self._limits)
@@ -106,16 +108,18 @@ class Lone:
     def _first_found(self, values: List[bytes]) -> int:
         """The index of the first of which its look finds anything; their number if there is none.
         """
-        finds, unfound = self._looked().finds, self._unfound
+        look, unfound, number = self._looked(), self._unfound, 0
         if len(unfound) > _KEPT:
             unfound.clear()
-        for number, data in enumerate(values):
-            # (pages have copies of what they had)
-            if hash(data) not in unfound:
-                if finds(data):
+        while number < len(values):
+            number = look.unfound(values, number)
+            for data in values[number : number + 1]:
+                # (pages have copies of what they had)
+                if hash(data) not in unfound and look.finds(data):
                     return number
                 unfound.add(hash(data))
-        return len(values)
+                number += 1
+        return number
 
     def is_quiet(self, told: Told, data: bytes) -> bool:
         """Whether nothing in a pickle of which this is told is known to do harm, and a guard with
@@ -160,16 +164,3 @@ class Lone:
         pairs = tuple(map(pair_of, names))
         return Told(pairs, sorted_findings(import_findings(pairs, self.allow)), len(made))
 
-
-def _ends_of(values: List[bytes]) -> List[int]:
-    """Where the first of these values end, one behind another, which are each as long as the pickle
-    at its front.
-    """
-    data, ends, at = b"".join(values), [], 0  # type: bytes, List[int], int
-    for value in values:
-        end, is_whole = walked(data, at)
-        at += len(value)
-        if end != at or not is_whole:
-            break
-        ends.append(at)
-    return ends

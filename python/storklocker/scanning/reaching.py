@@ -25,6 +25,8 @@ READERS_STOP = frozenset(
 mark, and a line without a line feed.
 """
 
+_EACH = 2
+"""The steps of an instruction that is followed."""
 
 ALL_STOP = (Reason.UnknownOpcode, Reason.UnsupportedProtocol)
 """Those at which there are no exceptions."""
@@ -39,12 +41,12 @@ def reached(
     if at == begin and reason in ALL_STOP:
         return Followed({}, False, at, True, 0)
     found = followed_from(source, begin)
-    budget.spend(found.steps + (found.end - begin) // LOOKED_AT)
+    budget.spend(_EACH * found.steps + (found.end - begin) // LOOKED_AT)
     if found.is_complete or found.steps <= STEPS or found.end > at:
         return found
     code = source.read(at, 1)
     if reason in READERS_STOP and code not in (b"c", b"i"):
         return found._replace(is_complete=reason is not Reason.Truncated)
     behind = followed_from(source, at, True)
-    budget.spend(behind.steps + (behind.end - at) // LOOKED_AT)
+    budget.spend(_EACH * behind.steps + (behind.end - at) // LOOKED_AT)
     return behind._replace(names={**found.names, **behind.names})

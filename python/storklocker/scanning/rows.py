@@ -7,11 +7,12 @@ import itertools
 import re
 from typing import TYPE_CHECKING, Dict, Iterable, Optional, Tuple
 
-from .._answers import Verdict
+from .._answers import RowVerdict, Verdict
 from .._checking import check, check_row
 from .._limits import without_costs
 from .._lists import AllowList, settings_of
 from .._reasons import Reason
+from .._storklocker import walked
 from .budget import LOOKED_AT, STEP, Budget, TooMuch
 from .costs import COUNTED, KINDS, LIMITS, Exceeded, exceeded, exceeded_in_row, with_costs
 from .dangers import may_be_imported
@@ -107,7 +108,7 @@ class Row:
         if self.taken and self.taken >= self.source.size:
             return False
         if self.pickles == self._try_at and not self._piece.most:
-            self._try_at *= 2
+            self._try_at *= 2  # (a try takes as long as there are bytes left)
             return not self._are_all_accepted()
         return True
 
@@ -194,7 +195,7 @@ class Row:
         is_refused = self.refusal is not None
         if self.pickles + is_refused > 1 and (self.names or is_refused):
             end = self.source.size if is_refused else self.taken
-            limits = self.limits(end)
+            limits = limits_under(None, end)  # (other Unpicklers have no limits)
             self.kept = kept_in(self.source, end, self.names, limits, self._budget)
             self.names.update(dict.fromkeys(self.kept.names))
 
@@ -314,7 +315,8 @@ class Row:
 
     def _are_all_accepted(self) -> bool:
         """Whether all pickles that are left import nothing new and cost little, by one call. So a
-        long row takes little time; and if something new is in it, that is looked for one by one.
+        long row takes little time. Of another one those in front of the first that isn't so are
+        taken, and that is looked at by itself.
         """
         self._find_costly()
         left = self.source.size - self.taken
@@ -322,22 +324,30 @@ class Row:
             return False
         self._budget.spend(STEP + left // LOOKED_AT)
         data = self.source.read(self.taken, left)
-        names = [(module, name) for module, name in self.names if module is not None and name]
-        under = NOTHING if self._allow is None else self._allow
-        allow = AllowList._of(names, under.limits, under.build)
-        limits, costs = self.limits(left), self.costly is None
-        asked = with_costs(limits) if costs else limits
-        verdict = check_row(data, allow, limits=asked, build="made" if costs else "any")
-        if verdict.reason in KINDS and costs:
-            self._find_costly_in(data, names, self.taken, self.pickles)
-            verdict = check_row(data, allow, limits=limits, build="any")
+        verdict = self._checked(data)
+        if not verdict and verdict.pickles > _ONE_BY_ONE:
+            verdict = self._checked(data[: walked(data, 0, verdict.pickles)[0]])
         if not verdict:
             return False
         self.pickles += verdict.pickles
         self.taken += verdict.taken
         self.imports += verdict.imports
         self._uncosted = (self.taken, self.pickles)
-        return True
+        self._try_at = max(self._try_at, self.pickles + _ONE_BY_ONE)
+        return verdict.taken == left
+
+    def _checked(self, data: bytes) -> RowVerdict:
+        """The answer to pickles that may import what was imported, and may cost little."""
+        names = [(module, name) for module, name in self.names if module is not None and name]
+        under = NOTHING if self._allow is None else self._allow
+        allow = AllowList._of(names, under.limits, under.build)
+        limits, costs = self.limits(len(data)), self.costly is None
+        asked = with_costs(limits) if costs else limits
+        verdict = check_row(data, allow, limits=asked, build="made" if costs else "any")
+        if verdict.reason in KINDS and costs:
+            self._find_costly_in(data, names, self.taken, self.pickles)
+            verdict = check_row(data, allow, limits=limits, build="any")
+        return verdict
 
 
 def may_be_listed(names: "Names") -> bool:

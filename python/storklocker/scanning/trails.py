@@ -38,7 +38,8 @@ _LONGEST = 1 << 10
 """The most bytes of a name with its escapes."""
 _MOST = 100
 """The most texts of a trail that are told apart."""
-_TICK = 1 << 8
+_TICK, _BEGUN = 1 << 8, 4
+"""After so many instructions the steps are counted; and those of the beginning of a trail."""
 _STOPPED, _HARM = -1, -2
 """Where a trail ends: where every reader stops, and at an import that may be harmful."""
 
@@ -96,7 +97,8 @@ class Trail:
 
     def join(self, other: Trail) -> None:
         """Another trail leads here too."""
-        self.starts = sorted({*self.starts, *other.starts})[:_MOST]
+        if len(self.starts) < _MOST or other.starts[0] < self.starts[-1]:
+            self.starts = sorted({*self.starts, *other.starts})[:_MOST]
         if len(self.seen) <= _MOST:
             self.seen |= other.seen
         if self.texts != other.texts:
@@ -126,6 +128,7 @@ class Trails:
     def begin(self, at: int) -> None:
         """Begins a trail at a text, if something harmful can be imported by it."""
         text, end = self._text(at)
+        self._budget.spend(_BEGUN)
         if text is not None and end and is_suspect(text):
             self._put(at, Trail(at, text))
 

@@ -108,11 +108,13 @@ _OTHERS: Tuple[Tuple[FrozenSet[bytes], int, _Read], ...] = (
     (frozenset(b"<~" + it for it in _heads(_DIGITS85, 85, 4, 2)), 4, _ascii85),
 )
 """Other ways in which all of a value may be spelled: its first letters, and what reads it."""
+_HEADS = frozenset(head[:2] for heads, _, _ in _OTHERS for head in heads)
 _ESCAPES: Tuple[Tuple[Pattern[bytes], _Read], ...] = (
     (re.compile(rb"[^=]{0,16}=(?:\r?\n)?[0-9A-Fa-f]{2}"), binascii.a2b_qp),
     (re.compile(rb"[^%]{0,16}%[0-9A-Fa-f]{2}"), urllib.parse.unquote_to_bytes),
 )
 """Ways in which some bytes are escaped: how the first are, and what reads them."""
+_ESCAPING = re.compile(rb".{0,16}?[=%]", re.DOTALL)
 _LONG = re.compile(rb"%b{16}" % _ANY)
 _SHORTEST = b"A" * 16
 _AS_LETTERS = bytes(_SHORTEST[0] if re.match(_ANY, bytes([it])) else 0 for it in range(256))
@@ -200,8 +202,11 @@ def of_others(data: bytes) -> Iterator[bytes]:
     or packed.
     """
     text = data.strip()
-    reads = [read for heads, count, read in _OTHERS if text[:count] in heads]
-    reads += [read for begun, read in _ESCAPES if begun.match(data)]
+    reads: List[_Read] = []  # (most values have none, which few looks show)
+    if text[:2] in _HEADS:
+        reads += [read for heads, count, read in _OTHERS if text[:count] in heads]
+    if _ESCAPING.match(data):
+        reads += [read for begun, read in _ESCAPES if begun.match(data)]
     for read in reads:
         try:
             made = read(text)

@@ -56,6 +56,14 @@ what is in front of it; and the greatest first byte.
 """
 _LZMA = 60
 """The steps of a try to unpack that: a decompressor is made."""
+_RAW = re.compile(
+    rb"[%b](?:[\x80-\xff].[\0-\x7f]|[\0-\x7f].[\x80-\xff])|[\x02\x03]|[\x6a\x6b][\0\x60]|[%b]"
+    % tuple(re.escape(bytes(it for it in range(256) if it & 6 == kind << 1)) for kind in (0, 2)),
+    re.DOTALL,
+)
+"""How deflate begins a pickle: with a block that isn't packed, whose length also stands there with
+other bits; one that is empty or has codes that are fixed; or one with codes of its own.
+"""
 _GOING_ON, _LINES = (b"", b"\r", b"\n"), re.compile(rb"[A-Za-z0-9+/_\r\n-]+={0,2}")
 """What is behind letters that may go on: the end of a block, or that of a line."""
 _TRIED, _LONGEST_RUN = 64, 1 << 20
@@ -218,6 +226,8 @@ def _deflated(front: bytes) -> Optional[_Stream]:
     """What unpacks a value that deflate has packed without a header; None if no pickle of protocol
     2 or later is packed so.
     """
+    if not _RAW.match(front):
+        return None
     try:
         made = zlib.decompressobj(-zlib.MAX_WBITS).decompress(front[:_TRIED], 2)
     except zlib.error:
