@@ -85,6 +85,7 @@ class Cost(unittest.TestCase):
             "words": HDF5 + (b"c" * 99 + b"\n") * 10_000, "lines": HDF5 + b"V" * 1_000_000,
             "modules": HDF5 + b"\x8c\x02os" * 250_000, "tails": HDF5 + b"\x8c\x02osV" * 190_000,
             "imports": HDF5 + b"\x8c\x02osN0\x93" * 140_000, "NULs": HDF5 + b"cos\0" * 250_000,
+            "pairs": HDF5 + b"ca\nb\n" * 200_000,
             "streams": PACKED + b"\x78\x9c" * 500_000,
             "empty": PACKED + zlib.compress(b"") * 120_000,
             "chunk": PACKED + zlib.compress(bytes(range(256)) * 400_000, 9),

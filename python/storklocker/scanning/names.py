@@ -82,6 +82,14 @@ def imports_within(data: bytes, allow: AllowList, limits: Limits = WIDE) -> Impo
     return Imports(verdict, dict.fromkeys(named_today(its, data)))
 
 
+def verdict_on(data: bytes) -> Verdict:
+    """The verdict on the pickle at the front, as `imports_within` finds it, which takes far longer
+    to list many imports.
+    """
+    settings = without_costs(settings_of(NOTHING, WIDE, "unknown"))
+    return _imports(data, NOTHING, settings, _FIRST)[0]
+
+
 def named_today(names: Iterable[Names], data: bytes) -> Iterable[Names]:
     """The imports of the pickle that begins the bytes, as Python 3 names them."""
     return map(_renamed, names) if are_old(data) else names

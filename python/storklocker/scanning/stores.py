@@ -24,7 +24,7 @@ from .blocks import (
 from .budget import LOOKED_AT, STEP, Budget
 from .dangers import may_be_imported, may_be_there
 from .marks import HDF5, LMDB
-from .names import NOTHING, imports_within
+from .names import NOTHING, imports_within, verdict_on
 from .reaching import ALL_STOP, reached
 from .readings import Found, Piece, Place, Reading, is_text
 from .source import BLOCK, Source, in_memory
@@ -198,8 +198,9 @@ def _is_found(source: Source, at: int, budget: Budget) -> bool:
     shown = shown_in(source.read(at, LONGEST), 0)
     if shown is None:
         return is_pickle(source, at, budget)
-    budget.spend(3 * STEP)  # (the search comes to other imports by themselves)
-    return is_harmful_pair(shown) or bool(imports_within(source.read(at, FIRST), NOTHING).verdict)
+    verdict = verdict_on(source.read(at, FIRST))
+    budget.spend(3 * STEP + max(verdict.taken, verdict.at) // LOOKED_AT)
+    return is_harmful_pair(shown) or bool(verdict)  # (other imports have places of their own)
 
 
 def is_pickle(source: Source, at: int, budget: Budget) -> bool:
