@@ -10,6 +10,7 @@ import threading
 import tokenize  # noqa: F401  # the first traceback imports it
 import traceback
 from pathlib import Path
+from urllib.parse import unquote
 
 import storklocker._reasons  # noqa: F401  # the first refusal imports it
 
@@ -22,7 +23,7 @@ RUN = {
     "os.system", "os.exec", "os.posix_spawn", "os.spawn", "os.startfile", "pty.spawn",
     "subprocess.Popen", "ctypes.dlopen", "os.link", "os.symlink",
 }
-WRITTEN = {"os.mkdir", "os.rename", "os.truncate", "sqlite3.connect"}
+WRITTEN = {"os.mkdir", "os.rename", "os.truncate"}
 COMPILERS = (
     "collections/__init__.py", "dataclasses.py", "attr/_make.py", "langhelpers.py", "six.py",
     "multiprocessing/managers.py",
@@ -105,7 +106,15 @@ def _is_foul(event, arguments):
     if event == "open":
         mode, flags = str(arguments[1] or ""), arguments[2] or 0
         return bool(set(mode) & set("wax+") or flags & WRITING) and _is_outside(arguments[0])
+    if event == "sqlite3.connect":
+        return _is_outside(_path_of(arguments[0]))
     return event in RUN or (event in WRITTEN and _is_outside(arguments[0]))
+
+
+def _path_of(database):
+    """The path of a database, also of a URI, by which `dbm` opens it since Python 3.13."""
+    is_uri = isinstance(database, str) and database.startswith("file:")
+    return unquote(database[len("file:"):].partition("?")[0]) if is_uri else database
 
 
 def _is_outside(path):

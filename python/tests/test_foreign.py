@@ -204,6 +204,8 @@ class Readers(unittest.TestCase):
 
     @needs("module:msgpack_numpy")
     def test_msgpack_numpy(self):
+        if not hasattr(importlib.import_module("msgpack_numpy"), "pickle"):
+            self.skipTest("this msgpack_numpy loads no pickles")
         data = pickle.dumps(Harm(self.touch))
         held = {b"nd": True, b"type": b"O", b"kind": b"O", b"shape": [1], b"data": data}
         (self.folder / "a.msgpack").write_bytes(importlib.import_module("msgpack").packb(held))

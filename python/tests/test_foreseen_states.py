@@ -90,12 +90,19 @@ def is_here(module):
     return True
 
 
+def has_hash():
+    """Whether Django's errors have a hash of their own, for which some are refused."""
+    from django.core.exceptions import ValidationError
+
+    return ValidationError.__hash__ is not BaseException.__hash__  # (since 3.2)
+
+
 class Hostile(unittest.TestCase):
     def test_what_a_guard_refuses_is_not_accepted(self):
         for what, (word, body) in PICKLES.items():
             data, allow = b"\x80\x04" + body + b".", getattr(lists, word)
             with self.subTest(what=what):
-                if is_here(PACKAGES.get(word, "io")):
+                if is_here(PACKAGES.get(word, "io")) and (what != "errors in errors" or has_hash()):
                     self.assertRaises(Misused, Guard(allow).loads, data)
                 if not (word == "SCIKIT_LEARN" and not is_here("numpy")):
                     self.assertIsNot(fate(data, allow), Fate.LOADED)
@@ -125,8 +132,10 @@ class Honest(unittest.TestCase):
             settings.configure()
         answered = HttpResponse("a")
         answered.set_cookie("a", "b")
-        for value in (answered, HttpResponseRedirect("/a"), SafeString("a"), QueryDict("a=b")):
+        for value in (answered, HttpResponseRedirect("/a"), QueryDict("a=b")):
             self.check(value, lists.DJANGO)
+        if SafeString.__name__ == "SafeString":  # (Django 2 has another name for it)
+            self.check(SafeString("a"), lists.DJANGO)
         self.check(ValidationError("a"), lists.DJANGO, Fate.UNDECIDED)
 
     @needs("module:celery")
