@@ -26,6 +26,9 @@ from walk import Module, Walk  # noqa: E402
 
 DISTRIBUTIONS = {"sklearn": "scikit-learn"}
 """The distributions of libraries that have another name."""
+CATALOGUED = {"django": (3, 2), "numpy": (1, 24), "pandas": (1, 5), "scipy": (1, 10),
+              "sklearn": (1, 2)}
+"""The versions that the catalogue was made with: others have other names and arguments."""
 STEPS = 3
 """The most calls from a callable to the dangerous name for which it is suspected."""
 
@@ -43,6 +46,12 @@ def version_of(library):
         return metadata.version(DISTRIBUTIONS.get(library, library))
     except metadata.PackageNotFoundError:
         return ""
+
+
+def is_catalogued(library):
+    """Whether a library has the version that the catalogue was made with."""
+    made = CATALOGUED.get(library)
+    return made is None or tuple(map(int, version_of(library).split(".")[:2])) == made
 
 
 def sources_of(library):

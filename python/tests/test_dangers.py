@@ -30,6 +30,13 @@ import walking
 print(*walking.section({{!r}}, walking.judged()), sep="\\n")
 """
 
+
+def is_otherwise(danger, word):
+    """Whether a library has another version, which takes other arguments than the example's."""
+    is_other = not walking.is_catalogued(danger[0].partition(".")[0])
+    return is_other and word.startswith(("TypeError: ", "AttributeError: "))
+
+
 ASKED = """
     uuid._get_command_stdout _osx_support._read_output distutils.spawn.spawn imaplib.IMAP4_stream
     io.open codecs.open pip.main bdb.Bdb.run pdb.run timeit.timeit code.interact runpy.run_path
@@ -117,8 +124,8 @@ class Table(unittest.TestCase):
         self.assertEqual(ran.returncode, 0, said)
         words = [json.loads(line) for line in said.splitlines() if line.startswith('"')]
         self.assertEqual(len(words), len(self.dangers), said)
-        told = zip(self.dangers, words)
-        self.assertEqual([it for it in told if it[1] not in ("harmed", "absent")], [])
+        told = [it for it in zip(self.dangers, words) if it[1] not in ("harmed", "absent")]
+        self.assertEqual([it for it in told if not is_otherwise(*it)], [])
         self.assertGreater(words.count("harmed"), 100)
 
     def test_a_pickle_of_each_danger_is_a_finding(self):

@@ -13,7 +13,7 @@ class Libraries(honest_runs.Comparing):
     def test_torch_and_pandas(self):
         self.compare("data_loader", "frames")
 
-    @common.needs("module:distributed")
+    @common.needs("module:distributed", "module:tornado")
     def test_a_refusal_in_a_client_of_dask(self):
         with tempfile.TemporaryDirectory() as folder:
             found = honest_runs.printed("without", folder, "dask_client")

@@ -9,6 +9,9 @@ import unittest
 
 from common import IMPORTED_FROM, PYTHON
 
+sys.path.append(str(PYTHON / "catalogue"))
+import walking  # noqa: E402
+
 MOST = 0.02
 """The share of honest pickles that may count."""
 LEAST = {"celery": 400, "django": 400, "numpy": 500, "pandas": 800, "scipy": 500, "sklearn": 1000,
@@ -52,6 +55,8 @@ class Honest(unittest.TestCase):
     def few_count(self, library):
         if importlib.util.find_spec(NEEDED.get(library, library)) is None:
             self.skipTest(f"there is no {library}")
+        if not walking.is_catalogued(library):
+            self.skipTest(f"{library} {walking.version_of(library)} has other names")
         rows = asked(library)
         calm = [list(filter(is_told, found)) for counts, _, found in rows if not counts]
         self.assertGreater(len(calm), LEAST[library])
