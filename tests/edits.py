@@ -3,7 +3,8 @@
 
 An edit names the function whose contract it breaks, and is tried by the proof of that function. The
 gate tries those in `crates/NAME/must-fail` each time, and a tenth of those in `crates/NAME/edits`,
-chosen by the digest of the sources.
+chosen by the digest of the sources. Those of bodies are tried together, since the proof of a
+function reads the contracts of those that it calls, and not their bodies.
 
     tests/edits.py                  checks that each edit can still be applied
     tests/edits.py try [NAME ..]    tries those in both folders of these crates, or of all of them
@@ -25,9 +26,10 @@ import signal
 import subprocess
 import sys
 import tempfile
-from typing import Dict, Iterator, List, NamedTuple, Sequence, Tuple
+from typing import Dict, Iterator, List, Sequence, Tuple
 
-ROOT = pathlib.Path(__file__).resolve().parent.parent
+from edit import ROOT, Edit, changed, edits_in, is_body
+
 MOST = 58
 SHARE = 10
 ACTIONS = ("check", "try", "prove", "gate")
@@ -37,54 +39,11 @@ CHECK = 5 << 30
 UNREAD = re.compile(r"(\./)?(src|specs)/\S+:\d+:\d+: error")
 REFUSAL = re.compile(r"(note: )?\S+:\d+:\d+: (error|.*not proved)")
 UNPROVED = re.compile(r"fn \S+: (?!proved|no holes)")
+# What it says of a function whose own proof it refuses. Of one that calls such a function it says
+# so, and that decides nothing.
+REFUSED = re.compile(r"fn (\S+): (?:not proved|no proof)(?!.*\bit calls )")
 # How `rt ci` says that a crate is done, in this run or in an earlier one.
 PROVED = re.compile(r"rt: \w+ (proved|is kept\b.*)")
-
-
-class Edit(NamedTuple):
-    crate: str
-    file: pathlib.Path
-    # The name of the function whose contract it breaks, or the end of it, as `rt check` prints it.
-    function: str
-    # The files that it changes, by their paths in the crate.
-    texts: Dict[str, str]
-    # Why it can't be applied, or nothing.
-    fault: str
-
-    def name(self) -> str:
-        return str(self.file.relative_to(ROOT))
-
-
-def read_edit(file: pathlib.Path) -> Edit:
-    crate, path, old, function, fault = file.parent.parent, "", "", "", ""
-    texts: Dict[str, str] = {}
-    changes = 0
-    for line in file.read_text(encoding="utf-8").splitlines():
-        kind, _, text = line.partition(" ")
-        if kind == "function:":
-            function = text
-        elif kind == "file:":
-            path = text.strip()
-            if path not in texts:
-                source = crate / path
-                texts[path] = source.read_text(encoding="utf-8") if source.is_file() else ""
-        elif kind == "old:":
-            old = text
-        elif kind == "new:" and path and old:
-            found = texts[path].count(old)
-            if found != 1:
-                fault = f"its text is {found} times in {path}, and not once: {old.strip()}"
-            texts[path] = texts[path].replace(old, text)
-            changes += old != text
-    if not changes:
-        fault = "it changes nothing"
-    elif not function:
-        fault = fault or "it names no function"
-    return Edit(crate.name, file, function, texts, fault)
-
-
-def edits_in(folder: str) -> List[Edit]:
-    return [read_edit(it) for it in sorted(ROOT.glob(f"crates/*/{folder}/*.edit"))]
 
 
 def check() -> int:
@@ -193,9 +152,51 @@ def try_edit(edit: Edit, words: Sequence[str], crate: pathlib.Path) -> Tuple[boo
     return False, "NOT REFUSED" if status == 0 else f"no verdict: {' '.join(lines[-3:])}"
 
 
+def together(edits: Sequence[Edit]) -> List[Edit]:
+    """Those of these edits of bodies that one check can try: of functions that are not the same."""
+    functions = {edit.function.rpartition("::")[2]: edit for edit in reversed(edits)}
+    return [edit for edit in edits if edit in functions.values()]
+
+
+def try_together(
+    edits: Sequence[Edit], words: Sequence[str], crate: pathlib.Path
+) -> Dict[str, str]:
+    """Tries edits of bodies by one check, and returns what the prover says of those it refuses."""
+    texts: Dict[str, List[str]] = {}
+    for edit in edits:
+        for path in edit.texts:
+            kept = (ROOT / "crates" / edit.crate / path).read_text(encoding="utf-8")
+            lines = texts.setdefault(path, kept.splitlines())
+            for number, line in changed(edit, path).items():
+                lines[number] = line
+    before = {path: (crate / path).read_text(encoding="utf-8") for path in texts}
+    for path, lines in texts.items():
+        (crate / path).write_text("\n".join(lines) + "\n", encoding="utf-8")
+    only = [word for edit in edits for word in ("--only", edit.function)]
+    status, said = checked([*words, *only], crate)
+    for path, text in before.items():
+        (crate / path).write_text(text, encoding="utf-8")
+    refused = [it[1] for it in map(REFUSED.match, said) if it]
+    if status != 1 or any(UNREAD.match(line) for line in said):
+        return {}
+    return {
+        edit.name(): f"refused with {len(edits) - 1} others: {first_of(edit, said)}"
+        for edit in edits
+        if any(f"::{it}".endswith(f"::{edit.function}") for it in refused)
+    }
+
+
+def first_of(edit: Edit, said: Sequence[str]) -> str:
+    """The first refusal that names the file of an edit, or the proofs of its function."""
+    places = (*edit.texts, f"/{edit.function.rpartition('::')[2]}/")
+    lines = (line for line in said if REFUSAL.match(line))
+    return next((line for line in lines if any(it in line for it in places)), "")
+
+
 def try_in_turn(edits: Sequence[Edit]) -> List[Tuple[bool, str]]:
-    """Tries the edits of a crate, each over what the checks of those before it proved. Returns
-    whether each is refused, and its name with what the prover says of it.
+    """Tries the edits of a crate, each over what the checks of those before it proved: together
+    those that can be, and alone those that this doesn't refuse. Returns whether each is refused,
+    and its name with what the prover says of it.
     """
     name = edits[0].crate
     words = words_of(name)
@@ -204,11 +205,20 @@ def try_in_turn(edits: Sequence[Edit]) -> List[Tuple[bool, str]]:
         unread = shutil.ignore_patterns("out", "must-fail", "edits")
         shutil.copytree(ROOT / "crates" / name, crate, ignore=unread)
         words += ["--incremental", str(pathlib.Path(room) / "kept")]
-        tried = []
+        said: Dict[str, str] = {}
+        bodies = [edit for edit in edits if is_body(edit)]
+        while len(bodies) > 1:
+            found = try_together(together(bodies), words, crate)
+            for name, text in found.items():
+                print(f"{name}: {text[:300]}", flush=True)
+            said.update(found)
+            bodies = [edit for edit in bodies if edit.name() not in said] if found else []
+        tried = [(True, f"{name}: {text[:300]}") for name, text in said.items()]
         for edit in edits:
-            refused, said = try_edit(edit, words, crate)
-            tried.append((refused, f"{edit.name()}: {said[:300]}"))
-            print(tried[-1][1], flush=True)
+            if edit.name() not in said:
+                refused, text = try_edit(edit, words, crate)
+                tried.append((refused, f"{edit.name()}: {text[:300]}"))
+                print(tried[-1][1], flush=True)
         return tried
 
 

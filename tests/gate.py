@@ -353,6 +353,19 @@ class Gate(Copies):
         for edit in (first, second):
             self.assertIn(f"failed: {edit.relative_to(self.copy)}: NOT REFUSED", lines)
 
+    def test_edits_of_bodies_are_tried_together(self) -> None:
+        checks = self.fakes / "checks"
+        status, lines = self.gate(
+            f"echo >>{checks}",
+            "for word; do",
+            '[ "$before" != --only ] || echo "fn a::$word: not proved"',
+            "before=$word",
+            "done",
+        )
+        tried = len(self.edits("must-fail")) + -(-len(self.edits("edits")) // 10)
+        self.assertEqual((status, self.counts(lines)), (0, [12 + tried, 0, 1]))
+        self.assertLess(len(checks.read_text().splitlines()), tried // 2)
+
     def test_an_edit_that_cannot_be_applied(self) -> None:
         edit = next(iter(sorted(self.copy.glob("crates/*/edits/*.edit"))))
         edit.write_text(edit.read_text().replace("old: ", "old: no such text "))
