@@ -162,7 +162,9 @@ class Packages(unittest.TestCase):
         folder = Path(tempfile.mkdtemp(dir=self.folder))
         needs = "import os, setuptools, sys, sysconfig, wheel"
         needs += "; os.stat(sysconfig.get_path('include') + '/Python.h')"
-        needs += "; sys.exit(sys.version_info < (3, 8))"  # as Debian 11's PyPy is
+        # (Debian 11 has an older PyPy, and a setuptools that reads no pyproject.toml)
+        needs += "; assert sys.version_info >= (3, 8)"
+        needs += "; assert int(setuptools.__version__.partition('.')[0]) >= 61"
         lacks = shutil.which("cc") is None or shutil.which(interpreter) is None
         # (setuptools and wheel are the system's: a new environment of today's Python has neither)
         made = ("-m", "venv", "--system-site-packages", folder)

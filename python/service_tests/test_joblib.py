@@ -49,6 +49,14 @@ def dumped(value, **words):
     return file.getvalue()
 
 
+def keeps_classes():
+    """Whether joblib loads a matrix as one: under NumPy 2 some of its versions don't."""
+    import joblib
+    import numpy
+
+    return type(joblib.load(io.BytesIO(dumped(numpy.matrix([[1]]))))) is numpy.matrix
+
+
 def arrays():
     """Arrays of each kind."""
     import numpy
@@ -68,7 +76,8 @@ def arrays():
         numpy.asfortranarray(grid), numpy.array(5.0), numpy.array(None), numpy.empty((3, 0, 2)),
         numpy.array(["a", None, {"k": 1}], object), numpy.empty(0, object),
         numpy.asfortranarray(numpy.array([["a", 1], [None, 2.5]], object)),
-        numpy.array([(1, None)], [("i", "i4"), ("o", "O")]), numpy.matrix([[1, 2], [3, 4]]),
+        numpy.array([(1, None)], [("i", "i4"), ("o", "O")]),
+        *[numpy.matrix([[1, 2], [3, 4]])] * keeps_classes(),
         numpy.arange(20)[::-3], numpy.ma.array([1, 2], mask=[0, 1]), numpy.arange(1 << 17),
         numpy.rec.array([(1, 2.0)], dtype=[("a", "i4"), ("b", "f8")]),
     ]
