@@ -153,7 +153,7 @@ class Packages(unittest.TestCase):
             self.assertTrue((bin_.parent / "share/man/man1/storklocker.1").exists())
             built += 1
         if not built:
-            self.skipTest("no interpreter with venv, setuptools, wheel and Python.h")
+            self.skipTest("no interpreter with venv, setuptools 61, wheel and Python.h")
 
     def build(self, interpreter: str, source: Path) -> Optional[Path]:
         """The folder of commands of an environment with the package, built from a source

@@ -27,7 +27,7 @@ def zipped(data, front=b"", comment=b"", many=0):
     """A zip file behind other bytes, from which the offsets count."""
     made = io.BytesIO(front)
     made.seek(0, 2)
-    with zipfile.ZipFile(made, "a") as archive:
+    with zipfile.ZipFile(made, "w") as archive:  # (which reads nothing of the front)
         archive.writestr("__main__.py", "print(1)\n")
         archive.writestr("a.pkl", data)
         for number in range(many):

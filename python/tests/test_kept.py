@@ -120,7 +120,8 @@ class Types(unittest.TestCase):
         zone = datetime.timezone(datetime.timedelta(0), "x" * 1000)
         made = pandas.interval_range(pandas.Timestamp("2026-01-02", tz=zone), periods=2)
         data, kept = pickle.dumps(made, 4), _of_pandas.kept_by(IntervalDtype)
-        most = int(int(pandas.__version__.partition(".")[0]) < 2)  # (a later one keeps none)
+        version = tuple(map(int, pandas.__version__.split(".")[:2]))
+        most = int((1, 2) <= version < (2, 0))  # (others keep none)
         for load, count in ((Guard(lists.PANDAS | lists.DATETIME).loads, 0), (pickle.loads, most)):
             kept.clear()
             load(data)

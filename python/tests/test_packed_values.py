@@ -131,6 +131,18 @@ FORMS = {
     ),
 }
 """How each is made, and how a program reads it."""
+
+
+def is_read_behind_the_end():
+    """Whether this Python reads Base64 behind its end, as some versions of 3.13 don't."""
+    try:
+        return UN64(B64(b"a") + b"AAAA") == b"a\0\0\0"
+    except ValueError:
+        return False
+
+
+if not is_read_behind_the_end():
+    del FORMS["behind the end"]
 BEHIND = {
     "Base64 behind a length": (
         lambda data: bytes((1, 0, 7)) + B64(data), lambda value: UN64(value[3:])

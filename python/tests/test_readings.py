@@ -106,6 +106,20 @@ def alone(data, **properties):
     return lzma.compress(data, format=lzma.FORMAT_ALONE, filters=filters)
 
 
+def sized(packed, data):
+    """LZMA alone with its size, in front of the mark of its end."""
+    return packed[:5] + len(data).to_bytes(8, "little") + packed[13:]
+
+
+def is_sized_read():
+    """Whether lzma reads on behind both, as since xz 5.2.6."""
+    file = io.BytesIO(2 * sized(alone(b"c"), b"c"))
+    try:
+        return lzma.open(file, format=lzma.FORMAT_ALONE).read() == b"cc"
+    except lzma.LZMAError:
+        return False
+
+
 def windowed(data):
     """LZMA alone with a window that readers of any format don't take: they pass it over."""
     return data[:1] + b"\x46\0\x80\0" + data[5:]
@@ -280,16 +294,15 @@ class Readings(unittest.TestCase):
     def test_two_streams_of_lzma_alone(self):
         """Each with any properties, and with its size or without, in front of the mark of its end.
         """
-        made = 0
+        made, tried = 0, (False, True) if is_sized_read() else (False,)
         for lc, lp, pb in itertools.product(range(5), repeat=3):
             if lc + lp > 4:
                 continue
-            for sizes in itertools.product((False, True), repeat=2):
+            for sizes in itertools.product(tried, repeat=2):
                 streams = [b"", b""]
                 for place, data in enumerate((b"c", RUNS[1:])):
                     packed = alone(data, lc=lc, lp=lp, pb=pb)
-                    size = len(data).to_bytes(8, "little") if sizes[place] else packed[5:13]
-                    streams[place] = packed[:5] + size + packed[13:]
+                    streams[place] = sized(packed, data) if sizes[place] else packed
                 whole = b"".join(streams)
                 with lzma.open(io.BytesIO(whole), format=lzma.FORMAT_ALONE) as file:
                     self.assertEqual(file.read(), RUNS)
@@ -298,7 +311,7 @@ class Readings(unittest.TestCase):
                 found = reports(whole, storklocker.AllowList([]))
                 self.assertTrue(any(it.is_finding for it in found), (lc, lp, pb, sizes))
                 made += 1
-        self.assertEqual(made, 300)
+        self.assertEqual(made, 75 * len(tried) ** 2)
 
     def test_a_tar_file_whose_first_name_looks_like_a_memo_number(self):
         """The line ends where a line feed is in a member: far behind the name."""
