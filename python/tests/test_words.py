@@ -165,6 +165,8 @@ class Schema(unittest.TestCase):
     @needs("module:jsonschema")
     def test_reports_follow_it(self):
         jsonschema = importlib.import_module("jsonschema")
+        if not hasattr(jsonschema, "Draft202012Validator"):
+            self.skipTest("this jsonschema is older than the schema's draft")
         judge = jsonschema.Draft202012Validator(json.loads(SCHEMA.read_text(encoding="utf-8")))
         for listed in WORDS:
             found = json.loads(self.out(listed, "json"))
