@@ -6,7 +6,7 @@ import common
 import poison
 import watching
 
-NEEDS = ("dask", "distributed")
+NEEDS = ("dask", "distributed", "tornado")
 COUNT, EACH = 100_000, 2000
 
 

@@ -125,15 +125,15 @@ class Shelves(unittest.TestCase):
         memory = importlib.import_module("fsspec").filesystem("memory")
         self.made([("a", 1), ("b", print)])
         for end in (".dat", ".dir"):
-            memory.pipe(f"/shelf{end}", self.part(end).read_bytes())
+            memory.pipe(f"memory://shelf{end}", self.part(end).read_bytes())
         self.addCleanup(memory.store.clear)
         (file,) = Files(["memory://shelf.dat"])
         process = isolated.Isolated(Question(NOTHING))
         self.addCleanup(process.end)
         for found in (scan.scan_file(file, Question(NOTHING)), process.scan(file)):
             self.assertTrue(any(it.is_finding for it in found), found)
-        memory.rm("/shelf.dir")
-        memory.pipe("/shelf.dat", pickle.dumps(1, 2))
+        memory.rm("memory://shelf.dir")
+        memory.pipe("memory://shelf.dat", pickle.dumps(1, 2))
         for found in (scan.scan_file(file, Question(NOTHING)), process.scan(file)):
             self.assertEqual([it.status for it in found], ["accepted"])
 
