@@ -73,6 +73,13 @@ def _has(thing):
     return os.path.exists(thing) or shutil.which(thing.split()[0]) is not None
 
 
+def has_hash():
+    """Whether Django's errors have a hash of their own, for which some are refused."""
+    from django.core.exceptions import ValidationError
+
+    return ValidationError.__hash__ is not BaseException.__hash__  # (since 3.2)
+
+
 def compiled(folder, source, *more):
     """A C program, built in a folder."""
     made = pathlib.Path(folder) / pathlib.Path(source).stem

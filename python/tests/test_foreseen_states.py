@@ -6,7 +6,7 @@ import pickle
 import sys
 import unittest
 
-from common import needs, python
+from common import has_hash, needs, python
 from storklocker import AllowList, Guard, Misused, lists
 from storklocker.scanning.foreseeing import Fate, Look
 
@@ -88,13 +88,6 @@ def is_here(module):
     except ImportError:
         return False
     return True
-
-
-def has_hash():
-    """Whether Django's errors have a hash of their own, for which some are refused."""
-    from django.core.exceptions import ValidationError
-
-    return ValidationError.__hash__ is not BaseException.__hash__  # (since 3.2)
 
 
 class Hostile(unittest.TestCase):
