@@ -151,7 +151,8 @@ static void texts(void) {
     IS(strcmp(storklocker_reason_text(STORKLOCKER_NOT_ASCII), "NotAscii") == 0);
     IS(strcmp(storklocker_fault_text(STORKLOCKER_LIST_SHAPE_LIMIT), "Shape(Limit)") == 0);
     IS(strcmp(storklocker_fault_text(STORKLOCKER_LIST_SHAPE_RULE), "Shape(Rule)") == 0);
-    IS(storklocker_fault_text(STORKLOCKER_LIST_SHAPE_RULE + 1)[0] == 0);
+    IS(strcmp(storklocker_fault_text(STORKLOCKER_LIST_SHAPE_SUBSTITUTE), "Shape(Substitute)") == 0);
+    IS(storklocker_fault_text(STORKLOCKER_LIST_SHAPE_SUBSTITUTE + 1)[0] == 0);
     IS(strcmp(storklocker_reason_text(STORKLOCKER_DEEP_KEY), "DeepKey") == 0);
     IS(strcmp(storklocker_reason_text(STORKLOCKER_BUILDS_IMPORT), "BuildsImport") == 0);
     IS(storklocker_reason_text(0)[0] == 0 && storklocker_reason_text(25)[0] == 0);
