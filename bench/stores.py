@@ -1,7 +1,7 @@
 #!/usr/bin/env python3
 """How long a scan takes of honest stores, beside a row of the same pickles in one file.
 
-    PYTHONPATH=python python3 bench/stores.py [--values N] [--turns N] [--only STORE ..]
+    PYTHONPATH=$PWD/python python3 bench/stores.py [--values N] [--turns N] [--only STORE ..]
 
 For each kind of value it prints the processor time of the row, under the list of the values' names
 and under none, and how many times that each store takes. Of some turns the best counts. The status

@@ -1,4 +1,5 @@
 """An edit: a file that names a function and what it changes in the files of its crate."""
+import itertools
 import pathlib
 import re
 from typing import Dict, List, NamedTuple, Sequence
@@ -65,7 +66,9 @@ def changed(edit: Edit, path: str) -> Dict[int, str]:
 
 
 def is_body(edit: Edit) -> bool:
-    """Whether it changes nothing but lines in the body of its function."""
+    """Whether it changes nothing but lines in the body of its function, which has a proof of its
+    own: those of a cycle of calls share one.
+    """
     if edit.fault or len(edit.texts) != 1 or not next(iter(edit.texts)).startswith("src/"):
         return False
     path = next(iter(edit.texts))
@@ -75,10 +78,12 @@ def is_body(edit: Edit) -> bool:
 
 
 def function_around(lines: Sequence[str], number: int) -> str:
-    """The name of the function whose body has this line, or nothing."""
+    """The name of the function whose body has this line; nothing if it is in a cycle of calls."""
     begin = next((it for it in range(number, -1, -1) if FUNCTION.match(lines[it])), number)
     head = lines[begin:number]
     has_clauses = any(CLAUSE.match(line) for line in head)
     ends = [line.strip() == "{" if has_clauses else line.endswith("{") for line in head]
     found = FUNCTION.match(lines[begin])
-    return found[1] if found and any(ends) else ""
+    above = itertools.takewhile(lambda line: line.lstrip()[:2] in ("#[", "//"), lines[:begin][::-1])
+    is_in_cycle = any(line.lstrip().startswith("#[cycle(") for line in above)
+    return found[1] if found and any(ends) and not is_in_cycle else ""

@@ -17,6 +17,7 @@ import unittest
 from concurrent.futures.process import BrokenProcessPool
 from typing import Dict, List, Tuple
 
+import edit
 import progress
 
 ROOT = pathlib.Path(__file__).resolve().parent.parent
@@ -160,6 +161,17 @@ class Scripts(Copies):
         results = progress.results_of(signal.raise_signal, [signal.SIGKILL], "kills", 1)
         with self.assertRaises(BrokenProcessPool):
             list(results)
+
+
+class Bodies(unittest.TestCase):
+    def test_whose_body_a_line_is_in(self) -> None:
+        """A clause is in none, nor what shares its proof with others."""
+        text = (
+            "fn first() {\n    n\n}\nfn second()\n    ensures same { n }\n{\n    n\n}\n"
+            "#[cycle(turning)]\nfn third() {\n    third()"
+        ).split("\n")
+        found = [edit.function_around(text, number) for number in range(len(text))]
+        self.assertEqual(found, ["", *2 * ["first"], *3 * [""], *3 * ["second"], "", ""])
 
 
 class Shipped(Copies):

@@ -131,21 +131,3 @@ fn large_data(rt: HostRuntime) -> Result<(), Fail> {
     }
     Ok(())
 }
-
-/// `large` doesn't change the limit on skipped payloads.
-#[test]
-fn large_and_passed(rt: HostRuntime) -> Result<(), Fail> {
-    for (list, verdict) in [
-        (LARGE, Verdict::No(0, Reason::TooLarge)),
-        (
-            "version = 2\nimports = {}\nlimits = { large = true, passed = 16777217 }",
-            Verdict::Yes(16_777_223, 0),
-        ),
-    ] {
-        let allow = Allow::from_toml(rt.alloc(), list)?;
-        let mut source = Filled::new(b"B\x01\0\0\x01", b'a', 16_777_217, b".");
-        let said = judge(&rt, &Policy::Listed(&allow), &allow.limits(), &mut source);
-        assert_eq!(rt; said, verdict, "{list}");
-    }
-    Ok(())
-}

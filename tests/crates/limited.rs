@@ -92,13 +92,22 @@ fn a_stack_of_one(rt: HostRuntime) -> Result<(), Fail> {
     Ok(())
 }
 
-/// A payload of one byte more than the standard limit, under that limit and under its own.
+/// A payload of one byte more than the standard limit, under that limit and under its own, which
+/// `large` doesn't change.
 #[test]
 fn a_large_payload_is_passed_over(rt: HostRuntime) -> Result<(), Fail> {
     for (list, verdict) in [
         ("version = 2\n[imports]", Verdict::No(0, Reason::TooLarge)),
         (
             "version = 2\nimports = {}\nlimits = { passed = 16777217 }",
+            Verdict::Yes(16_777_223, 0),
+        ),
+        (
+            "version = 2\nimports = {}\nlimits = { large = true }",
+            Verdict::No(0, Reason::TooLarge),
+        ),
+        (
+            "version = 2\nimports = {}\nlimits = { large = true, passed = 16777217 }",
             Verdict::Yes(16_777_223, 0),
         ),
     ] {
