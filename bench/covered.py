@@ -2,7 +2,7 @@
 """Loads what libraries write under the ready-made lists, in each protocol that can write it, and
 counts the lines of `python/tests/honest_objects/` of which all objects load as under `pickle`.
 
-    PYTHONPATH=python python3 bench/covered.py [CORPUS ..] [--failing]
+    PYTHONPATH=$PWD/python python3 bench/covered.py [CORPUS ..] [--failing]
 """
 
 import argparse
