@@ -2,8 +2,8 @@
 """Compiles and runs the programs of examples/languages by the commands of docs/C.md, in each
 language whose compiler is here.
 
-The library is that of release/ for this machine, or one that release/library made in the folder
-that `--library` names. The last line counts the programs.
+The libraries are those of release/, or of the folder that `--release` names. The last line counts
+the programs.
 """
 
 import argparse
@@ -19,9 +19,9 @@ from typing import Iterator, Tuple
 
 from worked import ROOT
 
-COMPILERS = {"C": "cc", "Rust": "cargo", "Go": "go"}
-# Of older ones the libraries lack what the programs call.
-OLDEST = {"Rust": (1, 61), "Go": (1, 15)}
+COMPILERS = {"C": "cc", "Rust": "cargo", "Go": "go", "Node": "node"}
+# Older ones weren't tried with bindings/.
+OLDEST = {"Rust": (1, 48), "Go": (1, 15), "Node": (12, 17)}
 COMMANDS = re.compile(r"(?ms)^```sh\n(.*?)^```$")
 # Pickles on standard input, and what a program says about them.
 ANSWERS = {
@@ -40,12 +40,12 @@ def programs() -> Iterator[Tuple[str, str]]:
         yield section.partition("\n")[0], "".join(COMMANDS.findall(section))
 
 
-def unpacked(folder: Path) -> Path:
-    """The library of release/ for this machine."""
+def unpacked(release: Path, folder: Path) -> Path:
+    """The library for this machine."""
     machine = platform.machine()
-    archives = list((ROOT / "release").glob(f"libstorklocker-*-{machine}-linux.tar.gz"))
+    archives = list(release.glob(f"libstorklocker-*-{machine}-linux.tar.gz"))
     if not archives:
-        print("skipped: release/ has no library for this machine; see --library")
+        print("skipped: release/ has no library for this machine")
         print("0 passed, 0 failed, 1 skipped")
         sys.exit()
     archive = archives[0]
@@ -54,10 +54,10 @@ def unpacked(folder: Path) -> Path:
 
 
 def lack_of(language: str) -> str:
-    """Why a program can't be compiled here, or an empty text."""
+    """Why a program can't be compiled and run here, or an empty text."""
     compiler = COMPILERS[language]
     for it in (compiler, "cc"):  # with which the others link
-        if not shutil.which(it):
+        if not shutil.which(it) and (it, language) != ("cc", "Node"):
             return f"without {it}"
     if language in OLDEST:
         word = "version" if language == "Go" else "--version"
@@ -87,18 +87,20 @@ def fault_of(folder: Path, commands: str, library: Path) -> str:
 
 def main() -> int:
     parser = argparse.ArgumentParser(description=__doc__)
-    parser.add_argument("--library", type=Path, help="the folder of a library")
+    parser.add_argument("--release", type=Path, default=ROOT / "release")
     given = parser.parse_args()
     passed = failed = skipped = 0
     with tempfile.TemporaryDirectory() as name:
-        library = (given.library or unpacked(Path(name))).resolve()
+        library = unpacked(given.release, Path(name))
+        packages = Path(name, "bindings", "out")
+        subprocess.run([ROOT / "bindings" / "pack", packages, given.release], check=True)
         for language, commands in programs():
             lack = lack_of(language)
             if lack:
                 print(f"skipped: {language}, {lack}")
                 skipped += 1
                 continue
-            folder = Path(name) / language
+            folder = Path(name, "examples", "languages", language.lower())
             shutil.copytree(ROOT / "examples" / "languages" / language.lower(), folder)
             fault = fault_of(folder, commands, library)
             passed, failed = passed + (not fault), failed + bool(fault)

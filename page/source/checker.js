@@ -37,7 +37,7 @@ const SETTINGS = 64, VERDICT = 64, COSTING = 40, PAIR = 32, NAMES = 1 << 17;
 const FIRST_NAMES = 1 << 16, MOST_NAMES = 1 << 26;
 const LISTING_MEMORY = 1 << 29;
 
-const text = new TextDecoder(), encoder = new TextEncoder();
+const text = new TextDecoder("utf-8", { ignoreBOM: true }), encoder = new TextEncoder();
 export const FREE = { builds: true }; // nothing that loading costs is too much
 
 export class OutOfMemory extends Error {}
@@ -78,7 +78,7 @@ export class Checker {
       this.memory().fill(0, settings, bill + COSTING);
       return run({ settings, verdict, wanted, costs, bill });
     } finally {
-      this.exports.release(this.free ?? this.start);
+      this.exports.release(this.free === undefined ? this.start : this.free);
     }
   }
 
@@ -86,6 +86,7 @@ export class Checker {
     const view = new DataView(this.exports.memory.buffer, at, SETTINGS);
     view.setBigUint64(0, BigInt(SETTINGS), true);
     LIMITS.forEach((name, place) => view.setBigUint64(8 + 8 * place, limits[name], true));
+    view.setUint32(48, limits.oldStrings || 0, true);
     view.setUint32(56, limits.isLarge ? 1 : 0, true);
   }
 
@@ -101,7 +102,8 @@ export class Checker {
     const view = new DataView(this.exports.memory.buffer, at, COSTING);
     let place = 0;
     for (const [name, size] of COSTS) {
-      const most = BigInt.asUintN(8 * size, UNKNOWN), limit = BigInt(costs[name] ?? most);
+      const most = BigInt.asUintN(8 * size, UNKNOWN);
+      const limit = costs[name] === undefined ? most : BigInt(costs[name]);
       if (size === 4) view.setUint32(place, Number(limit < most ? limit : most), true);
       else view.setBigUint64(place, limit, true);
       place += size;
@@ -127,7 +129,7 @@ export class Checker {
     const word = (place) => view.getUint32(place, true);
     const long = (place) => Number(view.getBigUint64(place, true));
     const verdict = { status: word(0), number: word(8), at: long(16), taken: long(24) };
-    verdict.reason = (verdict.status === NO_LIST ? FAULTS : REASONS)[word(4)] ?? `${word(4)}`;
+    verdict.reason = (verdict.status === NO_LIST ? FAULTS : REASONS)[word(4)] || `${word(4)}`;
     verdict.imports = long(32);
     const [module, name] = [long(40), long(48)];
     if (word(12) === 1 && module + name <= NAMES) {
@@ -166,14 +168,16 @@ export class Checker {
     return { ...found, isLarge: view.getUint32(56, true) === 1 };
   }
 
-  // Which limits a list file has whose defaults are this page's own.
+  // Which limits a list file has whose defaults are this page's own, and its substitutes.
   said(source) {
     return this.call((places) => {
       const bytes = this.put(encoder.encode(source));
-      this.exports.pkguard_list_told(
-        bytes.at, bytes.length, places.bill, 0n, places.costs, places.wanted, places.verdict);
+      const read = (room, size) => this.exports.pkguard_list_told(
+        bytes.at, bytes.length, room, BigInt(size), places.costs, places.wanted, places.verdict);
+      const substitutes = this.records(read, places.wanted);
       const view = new DataView(this.exports.memory.buffer, places.costs, COSTING);
-      return { limits: view.getUint32(0, true) === 1, numbers: view.getUint32(4, true) === 1 };
+      const [limits, numbers] = [0, 4].map((place) => view.getUint32(place, true) === 1);
+      return { limits, numbers, substitutes };
     });
   }
 
@@ -209,14 +213,23 @@ export class Checker {
 
   // The verdict on the pickle at an offset, under pairs, limits, and limits on costs.
   check(offset, pairs, limits, costs = FREE) {
+    return this.checking(pairs, limits, costs, (verdict) => verdict(offset));
+  }
+
+  // Calls with what gives the verdict on the pickle at an offset.
+  checking(pairs, limits, costs, run) {
     return this.call((places) => {
       const [list, room] = [this.putPairs(pairs), this.room(NAMES)];
       this.settings(places.settings, limits);
       this.putCosts(places.costs, costs);
-      this.exports.pkguard_check_within(
-        list.at, list.length, places.settings, places.costs, this.at + offset,
-        BigInt(this.size - offset), room, BigInt(NAMES), places.verdict);
-      return this.verdict(places.verdict, room);
+      const free = this.exports.reserve(0n);
+      return run((offset) => {
+        this.exports.release(free);
+        this.exports.pkguard_check_within(
+          list.at, list.length, places.settings, places.costs, this.at + offset,
+          BigInt(this.size - offset), room, BigInt(NAMES), places.verdict);
+        return this.verdict(places.verdict, room);
+      });
     });
   }
 
@@ -235,9 +248,9 @@ export class Checker {
 
   // The imports of the pickle at an offset, each once with how often, and the verdict with every
   // import permitted.
-  imports(offset) {
+  imports(offset, limits = this.widest(offset)) {
     return this.call((places) => {
-      this.settings(places.settings, this.widest(offset));
+      this.settings(places.settings, limits);
       const read = (room, size) => this.exports.pkguard_imports(
         places.settings, this.at + offset, BigInt(this.size - offset), room, BigInt(size),
         places.wanted, places.verdict);

@@ -1,0 +1,3 @@
+module storklocker
+
+go 1.15
