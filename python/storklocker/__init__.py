@@ -16,6 +16,7 @@ reader gets this copy with BUILD, calls and frames rewritten.
     check, check_row     check a pickle, or a stream of pickles, without loading anything
     loads                a guarded load in one call
     imports, missing     every name that a pickle would import, or only those off a list
+    explain              what a pickle would do, as Python for people to read
     AllowList            the names that may be imported: from pairs, a dict, or a list file
     lists                a module: ready-made lists
     substitutes          a module: replacements for dangerous names during a load
@@ -50,9 +51,11 @@ if TYPE_CHECKING:
     from ._reasons import Reason
     from ._refusal import Refusal, context
     from .everywhere import Installed, Unlisted, install, installed, trusted
+    from .explaining import Explanation, explain
 
 __all__ = [
     "AllowList",
+    "Explanation",
     "Guard",
     "Import",
     "Installed",
@@ -71,6 +74,7 @@ __all__ = [
     "check",
     "check_row",
     "context",
+    "explain",
     "imports",
     "install",
     "installed",
@@ -89,6 +93,8 @@ _LATER = {
     "Reason": "_reasons",
     "Refusal": "_refusal",
     "context": "_refusal",
+    "Explanation": "explaining",
+    "explain": "explaining",
     "Installed": "everywhere",
     "Unlisted": "everywhere",
     "install": "everywhere",

@@ -7,9 +7,7 @@ it. A call that is made of millions of values is cut like any other.
 
 from __future__ import annotations
 
-import functools
 import io
-import pickletools
 from typing import Any, Callable, Dict, Iterable, List, Sequence, Tuple
 
 from .._writing import quoted
@@ -21,6 +19,7 @@ from .report import LONGEST, Finding, shown
 from .severity import DANGER
 from .source import Source
 from .spelled import Stop
+from .valued import DICT, FROZENSET, LIST, SET, TUPLE, Valued, with_values
 
 LENGTH = 200
 """The most characters of a call."""
@@ -29,13 +28,6 @@ MOST = 4
 _GIVEN = 8
 """The most arguments of a call that are looked at for names."""
 _ITEMS, _VISITS, _LITERAL = 67, 1000, 256
-_LITERALS = frozenset(
-    "int long int_or_bool bytes_or_str bytes bytearray str float".split()
-)
-"""The kinds of values, as `pickletools` calls them, that an instruction has as its argument."""
-
-
-_Act = Callable[[Any], object]
 
 
 class _Written(str):
@@ -43,7 +35,6 @@ class _Written(str):
 
 
 _UNKNOWN, _NOTHING, _COMMA, _COLON = map(_Written, ("...", "", ", ", ": "))
-_LIST, _TUPLE, _DICT, _SET = "[]", "(,)", "{:}", "{}"
 
 
 class _Value:
@@ -64,7 +55,7 @@ class _Value:
     def add(self, items: Sequence[Any]) -> None:
         """Takes more items, of which only the first are seen."""
         if len(self.items) <= _ITEMS:
-            if self.brackets == _DICT:
+            if self.brackets == DICT:
                 items = [_pair(*it) for it in zip(items[: 2 * _ITEMS : 2], items[1::2])]
             self.items += items[: _ITEMS + 1]
 
@@ -75,7 +66,7 @@ class _Value:
             found += (item, _COMMA)
         if self.items:
             found.pop()
-        if self.brackets == _TUPLE and len(self.items) == 1:
+        if self.brackets == TUPLE and len(self.items) == 1:
             found.append(_Written(","))
         return [*found, _Written(self.brackets[-1:])]
 
@@ -124,7 +115,7 @@ def is_call_of(value: Any, name: str) -> bool:
     return is_made and is_import(value.front) and value.front.name == name
 
 
-class Calls(Walk):
+class Calls(Valued):
     """Follows a pickle, and calls `tell` with each import that is called or given to a call, and
     that call.
     """
@@ -134,103 +125,52 @@ class Calls(Walk):
     ) -> None:
         super().__init__(source, at)
         self.most, self._tell = most, tell
-        self._dropped: List[Any] = []
-        self._front = source.read(at, 2)
-        self._pair: Names = (None, None)
 
-    def to_mark(self) -> None:
-        self._dropped = self._stack
-        super().to_mark()
+    def _known(self, value: Any) -> Any:
+        return _known(value)
 
-    # ---- imports
-
-    def _import(self, module: bytes, name: bytes) -> None:
-        super()._import(module, name)
-        self._pair = (module, name)
-
-    def _imported(self) -> None:
-        """What is on top is what has just been imported."""
-        (today,) = named_today([self._pair], self._front)
-        made = self._stack[-1] = _Value(_name_of(today), may_be_text=True)
+    def _imported(self, names: Names) -> Any:
+        (today,) = named_today([names], self._front)
+        made = _Value(_name_of(today), may_be_text=True)
         made.name = made.front
+        return made
 
-    def by_lines(self, coding: str = "utf-8") -> None:
-        super().by_lines(coding)
-        self._imported()
+    def _call(self, name: str, function: Any, given: List[Any]) -> Any:
+        if name in ("INST", "OBJ"):
+            return self._called(function, given)
+        words: List[Any] = []
+        for star, it in zip(("*", "**"), given):
+            is_tuple = type(it) is _Value and it.brackets == TUPLE and not words
+            words += it.items if is_tuple else [_Value(_Written(star), "", [it])]
+        return self._called(function, words)
 
-    def from_stack(self) -> None:
-        self._stack[-2:] = map(_known, self._stack[-2:])
-        self._pair = (None, None)
-        super().from_stack()
-        if self._pair != (None, None):
-            self._imported()
-
-    # ---- calls
-
-    def _called(self, function: Any, words: List[Any]) -> None:
-        """What is on top is what a function makes of these arguments."""
-        made = self._stack[-1] = _Value(function, "()", words, True)
+    def _called(self, function: Any, words: List[Any]) -> Any:
+        """What a function makes of these arguments."""
+        made = _Value(function, "()", words, True)
         if type(function) is _Value:
             made.name = function.name
         for it in (function, *words[:_GIVEN]):
             if type(it) is _Value and it.name and (it is function or not it.brackets):
                 self._tell(it.name, made)
+        return made
 
-    def instance(self) -> None:
-        super().instance()
-        *words, function = self._dropped
-        self._called(function, words)
+    def _literal(self, it: Any, begin: int) -> Any:
+        top = self._stack[-1]
+        if type(top) is str:
+            return top
+        raw = self.source.read(begin, min(self.at - begin, _LITERAL))
+        return _Value(_Written(_literal(it.arg, raw)), may_be_text=top is ANY)
 
-    def instance_of(self) -> None:
-        super().instance_of()
-        function, *words = self._dropped
-        self._called(function, words)
+    def _constant(self, text: str) -> Any:
+        return _Value(_Written(text))
 
-    def reduced(self, act: _Act, count: int) -> None:
-        """An instruction that takes a function and its arguments, and perhaps named ones."""
-        if len(self._stack) < count:
-            raise Stop  # (no reader goes on)
-        function, *given = self._stack[-count:]
-        act(self)
-        words: List[Any] = []
-        for star, it in zip(("*", "**"), given):
-            is_tuple = type(it) is _Value and it.brackets == _TUPLE and not words
-            words += it.items if is_tuple else [_Value(_Written(star), "", [it])]
-        self._called(function, words)
+    def _collected(self, brackets: str, items: List[Any]) -> Any:
+        return _Value(_NOTHING, SET if brackets == FROZENSET else brackets, items)
 
-    # ---- values
-
-    def literal(self, act: _Act, argument: Any) -> None:
-        """An instruction whose argument is the value."""
-        begin = self.at
-        act(self)
-        if type(self._stack[-1]) is not str:
-            raw = self.source.read(begin, min(self.at - begin, _LITERAL))
-            is_text = self._stack[-1] is ANY
-            self._stack[-1] = _Value(_Written(_literal(argument, raw)), may_be_text=is_text)
-
-    def constant(self, act: _Act, text: str) -> None:
-        act(self)
-        self._stack[-1] = _Value(_Written(text))
-
-    def tupled(self, act: _Act, count: int) -> None:
-        items = self._stack[len(self._stack) - count :]
-        act(self)
-        self._stack[-1] = _Value(_NOTHING, _TUPLE, items)
-
-    def gathered(self, act: _Act, brackets: str) -> None:
-        """An instruction that makes a value of what is above the mark, if it takes that."""
-        self._dropped = []
-        act(self)
-        self._stack[-1] = _Value(_NOTHING, brackets, self._dropped)
-
-    def filled(self, act: _Act, count: int) -> None:
-        """An instruction that puts so many values, or those above the mark, into another."""
-        items = self._stack[len(self._stack) - count :]
-        act(self)
+    def _filled(self, name: str, items: List[Any]) -> None:
         it = self._stack[-1]
-        if type(it) is _Value and it.brackets in (_LIST, _DICT, _SET):
-            it.add(items if count else self._dropped)
+        if type(it) is _Value and it.brackets in (LIST, DICT, SET):
+            it.add(items)
 
 
 def _literal(argument: Any, raw: bytes) -> str:
@@ -247,43 +187,7 @@ def _name_of(names: Names) -> _Written:
     return _Written(shown(".".join(str(it) for it in pair_of(names)), LONGEST))
 
 
-def _acts() -> Dict[int, _Act]:
-    """What each instruction does, by its code."""
-    found = dict(Walk.acts)
-    plain: Dict[str, Any] = {
-        "GLOBAL": Calls.by_lines, "INST": Calls.instance, "STACK_GLOBAL": Calls.from_stack,
-        "OBJ": Calls.instance_of,
-    }
-    for it in pickletools.opcodes:
-        code, after = ord(it.code), [kind.name for kind in it.stack_after]
-        if it.name in plain:
-            found[code] = plain[it.name]
-        elif it.name in _WITH:
-            method, given = _WITH[it.name]
-            found[code] = functools.partial(_with, method, found[code], given)
-        elif it.arg is not None and not _LITERALS.isdisjoint(after):
-            found[code] = functools.partial(_with, Calls.literal, found[code], it.arg)
-    return found
-
-
-def _with(method: Callable[..., object], act: _Act, given: Any, walk: Calls) -> None:
-    method(walk, act, given)
-
-
-_WITH: Dict[str, Tuple[Callable[..., object], Any]] = {
-    "NONE": (Calls.constant, "None"), "NEWTRUE": (Calls.constant, "True"),
-    "NEWFALSE": (Calls.constant, "False"), "EMPTY_TUPLE": (Calls.gathered, _TUPLE),
-    "EMPTY_LIST": (Calls.gathered, _LIST), "EMPTY_DICT": (Calls.gathered, _DICT),
-    "EMPTY_SET": (Calls.gathered, _SET), "LIST": (Calls.gathered, _LIST),
-    "DICT": (Calls.gathered, _DICT), "FROZENSET": (Calls.gathered, _SET),
-    "TUPLE": (Calls.gathered, _TUPLE), "TUPLE1": (Calls.tupled, 1), "TUPLE2": (Calls.tupled, 2),
-    "TUPLE3": (Calls.tupled, 3), "APPEND": (Calls.filled, 1), "SETITEM": (Calls.filled, 2),
-    "APPENDS": (Calls.filled, 0), "SETITEMS": (Calls.filled, 0), "ADDITEMS": (Calls.filled, 0),
-    "REDUCE": (Calls.reduced, 2), "NEWOBJ": (Calls.reduced, 2), "NEWOBJ_EX": (Calls.reduced, 3),
-}
-"""Instructions by what they do besides what `Walk` does for them."""
-
-Calls.acts = _acts()
+Calls.acts = with_values(Calls)
 
 
 class Naming(Calls):
@@ -294,24 +198,16 @@ class Naming(Calls):
     def __init__(self, source: Source, at: int) -> None:
         super().__init__(source, at, Walk.most, lambda name, call: None)
 
-    def again(self) -> Tuple[bool, bool]:
-        self._front = self.source.read(self.at, 2)
-        return super().again()
+    def _known(self, value: Any) -> Any:
+        return super()._known(value) if _is_text(value) else OTHER
 
-    def from_stack(self) -> None:
-        self._stack[-2:] = [it if _is_text(it) else OTHER for it in self._stack[-2:]]
-        super().from_stack()
-
-    def _called(self, function: Any, words: List[Any]) -> None:
+    def _called(self, function: Any, words: List[Any]) -> Any:
         is_value = type(function) is _Value and not (function.name or function.may_be_text)
         if is_value or type(function) is str:
             raise Stop  # (it can't be called)
-        super()._called(function, words)
+        return super()._called(function, words)
 
 
-Naming.acts = {
-    code: Naming.from_stack if act is Calls.from_stack else act for code, act in Calls.acts.items()
-}
 _SCALAR = "numpy.core.multiarray.scalar"
 
 

@@ -13,6 +13,7 @@ from typing import Callable, Dict, Iterator, Optional, Sequence, Union
 
 from .. import __version__
 from .._lists import has_substitutes
+from ..explaining.command import add_command as add_explain
 from ..judge.command import add_command as add_judge
 from ..serving import command as serve
 from . import formats, program, showing
@@ -41,7 +42,7 @@ _STATUSES = """exit status:
          unknown  it imports a name that nobody has judged: the default without --allow
          note     it is code that `scan` doesn't read, or a link that leads nowhere
          never    no finding causes status 1
-       For `imports`, `dis`, `json` and `optimize`: a pickle is refused.
+       For `imports`, `explain`, `dis`, `json` and `optimize`: a pickle is refused.
   2    something couldn't be read to its end, is packed in an unknown way, or readers differ about
        it; a folder was left unread; or the command line, the list or the output is wrong
   3    for `lint`: no listed name is known to be dangerous, but nobody has judged some
@@ -199,6 +200,7 @@ _ADDING: Dict[str, Callable[["argparse._SubParsersAction[argparse.ArgumentParser
     "lint": _add_lint,
     "list": add_commands,
     "judge": add_judge,
+    "explain": add_explain,
     "serve": serve.add_command,
     **{name: functools.partial(program.add_command, name) for name in program.COMMANDS},
 }

@@ -9,7 +9,7 @@ all of them, which keeps its memo.
 from __future__ import annotations
 
 import re
-from typing import Any, Callable, List, Tuple
+from typing import Any, Callable, List
 
 from .budget import LOOKED_AT, Budget
 from .calls import Calls, is_import
@@ -46,10 +46,6 @@ class _Members(Calls):
     def __init__(self, source: Source, at: int) -> None:
         super().__init__(source, at, Walk.most, lambda name, call: None)
 
-    def again(self) -> Tuple[bool, bool]:
-        self._front = self.source.read(self.at, 2)
-        return super().again()
-
     def _pop(self) -> Any:
         return _passed(super()._pop())
 
@@ -58,10 +54,10 @@ class _Members(Calls):
             _passed(it)
         super().to_mark()
 
-    def _called(self, function: Any, words: List[Any]) -> None:
+    def _called(self, function: Any, words: List[Any]) -> Any:
         if type(function) is _Member:
             raise _Otherwise
-        super()._called(_passed(function), words)
+        return super()._called(_passed(function), words)
 
     def reduce(self) -> None:
         """REDUCE, also of `getattr`."""

@@ -249,8 +249,11 @@ def _number(name: str, argument: bytes) -> int:
 
 def _value(name: str, argument: bytes) -> Any:
     """A number or a short text, if an instruction pushes one."""
-    if len(argument) > _LONGEST:
-        return ANY
+    return ANY if len(argument) > _LONGEST else value_of(name, argument)
+
+
+def value_of(name: str, argument: bytes) -> Any:
+    """A number or a text, if an instruction pushes one, whose argument has no count."""
     if name in ("BININT1", "BININT2"):
         return int.from_bytes(argument, "little")
     if name in ("BININT", "LONG1", "LONG4"):

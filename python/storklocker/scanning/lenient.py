@@ -11,7 +11,7 @@ from __future__ import annotations
 
 import functools
 import pickletools
-from typing import Any, Callable, Dict, List, NamedTuple, Optional, Tuple
+from typing import Any, Callable, Dict, List, NamedTuple, Optional, Tuple, Type
 
 from .dangers import is_found_here
 from .source import Source
@@ -86,7 +86,8 @@ class Walk(Spelled):
         self._memo: Dict[int, Any] = {}
         self._frame = -1
         self.names: Dict[Names, None] = {}
-        self.steps = 0
+        self.steps = self.begun = 0
+        """The number of instructions, and where the last one begins."""
         self.has_numbered = self.is_misread = False
 
     def through(self) -> Tuple[bool, bool]:
@@ -108,7 +109,8 @@ class Walk(Spelled):
         """Follows it up to STOP."""
         acts, most = self.acts, self.most
         while True:
-            start, code = self.at, self.take(1)
+            start = self.begun = self.at
+            code = self.take(1)
             if not code or code[0] not in LENGTHS:
                 raise Stop
             self.steps += 1
@@ -281,6 +283,18 @@ class Walk(Spelled):
 
     # ---- instructions without
 
+    def next_buffer(self) -> None:
+        """NEXT_BUFFER, which takes what the reader was given beside the pickle."""
+        self.push(ANY)
+
+    def read_only(self) -> None:
+        """READONLY_BUFFER."""
+        self.top()
+
+    def identified(self) -> None:
+        """BINPERSID."""
+        self.replace(1)
+
     def duplicate(self) -> None:
         self.push(self.top())
 
@@ -325,20 +339,20 @@ class Walk(Spelled):
         self.top()
 
 
-def _acts() -> Dict[int, Callable[[Walk], object]]:
-    """What each instruction does, by its code."""
-    found: Dict[str, Callable[[Walk], object]] = {
-        "MARK": Walk.mark, "POP": Walk.pop, "POP_MARK": Walk.to_mark, "STOP": Walk.take_top,
-        "GLOBAL": Walk.by_lines, "INST": Walk.instance, "STACK_GLOBAL": Walk.from_stack,
-        "OBJ": Walk.instance_of, "STRING": Walk.quoted, "UNICODE": Walk.unicode,
-        "PERSID": Walk.persistent, "FRAME": Walk.frame, "PROTO": Walk.protocol,
-        "MEMOIZE": Walk.memoize, "DUP": Walk.duplicate, "READONLY_BUFFER": Walk.top,
-        "NEXT_BUFFER": lambda it: it.push(ANY), "BINPERSID": lambda it: it.replace(1),
+def acts_of(kind: Type[Walk]) -> Dict[int, Callable[[Any], object]]:
+    """What each instruction does for such a walk, by its code."""
+    found: Dict[str, Callable[[Any], object]] = {
+        "MARK": kind.mark, "POP": kind.pop, "POP_MARK": kind.to_mark, "STOP": kind.take_top,
+        "GLOBAL": kind.by_lines, "INST": kind.instance, "STACK_GLOBAL": kind.from_stack,
+        "OBJ": kind.instance_of, "STRING": kind.quoted, "UNICODE": kind.unicode,
+        "PERSID": kind.persistent, "FRAME": kind.frame, "PROTO": kind.protocol,
+        "MEMOIZE": kind.memoize, "DUP": kind.duplicate, "READONLY_BUFFER": kind.read_only,
+        "NEXT_BUFFER": kind.next_buffer, "BINPERSID": kind.identified,
     }
     for names, act, numbers in _WITH_NUMBERS:
         for name, words in zip(names.split(), numbers):
-            found[name] = functools.partial(_called, act, words)
-    found.update(dict.fromkeys("INT LONG FLOAT".split(), Walk.number))
+            found[name] = functools.partial(_called, getattr(kind, act.__name__), words)
+    found.update(dict.fromkeys("INT LONG FLOAT".split(), kind.number))
     return {ord(it.code): found[it.name] for it in pickletools.opcodes}
 
 
@@ -365,4 +379,4 @@ _WITH_NUMBERS: Tuple[Tuple[str, Callable[..., object], Tuple[Tuple[Any, ...], ..
 )
 """Instructions that differ by the numbers that their acts take."""
 
-Walk.acts = _acts()
+Walk.acts = acts_of(Walk)

@@ -1,0 +1,87 @@
+"""The pickles of a file, or of bytes, each with what it does."""
+
+from __future__ import annotations
+
+import io
+from typing import Iterator, List, NamedTuple, Tuple
+
+from .._answers import Verdict
+from ..scanning.budget import Budget, TooMuch
+from ..scanning.joblib_files import WRAPPER_NAMES, without_arrays
+from ..scanning.readings import Piece, Place, examine
+from ..scanning.rows import Row, row_of
+from ..scanning.source import Source, in_memory
+from .machine import STEPS, Machine
+from .nodes import Node
+
+ENDLESS = 1 << 60
+_MISREAD = "a reader reads other bytes than are shown, from a frame's end on"
+
+
+class Followed(NamedTuple):
+    """Pickles that follow one another, and what they do."""
+
+    path: str
+    kind: str
+    source: Source
+    events: List[Node]
+    is_stream: bool
+    refusal: Tuple[int, str]
+    """Where a reader stops, and why; -1 if it doesn't."""
+    end: str
+    """Why no more is explained; empty if all is."""
+
+
+def followed_in(path: str, source: Source, is_full: bool) -> Iterator[Followed]:
+    """What the pickles in a file do, and in its members."""
+    place = Place(path, source, Budget(source.size))
+    found, answer, count = examine(place), None, 0
+    try:
+        while True:
+            try:
+                it = found.send(answer)
+            except StopIteration:
+                if not count:
+                    piece = place.piece("pickle", is_claimed=True)
+                    yield followed_row(piece, Row(piece, None, place.budget), is_full)
+                return
+            answer = None
+            row = row_of(it, None, place.budget) if isinstance(it, Piece) else None
+            if row is not None and isinstance(it, Piece):
+                if WRAPPER_NAMES.intersection(row.names):
+                    it, row = without_arrays(it, row, None, place.budget)
+                answer, count = row.taken, count + 1
+                yield followed_row(it, row, is_full)
+    except TooMuch:
+        return  # (the verdict says so)
+
+
+def followed_bytes(data: bytes, is_full: bool) -> Followed:
+    """What the pickles at the front of these bytes do."""
+    source = in_memory(io.BytesIO(data))
+    piece = Piece("", "pickle", source, True)
+    return followed_row(piece, Row(piece, None, Budget(len(data))), is_full)
+
+
+def followed_row(piece: Piece, row: Row, is_full: bool) -> Followed:
+    """What pickles do that follow one another, up to the first that is refused, and that."""
+    source = piece.source
+    machine = Machine(source, 0, ENDLESS if is_full else STEPS)
+    count, end = row.pickles + (row.refusal is not None), ""
+    while machine.pickles < count and machine.at < source.size and not end:
+        if not machine.apart():
+            end = _end_of(machine)
+    if machine.is_misread:
+        end = "; ".join(filter(None, (_MISREAD, end)))
+    refusal = (-1, "") if row.refusal is None else _refused(row.refusal)
+    return Followed(piece.path, piece.kind, source, machine.events, count > 1, refusal, end)
+
+
+def _end_of(machine: Machine) -> str:
+    if machine.steps > machine.most:
+        return f"{machine.most:,} instructions are explained, up to byte {machine.at:,}"
+    return f"every reader stops here, at {machine.begun:,}"
+
+
+def _refused(no: Verdict) -> Tuple[int, str]:
+    return no.at, no.line(64).partition(": ")[2]

@@ -1,0 +1,134 @@
+"""An explanation as text, or as JSON."""
+
+from __future__ import annotations
+
+import itertools
+from typing import Any, Dict, Iterable, Iterator, List, NamedTuple, Tuple
+
+from ..scanning.colour import Paint, plain
+from .judged import HIDDEN, Name, names_in, row_of
+from .nodes import BAD, IMPORT, PICKLE, Node
+from .pickles import Followed
+from .writing import Statement, Writer
+
+LINES, BAD_LINES = 400, 40
+"""The most statements of a pickle that are written, and of those the dangerous ones that come
+first, unless all are asked for.
+"""
+_INDENT = "#     "
+
+
+class Line(NamedTuple):
+    """A statement, as it is written."""
+
+    at: int
+    text: str
+    severity: str
+    """How bad the names are that it calls or imports; empty if it has none."""
+    note: str = ""
+    """What is known of the name that it imports."""
+
+    def written(self, paint: Paint = plain) -> str:
+        """The line."""
+        note = f", {self.note}" if self.note else ""
+        text = paint(self.text, self.severity) if self.severity in BAD else self.text
+        return f"{text}  # at {self.at}{note}"
+
+
+class Part(NamedTuple):
+    """The explanation of a pickle, or of a stream of pickles."""
+
+    path: str
+    kind: str
+    names: Tuple[Name, ...]
+    unlisted: int
+    """How many names more it imports."""
+    worst: Tuple[Line, ...]
+    """The dangerous statements."""
+    lines: Iterable[Line]
+    """All statements, which are read once."""
+
+    def as_dict(self) -> Dict[str, Any]:
+        """The same for JSON."""
+        return {
+            "path": self.path,
+            "kind": self.kind,
+            "imports": [it._asdict() for it in self.names],
+            "unlisted": self.unlisted,
+            "statements": [it._asdict() for it in self.lines],
+        }
+
+    def written(self, paint: Paint = plain) -> Iterator[str]:
+        """The lines of the explanation."""
+        if self.names:
+            yield "# imports:"
+        for it in self.names:
+            yield f"{_INDENT}{it.name}  {paint(it.line, it.severity)}"
+        if self.unlisted:
+            yield f"{_INDENT}{self.unlisted:,} more"
+        if self.worst:
+            yield "# dangerous statements:"
+        for line in self.worst:
+            yield f"{_INDENT}{line.written(paint)}"
+        if self.names:
+            yield "# all statements:"
+        for line in self.lines:
+            yield line.written(paint) if line.at >= 0 else line.text
+
+
+def part_of(followed: Followed, is_full: bool) -> Part:
+    """The explanation of pickles."""
+    worst = tuple(_worst(followed)) if any(map(is_bad, followed.events)) else ()
+    writer = Writer(followed.source, is_full, followed.is_stream)
+    lines = _lines(writer.statements(followed.events), followed, is_full)
+    names, unlisted = names_in(followed.events)
+    return Part(followed.path, followed.kind, tuple(names), unlisted, worst, lines)
+
+
+def _worst(followed: Followed) -> Iterator[Line]:
+    """The dangerous statements."""
+    writer = Writer(followed.source, False, followed.is_stream)
+    bad = (it for it in writer.statements(followed.events) if is_bad(it.event))
+    yield from map(_line, itertools.islice(bad, BAD_LINES))
+
+
+def is_bad(it: Node) -> bool:
+    """Whether an event does what may do harm."""
+    return it.severity in BAD and it.kind != IMPORT
+
+
+def _line(it: Statement) -> Line:
+    is_named = it.event.kind == IMPORT or it.event.kind in HIDDEN
+    note = row_of(it.event).line if is_named else ""
+    return Line(it.at, "".join(it.pieces), it.event.severity, note)
+
+
+def _lines(
+    statements: Iterator[Statement], followed: Followed, is_full: bool
+) -> Iterator[Line]:
+    """All statements, up to a number of them, and where readers stop."""
+    fault, why = followed.refusal
+    count = left = 0
+    for it in statements:
+        if 0 <= fault <= it.at:
+            yield from _stopped(fault, why)
+            fault = -1
+        count += 1
+        if count <= LINES or is_full:
+            yield Line(-1, "".join(it.pieces), "") if it.event.kind == PICKLE else _line(it)
+        else:
+            left += 1
+    if left:
+        yield Line(-1, f"# ... {left:,} more statements (--full has them)", "")
+    if fault >= 0:
+        yield Line(-1, f"# here a reader stops: {why} at {fault}", "")
+    if followed.end:
+        yield Line(-1, f"# {followed.end}", "")
+
+
+def _stopped(fault: int, why: str) -> List[Line]:
+    """What is said in front of statements that not all readers get to."""
+    return [
+        Line(-1, f"# here a reader stops: {why} at {fault}", ""),
+        Line(-1, "# what the most lenient reader does behind it:", ""),
+    ]
