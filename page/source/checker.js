@@ -103,7 +103,8 @@ export class Checker {
     let place = 0;
     for (const [name, size] of COSTS) {
       const most = BigInt.asUintN(8 * size, UNKNOWN);
-      const limit = costs[name] === undefined ? most : BigInt(costs[name]);
+      const isNone = costs[name] === undefined || costs[name] === null;
+      const limit = isNone ? most : BigInt(costs[name]);
       if (size === 4) view.setUint32(place, Number(limit < most ? limit : most), true);
       else view.setBigUint64(place, limit, true);
       place += size;
@@ -129,7 +130,8 @@ export class Checker {
     const word = (place) => view.getUint32(place, true);
     const long = (place) => Number(view.getBigUint64(place, true));
     const verdict = { status: word(0), number: word(8), at: long(16), taken: long(24) };
-    verdict.reason = (verdict.status === NO_LIST ? FAULTS : REASONS)[word(4)] || `${word(4)}`;
+    const texts = verdict.status === NO_LIST ? FAULTS : REASONS;
+    verdict.reason = word(4) in texts ? texts[word(4)] : `${word(4)}`;
     verdict.imports = long(32);
     const [module, name] = [long(40), long(48)];
     if (word(12) === 1 && module + name <= NAMES) {
