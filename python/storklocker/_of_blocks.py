@@ -5,10 +5,13 @@ from __future__ import annotations
 from typing import TYPE_CHECKING, Any, Dict, List, Tuple
 
 from ._answers import Misused
+from ._attributes import judge_attributes
 from ._calls import wrong
+from ._library import uncached
 from ._of_pandas import forgetting, is_array, is_index, row
 from ._of_sklearn import whole
 from ._substitute import BECOMES_REAL, Remembering, Substitute, nothing
+from ._weighing import keys_of
 
 if TYPE_CHECKING:
     from ._substitutes import Reader
@@ -173,3 +176,22 @@ TABLE: Dict[Tuple[str, str], Substitute] = dict(
           for name, judged in (("BlockManager", _manager), ("SingleBlockManager", _series))),
     ]
 )
+
+
+def frame_state(reader: Reader, frame: Any, state: Any) -> Any:
+    """The state of a frame or a series, whose class sets what it has: a name is hashed, and a dict
+    is made of more attributes.
+    """
+    if type(state) is not dict:
+        raise Misused("the state of a frame isn't a dict")
+    judge_attributes(frame, state.items(), False)
+    if any(id(it) in reader.unbuilt for it in state.values()):
+        raise Misused("the state of a frame has a part without a state")
+    known = ("_mgr", "_typ", "_metadata", "attrs", "_flags", *type(frame)._metadata)
+    for name in state:
+        if name not in known and hasattr(type(getattr(type(frame), str(name), None)), "__set__"):
+            raise Misused("the state of a frame sets an attribute that it computes")
+    if any(type(state.get(name, {})) is not dict for name in ("attrs", "_flags")):
+        raise Misused("the state of a frame has attributes that aren't in a dict")
+    keys_of(reader, [state.get("name")])
+    return uncached(state)

@@ -15,7 +15,7 @@ from ._calls import wrong
 from ._library import uncached
 from ._of_sklearn import whole
 from ._substitute import Substitute
-from ._weighing import SCALARS, keys_of
+from ._weighing import SCALARS, items_as_keys, keys_of
 
 if TYPE_CHECKING:
     from ._substitutes import Reader
@@ -164,12 +164,24 @@ def _levels(reader: Reader, words: Dict[str, Any]) -> Dict[str, Any]:
             raise wrong("_new_Index")
         if not is_index(level) or len(code) != len(codes[0]) or id(code) in reader.unbuilt:
             raise wrong("_new_Index")
+        _judge_keys(reader, level)
         reader.pay(code.nbytes)
         own = numpy.array(code, code.dtype.newbyteorder("="))
         if len(own) and (own.min() < -1 or own.max() >= len(level)):
             raise wrong("_new_Index")
         made.append(own)
     return {"levels": list(levels), "codes": made}
+
+
+def _judge_keys(reader: Reader, level: Any) -> None:
+    """Judges the objects of a level, which before 1.3 pandas hashes, and later whoever asks it."""
+    import numpy
+    import pandas
+
+    if level.dtype.kind == "O" and not isinstance(level, pandas.MultiIndex):
+        held = getattr(level._values, "_ndarray", level._values)
+        if isinstance(held, numpy.ndarray) and held.dtype.hasobject:
+            items_as_keys(reader, held.ravel().tolist())
 
 
 def _index(reader: Reader, *given: Any) -> Any:
@@ -371,23 +383,4 @@ def sparse_state(reader: Reader, array: Any, state: Any) -> Any:
     is_one = isinstance(places, SparseIndex) and is_array(reader, held)
     if not is_one or len(held) != places.npoints:
         raise Misused("the state of a sparse pandas array has an unexpected form")
-    return uncached(state)
-
-
-def frame_state(reader: Reader, frame: Any, state: Any) -> Any:
-    """The state of a frame or a series, whose class sets what it has: a name is hashed, and a dict
-    is made of more attributes.
-    """
-    if type(state) is not dict:
-        raise Misused("the state of a frame isn't a dict")
-    judge_attributes(frame, state.items(), False)
-    if any(id(it) in reader.unbuilt for it in state.values()):
-        raise Misused("the state of a frame has a part without a state")
-    known = ("_mgr", "_typ", "_metadata", "attrs", "_flags", *type(frame)._metadata)
-    for name in state:
-        if name not in known and hasattr(type(getattr(type(frame), str(name), None)), "__set__"):
-            raise Misused("the state of a frame sets an attribute that it computes")
-    if any(type(state.get(name, {})) is not dict for name in ("attrs", "_flags")):
-        raise Misused("the state of a frame has attributes that aren't in a dict")
-    keys_of(reader, [state.get("name")])
     return uncached(state)

@@ -27,6 +27,8 @@ SCALARS = (
 )
 CONTAINERS = (list, tuple, set, frozenset, dict)
 """The classes of containers that a pickle fills itself."""
+_QUICK = frozenset((type(None), bool, float, str, bytes, datetime.date))
+"""Classes of keys whose hash takes no longer than they are."""
 _LONG = 1 << 64
 _ROWS = (str, bytes, bytearray, list, tuple, dict, set, frozenset, deque)
 _NAMES = (type, types.ModuleType, types.FunctionType, types.BuiltinFunctionType, types.MethodType)
@@ -146,6 +148,16 @@ def keys_of(reader: Reader, keys: Iterable[Any]) -> None:
         elif type(key) not in SCALARS:
             total += reader.keys.weigh(key)
     reader.pay(total)
+
+
+def items_as_keys(reader: Reader, items: List[Any]) -> None:
+    """Judges the objects of an array that a library hashes, and where it can't, tells nobody."""
+    if not set(map(type, items)) <= _QUICK:
+        keys_of(reader, items)
+        try:
+            set(map(hash, items))
+        except TypeError:
+            raise Misused("an object that can't be hashed is given for a key") from None
 
 
 def values(reader: Reader, given: Any) -> None:

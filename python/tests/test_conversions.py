@@ -144,6 +144,27 @@ class Pandas(Conversions):
             "a step": index(pandas.DatetimeIndex, {"data": times, "freq": never, "name": None}),
         }, Guard(lists.PANDAS | lists.DECIMAL))
 
+    def test_keys_of_levels(self):
+        """Before pandas 1.3 a load hashes them, and what it then raises is printed, with lines of
+        files of which the compiled code says the names.
+        """
+        import numpy
+        import pandas
+
+        call = pandas.Index([1]).__reduce__()[0]
+        words = pandas.MultiIndex.from_arrays([[1, 2]]).__reduce__()[1][1]
+        ask = "import pickle, sys; pickle.load(sys.stdin.buffer).levels[0].is_unique"
+        limit = "import resource; resource.setrlimit(resource.RLIMIT_CPU, (3, 3)); "
+        for items in ([doubled(), 1], [[1], 2], [({},), 1]):
+            kept = array(numpy.dtype("O"), (2,), items)
+            level = Call(call, (pandas.Index, {"data": kept, "name": None}))
+            data = pickle.dumps(index(pandas.MultiIndex, {**words, "levels": [level]}), 4)
+            ran = subprocess.run([sys.executable, "-W", "ignore", "-c", limit + ask], input=data,
+                                 stderr=subprocess.DEVNULL)
+            self.assertNotEqual(ran.returncode, 0)  # (the control)
+            with self.assertRaises(Misused):
+                Guard(lists.PANDAS).loads(data)
+
     def test_the_type_of_an_array(self):
         import pandas
 
@@ -175,6 +196,7 @@ class Pandas(Conversions):
             days, days._with_freq(None), pandas.period_range("2020", periods=3, freq="D"),
             pandas.timedelta_range("1s", periods=3), pandas.Index(["a", (1, 2)]),
             pandas.MultiIndex.from_arrays([[1, 2], [3, 4]], names=["a", ("b", 1)]),
+            pandas.MultiIndex.from_arrays([["a", None, 1 << 70], [days[0], 1.5, (1, "b")]]),
             pandas.MultiIndex.from_arrays([[1, 2], [3, 4]], sortorder=0),
             pandas.interval_range(0, 3), pandas.CategoricalIndex(["a", "b"]),
         ):
