@@ -9,7 +9,7 @@ from celery.canvas import chain, chord, group
 from celery.utils.serialization import UnpickleableExceptionWrapper
 from kombu import exceptions as of_kombu
 
-VERSIONS = f"Celery {celery.__version__} and kombu {kombu.__version__}"
+VERSIONS = f"Celery {celery.__version__}, kombu {kombu.__version__}"
 
 
 def _signatures():

@@ -16,6 +16,7 @@ from storklocker import _of_sklearn as _of_sklearns
 from storklocker import _of_torch as _of_torchs
 from storklocker import _random, lists
 from storklocker._names import renamed
+from storklocker._objects import found as found_object
 from storklocker._substitutes import TABLE, substitute_of
 from storklocker.scanning.dangers import danger_of
 
@@ -83,7 +84,9 @@ def is_judged(name, pair):
         return False
     if word_of(name) in catalogued(dotted).lists.split(",") or substitute_of(pair) is not None:
         return True
-    return _is_value(pair) if pair[0].partition(".")[0] in PACKAGES[name] else pair in _shipped()
+    if pair[0].partition(".")[0] in PACKAGES[name] or catalogued(dotted).kind == "value":
+        return _is_value(pair)
+    return pair in _shipped()
 
 
 @functools.lru_cache(maxsize=None)
@@ -144,12 +147,17 @@ def later(name):
     return [pair for pair in made if renamed(pair) == pair]
 
 
-def _of_numpy():
+def _ufuncs():
+    """NumPy's universal functions, by the module that NumPy 1, 2.0 and 2.2 write."""
     import numpy
 
-    ufuncs = [word for word, it in vars(numpy).items() if type(it) is numpy.ufunc]
-    for at in ("numpy.core", "numpy._core"):
-        yield from ((f"{at}._multiarray_umath", word) for word in ufuncs)
+    words = {it.__name__ for it in vars(numpy).values() if type(it) is numpy.ufunc}
+    for at in ("numpy.core._multiarray_umath", "numpy._core._multiarray_umath", "numpy"):
+        yield from ((at, word) for word in words)
+
+
+def _of_numpy():
+    yield from _ufuncs()
     yield from (pair for pair in _of_numpys.TABLE)
     yield from (pair for pair in _random.TABLE)
 
@@ -173,9 +181,9 @@ def _of_sklearn():
     from sklearn import exceptions, feature_selection, metrics
     from sklearn.gaussian_process import kernels
 
-    yield from (pair for pair in _of_numpy() if pair[0].endswith("._multiarray_umath"))
-    yield from (pair for pair in _of_sklearns.TABLE if "dist_metrics" in pair[0] or
-                "_tree" in pair[0] or pair[0].startswith("sklearn._loss"))
+    yield from _ufuncs()
+    yield from (pair for pair in _of_sklearns.TABLE if found_object(*pair) is not None and
+                ("dist_metrics" in pair[0] or "_tree" in pair[0] or "._loss." in pair[0]))
     yield from (pair for pair in _random.TABLE)
     yield from _exceptions(exceptions)
     for module in (kernels, metrics, feature_selection):

@@ -135,7 +135,9 @@ class _Filled(Class):
 def _found(it: Any, module: str, package: str) -> Optional[Substitute]:
     name = f"{module}.{getattr(it, '__qualname__', '')}"
     if package == "numpy":
-        return _of_numpy.substitute_of(it, name)
+        own = _of_numpy.substitute_of(it, name)
+        if own is not None or not (isinstance(it, type) and it.__flags__ & _IS_OF_PYTHON):
+            return own
     if package == "torch":
         found: Optional[Substitute] = _of_torch.substitute_of(it, module)
         return found

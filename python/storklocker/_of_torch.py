@@ -247,7 +247,7 @@ STORAGES = (
     "BFloat16 Bool Byte Char ComplexDouble ComplexFloat Double Float Half Int Long QInt32 QInt8"
     " QUInt2x4 QUInt4x2 QUInt8 Short"
 ).split()
-_UTILS = "torch._utils"
+_UTILS, _DATASETS = "torch._utils", "torch.utils.data.dataset"
 TABLE: Dict[Tuple[str, str], Substitute] = {
     **dict(
         [
@@ -264,6 +264,7 @@ TABLE: Dict[Tuple[str, str], Substitute] = {
     ),
     **{("torch", f"{it}Storage"): Value(f"torch.{it}Storage") for it in STORAGES},
     **{pair: Value(".".join(pair)) for pair in ACTIVATIONS},
+    **{(_DATASETS, it): Class(f"{_DATASETS}.{it}") for it in ("TensorDataset", "Subset")},
 }
 
 

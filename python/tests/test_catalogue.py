@@ -79,6 +79,8 @@ class Rows(unittest.TestCase):
                 self.assertTrue(issubclass(it, BaseException), pair)
             elif answer == "enum":
                 self.assertTrue(issubclass(type(it), (enum.Enum, enum.EnumMeta)), pair)
+            elif answer == "value":
+                self.assertFalse(callable(it), pair)
             elif answer == "its package's":
                 is_error = isinstance(it, type) and issubclass(it, BaseException)
                 self.assertTrue(
