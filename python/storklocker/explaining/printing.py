@@ -8,7 +8,8 @@ from typing import Any, Dict, Iterable, Iterator, List, NamedTuple, Tuple
 from ..scanning.colour import Paint, plain
 from .judged import HIDDEN, Name, names_in, row_of
 from .nodes import BAD, IMPORT, PICKLE, Node
-from .pickles import Followed
+from .payloads import Bill, Opener
+from .pickles import Followed, followed_bytes
 from .writing import Statement, Writer
 
 LINES, BAD_LINES = 400, 40
@@ -27,12 +28,16 @@ class Line(NamedTuple):
     """How bad the names are that it calls or imports; empty if it has none."""
     note: str = ""
     """What is known of the name that it imports."""
+    opened: Tuple[str, ...] = ()
+    """What its arguments hide."""
 
-    def written(self, paint: Paint = plain) -> str:
-        """The line."""
+    def written(self, paint: Paint = plain, front: str = "") -> Iterator[str]:
+        """The statement, and below it what it hides."""
         note = f", {self.note}" if self.note else ""
         text = paint(self.text, self.severity) if self.severity in BAD else self.text
-        return f"{text}  # at {self.at}{note}"
+        yield f"{front}{text}  # at {self.at}{note}" if self.at >= 0 else self.text
+        for place, line in enumerate(self.opened):
+            yield f"{_INDENT}{'        ' if place else 'opened: '}{paint(line, self.severity)}"
 
 
 class Part(NamedTuple):
@@ -69,27 +74,35 @@ class Part(NamedTuple):
         if self.worst:
             yield "# dangerous statements:"
         for line in self.worst:
-            yield f"{_INDENT}{line.written(paint)}"
+            yield from line.written(paint, _INDENT)
         if self.names:
             yield "# all statements:"
         for line in self.lines:
-            yield line.written(paint) if line.at >= 0 else line.text
+            yield from line.written(paint)
 
 
 def part_of(followed: Followed, is_full: bool) -> Part:
     """The explanation of pickles."""
-    worst = tuple(_worst(followed)) if any(map(is_bad, followed.events)) else ()
-    writer = Writer(followed.source, is_full, followed.is_stream)
-    lines = _lines(writer.statements(followed.events), followed, is_full)
+    opener = Opener(followed, _inner)
+    worst = tuple(_worst(followed, opener)) if any(map(is_bad, followed.events)) else ()
+    lines = _lines(followed, opener, is_full)
     names, unlisted = names_in(followed.events)
     return Part(followed.path, followed.kind, tuple(names), unlisted, worst, lines)
 
 
-def _worst(followed: Followed) -> Iterator[Line]:
+def _inner(data: bytes, depth: int, bill: Bill) -> Iterator[str]:
+    """The explanation of a pickle in a payload."""
+    followed = followed_bytes(data, False)
+    for line in _lines(followed, Opener(followed, _inner, depth, bill), False):
+        yield from line.written()
+
+
+def _worst(followed: Followed, opener: Opener) -> Iterator[Line]:
     """The dangerous statements."""
     writer = Writer(followed.source, False, followed.is_stream)
     bad = (it for it in writer.statements(followed.events) if is_bad(it.event))
-    yield from map(_line, itertools.islice(bad, BAD_LINES))
+    for it in itertools.islice(bad, BAD_LINES):
+        yield _line(it, opener)
 
 
 def is_bad(it: Node) -> bool:
@@ -97,16 +110,16 @@ def is_bad(it: Node) -> bool:
     return it.severity in BAD and it.kind != IMPORT
 
 
-def _line(it: Statement) -> Line:
+def _line(it: Statement, opener: Opener) -> Line:
     is_named = it.event.kind == IMPORT or it.event.kind in HIDDEN
     note = row_of(it.event).line if is_named else ""
-    return Line(it.at, "".join(it.pieces), it.event.severity, note)
+    opened = tuple(opener.lines(it.event)) if is_bad(it.event) else ()
+    return Line(it.at, "".join(it.pieces), it.event.severity, note, opened)
 
 
-def _lines(
-    statements: Iterator[Statement], followed: Followed, is_full: bool
-) -> Iterator[Line]:
+def _lines(followed: Followed, opener: Opener, is_full: bool) -> Iterator[Line]:
     """All statements, up to a number of them, and where readers stop."""
+    statements = Writer(followed.source, is_full, followed.is_stream).statements(followed.events)
     fault, why = followed.refusal
     count = left = 0
     for it in statements:
@@ -115,20 +128,24 @@ def _lines(
             fault = -1
         count += 1
         if count <= LINES or is_full:
-            yield Line(-1, "".join(it.pieces), "") if it.event.kind == PICKLE else _line(it)
+            yield _comment("".join(it.pieces)) if it.event.kind == PICKLE else _line(it, opener)
         else:
             left += 1
     if left:
-        yield Line(-1, f"# ... {left:,} more statements (--full has them)", "")
+        yield _comment(f"# ... {left:,} more statements (--full has them)")
     if fault >= 0:
-        yield Line(-1, f"# here a reader stops: {why} at {fault}", "")
+        yield _comment(f"# here a reader stops: {why} at {fault}")
     if followed.end:
-        yield Line(-1, f"# {followed.end}", "")
+        yield _comment(f"# {followed.end}")
 
 
 def _stopped(fault: int, why: str) -> List[Line]:
     """What is said in front of statements that not all readers get to."""
     return [
-        Line(-1, f"# here a reader stops: {why} at {fault}", ""),
-        Line(-1, "# what the most lenient reader does behind it:", ""),
+        _comment(f"# here a reader stops: {why} at {fault}"),
+        _comment("# what the most lenient reader does behind it:"),
     ]
+
+
+def _comment(text: str) -> Line:
+    return Line(-1, text, "")

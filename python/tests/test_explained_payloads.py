@@ -1,0 +1,126 @@
+"""What `explain` opens: hidden commands, beside a reader of CPython that runs them."""
+
+import base64
+import gzip
+import lzma
+import pickle
+import random
+import unittest
+import zlib
+
+import explained_hostile
+import storklocker
+from common import python
+from storklocker.explaining.brief import brief
+from storklocker.explaining.marshalled import NotRead, code_in
+
+# `import os; def f(x): return os.system('id'); f(1 << 80)`, as Python 3.8 and 3.13 marshal it.
+MARSHALLED = {
+    "code of Python 3.8 to 3.10": (
+        "YwAAAAAAAAAAAAAAAAAAAAACAAAAQAAAAHMcAAAAZABkAWwAWgBkAmQDhABaAWUBZASDAQEAZAFTACkF6QAAAABO"
+        "YwEAAAAAAAAAAAAAAAEAAAADAAAAQwAAAHMKAAAAdACgAWQBoQFTACkCTtoCaWQpAtoCb3PaBnN5c3RlbSkB2gF4"
+        "qQByBQAAAPoDPHg+2gFmAgAAAPMAAAAAcgcAAABsBgAAAAAAAAAAAAAAAAAgACkCcgIAAAByBwAAAHIFAAAAcgUA"
+        "AAByBQAAAHIGAAAA2gg8bW9kdWxlPgEAAABzBAAAAAgBCAE="
+    ),
+    "code of Python 3.11 or later": (
+        "YwAAAAAAAAAAAAAAAAMAAAAAAAAA8yIAAACVAFMAUwFLAHIAUwIaAHIBXAEiAFMDNQEAAAAAAAAgAGcBKQTpAAAA"
+        "AE5jAQAAAAAAAAAAAAAAAwAAAAMAAADzLgAAAJUAWwAAAAAAAAAAAFICAAAAAAAAAAAAAAAAAAAAAAAAIgBTATUB"
+        "AAAAAAAAJAApAk7aAmlkKQLaAm9z2gZzeXN0ZW0pAdoBeHMBAAAAINoDPHg+2gFmcggAAAACAAAAcw8AAACAAJQS"
+        "lxmSGZg0kx/QCiDzAAAAAGwGAAAAAAAAAAAAAAAAACAAKQJyBAAAAHIIAAAAqQByCQAAAHIHAAAA2gg8bW9kdWxl"
+        "PnILAAAAAQAAAHMSAAAA8AMBAQHbAAnaACDZAAGAJYUIcgkAAAA="
+    ),
+}
+MOST = 60_000
+
+
+def said(data):
+    """The explanation of a pickle."""
+    return str(storklocker.explain(data))
+
+
+class Hidden(unittest.TestCase):
+    def test_commands(self):
+        """The command of each pickle that runs one in a reader can be read."""
+        ran = set(python("import explained_hostile; explained_hostile.run()").splitlines())
+        named = dict(explained_hostile.hidden())
+        self.assertGreaterEqual(len(named), 100)
+        self.assertGreaterEqual(len(ran), 95)
+        self.assertLessEqual(ran, set(named))
+        commands = (explained_hostile.COMMAND, f"'touch', '{explained_hostile.MARK}'")
+        for name in ran:
+            with self.subTest(name):
+                self.assertTrue(any(it in said(named[name]) for it in commands))
+
+    def test_examples_of_the_catalogue(self):
+        """Each dangerous name has an example, which tests let harm."""
+        code = "import explained_hostile; print(*explained_hostile.examples())"
+        count, *unread = python(code, "-W", "ignore").split()
+        self.assertGreater(int(count), 100)
+        self.assertEqual(unread, [])
+
+    def test_nothing_runs(self):
+        """A payload is never loaded or called here: `exec` of this would end the process."""
+        code = pickle.dumps(explained_hostile.Call(exec, b"import os; os._exit(1)"))
+        loads = explained_hostile.Call(pickle.loads, code)
+        self.assertIn("_exit(1)", said(pickle.dumps(loads)))
+
+    def test_bombs(self):
+        """What unpacks to much, or is joined to much, stays shut."""
+        call, much = explained_hostile.Call, bytes(1 << 26)
+        join = explained_hostile.bound(b"a", "join")
+        deep = call(join, [b"b"] * 2000)
+        for _ in range(4):
+            deep = call(join, [deep, deep] * 500)
+        inner = pickle.dumps(1)
+        for _ in range(3):
+            inner = pickle.dumps([call(pickle.loads, inner + bytes([it])) for it in range(20)])
+        front = b"cbuiltins\nexec\n(cbuiltins\nlist\n"
+        for name, data in (
+            ("zlib", pickle.dumps(call(exec, call(zlib.decompress, zlib.compress(much, 9))))),
+            ("gzip", pickle.dumps(call(exec, call(gzip.decompress, gzip.compress(much, 9))))),
+            ("lzma", pickle.dumps(call(exec, call(lzma.decompress, lzma.compress(much))))),
+            ("join", pickle.dumps(call(exec, deep))),
+            ("pickles in pickles", inner),
+            ("a tuple doubled", front + b"(K\x01" + b"2\x86" * 60 + b"tRtR."),
+        ):
+            with self.subTest(name):
+                self.assertLess(len(said(data)), MOST)
+
+    def test_too_deep(self):
+        inner = pickle.dumps(explained_hostile.Call(print, "at the end"))
+        for _ in range(8):
+            inner = pickle.dumps(explained_hostile.Call(pickle.loads, inner))
+        self.assertIn("at the end", said(inner))
+        more = said(pickle.dumps(explained_hostile.Call(pickle.loads, inner)))
+        self.assertIn("it isn't opened: there are too many payloads", more)
+
+
+class Marshalled(unittest.TestCase):
+    def test_names_and_constants(self):
+        for version, text in MARSHALLED.items():
+            outer, inner = code_in(base64.b64decode(text)).lines()
+            self.assertIn(version, outer)
+            self.assertIn("names os, f;", outer)
+            self.assertIn(str(1 << 80), outer)
+            self.assertIn("names os, system; constants None, 'id'", inner)
+
+    def test_hostile_bytes(self):
+        """Whatever the bytes are, they are code or aren't."""
+        chosen = random.Random(4)
+        for text in MARSHALLED.values():
+            for _ in range(3000):
+                data = bytearray(base64.b64decode(text))
+                for _ in range(chosen.randrange(1, 4)):
+                    data[chosen.randrange(len(data))] = chosen.randrange(256)
+                try:
+                    list(code_in(bytes(data)).lines())
+                except NotRead:
+                    pass
+        doubled = (1,)
+        for _ in range(60):
+            doubled = (doubled, doubled)
+        self.assertLess(len(brief(doubled)), 200)
+
+
+if __name__ == "__main__":
+    unittest.main()
