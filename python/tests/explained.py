@@ -109,7 +109,10 @@ def _reprs(values):
 
 
 def _reduced(it):
-    found = it.__reduce_ex__(4)
+    try:
+        found = it.__reduce_ex__(4)
+    except TypeError:  # (a union of types, which copyreg pickles)
+        return repr(it)
     if isinstance(found, str):
         return found
     return [list(part) if hasattr(type(part), "__next__") else part for part in found]

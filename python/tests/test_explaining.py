@@ -1,15 +1,11 @@
 """What `explain` says of pickles: beside what readers do, and what its statements do when they run.
 """
 
-import base64
 import io
 import json
 import pickle
 import random
-import subprocess
-import sys
 import unittest
-import zlib
 
 import explained
 import explained_events
@@ -147,6 +143,17 @@ class Explaining(unittest.TestCase):
         self.assertEqual(made["verdict"], "dangerous")
         self.assertEqual(made["pickles"][0]["statements"][1]["text"], "x0 = system('id')")
         self.assertEqual(self.run_command("explain", self.put("cut", b"\x80\x04]"))[0], 2)
+
+    def test_in_reports(self):
+        """A page and SARIF say what a dangerous pickle does."""
+        inner = b"cos\nsystem\n(S'touch M'\ntR."
+        data = b"cpickle\nloads\n(B" + len(inner).to_bytes(4, "little") + inner + b"tR."
+        path = self.put("hostile", data)
+        for form, quote in (("html", "&#x27;"), ("sarif", "'")):
+            out = self.run_command("scan", path, "--format", form)[1]
+            self.assertIn(f"x0 = system({quote}touch M{quote})", out)
+        out = self.run_command("scan", self.put("plain", pickle.dumps(1)), "--format", "html")[1]
+        self.assertNotIn("What it does", out)
 
     @needs("module:jsonschema")
     def test_schema(self):

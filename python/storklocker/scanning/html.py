@@ -127,6 +127,9 @@ def _what(report: Report) -> str:
         is_open = " open" if len(names) <= _SHOWN else ""
         parts.append(f"<details{is_open}><summary>{_counted(len(names))}</summary>")
         parts.append(f"{', '.join(names)}</details>")
+    if report.explained:
+        parts.append("<details open><summary>What it does</summary><pre tabindex=0>")
+        parts.append("\n".join(map(_text, report.explained)) + "</pre></details>")
     if report.listing:
         lines = [
             f"<span class={'here' if line.at == report.at else 'line'}>{_text(line.line)}</span>"

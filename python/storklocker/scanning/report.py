@@ -91,6 +91,8 @@ class Report(NamedTuple):
     """The path of the file, without the member."""
     verdict: Optional[Word] = None
     """The worst word of all reports on the file, if there are several."""
+    explained: Tuple[str, ...] = ()
+    """What its dangerous statements do, in a report for people."""
 
     @property
     def is_finding(self) -> bool:
@@ -124,6 +126,7 @@ class Report(NamedTuple):
     def as_dict(self) -> Dict[str, Any]:
         """The report for JSON."""
         made: Dict[str, Any] = {"version": VERSION, **self._asdict(), "status": self.status.value}
+        del made["explained"]
         made["verdict"] = (self.verdict or self.status).value
         made["imports"] = [list(pair) for pair in self.imports]
         made["missing"] = [list(pair) for pair in self.missing]
@@ -134,7 +137,7 @@ class Report(NamedTuple):
 
 def report_of(made: Dict[str, Any]) -> Report:
     """The report that `as_dict` has made this of."""
-    fields: Dict[str, Any] = {name: made[name] for name in Report._fields}
+    fields: Dict[str, Any] = {name: made[name] for name in Report._fields if name != "explained"}
     fields.update({name: Word(made[name]) for name in ("status", "verdict")})
     for name in ("imports", "missing"):
         fields[name] = tuple((pair[0], pair[1]) for pair in made[name])

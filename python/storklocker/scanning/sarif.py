@@ -103,6 +103,8 @@ def _result(report: Report, finding: Finding) -> Dict[str, Any]:
     text = finding.line
     if finding.kind == "refused" and report.missing:
         text += f"; off the list: {', '.join(dotted(pair) for pair in report.missing)}"
+    if finding.severity == DANGER and report.explained:
+        text += f" It does: {'; '.join(it.strip('# ') for it in report.explained)}"
     place: Dict[str, Any] = {
         "physicalLocation": {"artifactLocation": _artifact(report.file), "region": _PLACE}
     }

@@ -35,6 +35,10 @@ def lines(asked: argparse.Namespace, reports: Iterable[Report], told: Summary) -
     reports = without_known(reports)
     if asked.format == "table":
         return _table(asked, reports, told)
+    if asked.format in ("sarif", "html"):
+        from ..explaining.reports import explained
+
+        reports = explained(reports)
     if asked.format == "sarif":
         from . import sarif
 
