@@ -34,7 +34,10 @@ extern "C" {
 
 #define STORKLOCKER_VERSION "0.3.0.dev23"
 
-/* The version of the running library; STORKLOCKER_VERSION is the version of this header. */
+/* The version of the running library; STORKLOCKER_VERSION is the version of this header.
+
+       assert(strcmp(storklocker_version(), STORKLOCKER_VERSION) == 0);
+*/
 const char *storklocker_version(void);
 
 /* A pair of a module and a name, in UTF-8. A pair that isn't UTF-8 permits nothing. The caller owns
@@ -64,8 +67,8 @@ enum storklocker_row_memo {
    4,294,967,295 for `numbers`, and 4,294,967,295 for `counted`, `stack` and `memo` if `large` is
    1. */
 struct storklocker_settings {
-    uint64_t size;        /* sizeof(struct storklocker_settings), which tells the library what
-                             fields the caller's header has. Later versions add fields at the end,
+    uint64_t size;        /* sizeof(struct storklocker_settings), by which the library knows the
+                             fields of the caller's header. Later versions add fields at the end,
                              and use the standard values for missing ones */
     uint64_t counted;     /* bytes in the payload of a counted argument; 16,777,216 */
     uint64_t stack;       /* stack entries, marks included; 1,000,000 */
@@ -184,17 +187,38 @@ enum storklocker_fault {
 
 /* The name of a reason, such as "ImportOffList", or of a fault, such as "Shape(Imports)": static
    text, as the program prints it, without the number or the pair that follows some reasons. Empty
-   for any other number. */
+   for any other number.
+
+       assert(strcmp(storklocker_reason_text(STORKLOCKER_TRUNCATED), "Truncated") == 0);
+       assert(strcmp(storklocker_fault_text(STORKLOCKER_LIST_SYNTAX), "Syntax") == 0);
+*/
 const char *storklocker_reason_text(uint32_t reason);
 const char *storklocker_fault_text(uint32_t fault);
 
-/* Each call below returns the status, which is also in the verdict. */
+/* Each call below returns the status, which is also in the verdict. In the examples, BYTES(text) is
+   a pointer to the bytes of a literal and their number:
+
+       #define BYTES(text) (const uint8_t *)text, sizeof text - 1
+*/
 
 /* Checks the pickle at the front of the bytes under pairs. Bytes after its STOP are ignored. If the
    pairs are sorted by module and then by name, byte for byte, a listed pair is found in logarithmic
    time; any other order gives the same answer, unless `sorted` is set. A check with limits on costs
    takes twice as long or more; storklocker_check_within mostly doesn't. Never returns
-   STORKLOCKER_NO_LIST. */
+   STORKLOCKER_NO_LIST.
+
+       const struct storklocker_pair allowed[] = {{BYTES("datetime"), BYTES("date")}};
+       uint8_t room[100];
+       struct storklocker_verdict verdict;
+       storklocker_check_pairs(allowed, 1, NULL, BYTES("cdatetime\ndate\n."), room, sizeof room,
+                               &verdict);
+       assert(verdict.status == STORKLOCKER_YES && verdict.taken == 16 && verdict.imports == 1);
+       storklocker_check_pairs(allowed, 1, NULL, BYTES("cos\nsystem\n(Vecho gone\ntR."), room,
+                               sizeof room, &verdict);
+       assert(verdict.status == STORKLOCKER_NO && verdict.at == 0);
+       assert(verdict.reason == STORKLOCKER_IMPORT_OFF_LIST && verdict.has_pair);
+       assert(memcmp(room, "ossystem", verdict.module_length + verdict.name_length) == 0);
+*/
 uint32_t storklocker_check_pairs(
     const struct storklocker_pair *pairs, size_t pair_count,
     const struct storklocker_settings *settings,
@@ -205,7 +229,16 @@ uint32_t storklocker_check_pairs(
 /* Like storklocker_check_pairs, without the bill: in the verdict, `levels` to `memory` are 0. If
    costs are limited, but not the memory, a bound from above suffices for most pickles without BUILD
    in which at most some ten tuples hold other tuples or what the memo holds: their check takes a
-   tenth to a half more than one without limits. */
+   tenth to a half more than one without limits.
+
+       struct storklocker_settings settings = STORKLOCKER_STANDARD;
+       struct storklocker_verdict verdict;
+       settings.levels = 1;
+       storklocker_check_within(NULL, 0, &settings, BYTES("}K\1\205Ns."), NULL, 0, &verdict);
+       assert(verdict.status == STORKLOCKER_YES);
+       storklocker_check_within(NULL, 0, &settings, BYTES("}K\1\205\205Ns."), NULL, 0, &verdict);
+       assert(verdict.reason == STORKLOCKER_DEEP_KEY && verdict.at == 6);
+*/
 uint32_t storklocker_check_within(
     const struct storklocker_pair *pairs, size_t pair_count,
     const struct storklocker_settings *settings,
@@ -216,7 +249,13 @@ uint32_t storklocker_check_within(
 /* Like storklocker_check_pairs, with the text of a list file, which is parsed on every call; to
    parse it once, use storklocker_read_list. Each limit is the smaller of the list's and the
    settings'. The `large` and `sorted` of the settings are ignored. A limit on costs, of the list
-   or of the settings, is STORKLOCKER_USAGE: read the list, and check under its pairs. */
+   or of the settings, is STORKLOCKER_USAGE: read the list, and check under its pairs.
+
+       uint32_t status = storklocker_check_list(
+           BYTES("version = 1\n[imports]\ndatetime = ['date']\n"), NULL,
+           BYTES("cdatetime\ndate\n."), NULL, 0, NULL);
+       assert(status == STORKLOCKER_YES);
+*/
 uint32_t storklocker_check_list(
     const uint8_t *list, size_t list_length,
     const struct storklocker_settings *settings,
@@ -227,7 +266,14 @@ uint32_t storklocker_check_list(
 /* Checks one or more pickles that follow one another up to the end of the bytes. If all are
    accepted, `taken` is the number of all bytes, and `imports` that of all imports. If one is
    refused, `pickles` were accepted before it, and `at` counts from the first byte. Never returns
-   STORKLOCKER_NO_LIST. */
+   STORKLOCKER_NO_LIST.
+
+       struct storklocker_verdict verdict;
+       storklocker_check_row(NULL, 0, NULL, BYTES("N.K\1."), NULL, 0, &verdict);
+       assert(verdict.status == STORKLOCKER_YES && verdict.pickles == 2 && verdict.taken == 5);
+       storklocker_check_row(NULL, 0, NULL, BYTES("N.K\1"), NULL, 0, &verdict);
+       assert(verdict.reason == STORKLOCKER_TRUNCATED && verdict.pickles == 1 && verdict.at == 4);
+*/
 uint32_t storklocker_check_row(
     const struct storklocker_pair *pairs, size_t pair_count,
     const struct storklocker_settings *settings,
@@ -235,19 +281,56 @@ uint32_t storklocker_check_row(
     uint8_t *room, size_t room_length,
     struct storklocker_verdict *verdict);
 
-/*
- * The four calls below write pairs to `room`. A pair is the length of its module as eight
- * little-endian bytes, the module, the length of its name as eight such bytes, and the name.
- * `wanted` receives the number of bytes that all pairs need, at most UINT64_MAX. If `room` is
- * smaller, it stays unchanged: allocate a larger one and call again.
- */
+/* The four calls below write pairs to `room`. A pair is the length of its module as eight
+   little-endian bytes, the module, the length of its name as eight such bytes, and the name.
+   `wanted` receives the number of bytes that all pairs need, at most UINT64_MAX. If `room` is
+   smaller, it stays unchanged: allocate a larger one and call again. This finds the pairs there,
+   which take at least 16 bytes each:
+
+       static size_t length_at(const uint8_t *bytes) {
+           uint64_t length = 0;
+           for (int k = 7; k >= 0; k--)
+               length = length << 8 | bytes[k];
+           return (size_t)length;
+       }
+
+       static size_t find_pairs(const uint8_t *at, uint64_t wanted,
+                                struct storklocker_pair *pairs) {
+           const uint8_t *end = at + wanted;
+           size_t count = 0;
+           for (; at < end; count++) {
+               pairs[count].module_length = length_at(at);
+               pairs[count].module_name = at + 8;
+               at += 8 + pairs[count].module_length;
+               pairs[count].name_length = length_at(at);
+               pairs[count].name = at + 8;
+               at += 8 + pairs[count].name_length;
+           }
+           return count;
+       }
+*/
 
 /* Reads the text of a list file, and returns STORKLOCKER_YES, or STORKLOCKER_NO_LIST with the
    fault. The pairs are in the byte order of their modules, and within a module in the order of its
    array, repetitions included. `limits` receives the limits of the list, and the standard value of
    each that the list leaves out; set its `size` before the call. Its other fields receive their
    standard values. STORKLOCKER_USAGE: the list limits costs, and `limits` is of an earlier version,
-   which can't say so. */
+   which has no fields for them.
+
+       uint8_t room[100];
+       uint64_t wanted;
+       struct storklocker_settings limits = STORKLOCKER_STANDARD;
+       struct storklocker_pair pairs[sizeof room / 16];
+       uint32_t status = storklocker_read_list(
+           BYTES("version = 2\n[imports]\nshop = ['Item', 'Order']\n[limits]\nlevels = 9\n"),
+           room, sizeof room, &limits, &wanted, NULL);
+       assert(status == STORKLOCKER_YES && wanted <= sizeof room && limits.levels == 9);
+       size_t count = find_pairs(room, wanted, pairs);
+       assert(count == 2 && memcmp(pairs[1].name, "Order", 5) == 0);
+       status = storklocker_check_pairs(pairs, count, &limits, BYTES("cshop\nOrder\n."), NULL, 0,
+                                        NULL);
+       assert(status == STORKLOCKER_YES);
+*/
 uint32_t storklocker_read_list(
     const uint8_t *list, size_t list_length,
     uint8_t *room, size_t room_length,
@@ -265,7 +348,15 @@ struct storklocker_said {
 /* Reads the text of a list file, and returns STORKLOCKER_YES, or STORKLOCKER_NO_LIST with the
    fault. `said` receives which keys it has. The pairs are the rows of its table `substitutes`, in
    the byte order of their names: a name, and what stands for it when a pickle is loaded. No check
-   depends on them; a loader that doesn't know them must not load under the list. */
+   depends on them; a loader that doesn't know them must not load under the list.
+
+       uint64_t wanted;
+       struct storklocker_said said;
+       uint32_t status = storklocker_list_told(
+           BYTES("version = 2\n[imports]\n[limits]\nlevels = 9\n"), NULL, 0, &said, &wanted, NULL);
+       assert(status == STORKLOCKER_YES && said.limits == 1 && said.levels == 1 && said.build == 0);
+       assert(wanted == 0);  // it has no substitutes
+*/
 uint32_t storklocker_list_told(
     const uint8_t *list, size_t list_length,
     uint8_t *room, size_t room_length,
@@ -277,11 +368,22 @@ uint32_t storklocker_list_told(
    order, each as often as it occurs. If it is refused, they are those of the instructions before
    `at`, which a reader may run before it fails: some run gets there, and each run that does has
    made exactly these imports. EXT1, EXT2 and EXT4 import what the reader's registry says, so they
-   are refused, and only the reason tells of them. An import whose pair the pickle doesn't reveal
+   are refused, and only the reason reports them. An import whose pair the pickle doesn't reveal
    has UINT64_MAX for both lengths, and no bytes. Check `wanted` against a bound before you
    allocate: a pickle of a megabyte may need gigabytes, because a text that it names a thousand
    times is copied a thousand times. At STORKLOCKER_USAGE, `wanted` is 0. Limits on costs are
-   ignored. Never returns STORKLOCKER_NO_LIST. */
+   ignored. Never returns STORKLOCKER_NO_LIST.
+
+       uint8_t room[100];
+       uint64_t wanted;
+       struct storklocker_pair pairs[sizeof room / 16];
+       uint32_t status = storklocker_imports(
+           NULL, BYTES("cos\nsystem\n(Vecho gone\ntR."), room, sizeof room, &wanted, NULL);
+       assert(status == STORKLOCKER_YES && wanted <= sizeof room);
+       assert(find_pairs(room, wanted, pairs) == 1);
+       assert(memcmp(pairs[0].module_name, "os", 2) == 0);
+       assert(memcmp(pairs[0].name, "system", 6) == 0);
+*/
 uint32_t storklocker_imports(
     const struct storklocker_settings *settings,
     const uint8_t *pickle, size_t pickle_length,
@@ -291,7 +393,16 @@ uint32_t storklocker_imports(
 
 /* Like storklocker_imports, within the limits on costs of the settings. If loading the pickle
    exceeds one, the reason is that of storklocker_check_pairs, and `wanted` is 0: its imports aren't
-   told. */
+   written.
+
+       uint64_t wanted;
+       struct storklocker_verdict verdict;
+       struct storklocker_settings settings = STORKLOCKER_STANDARD;
+       settings.levels = 1;
+       storklocker_imports_loading(&settings, BYTES("ca\nb\n0}K\1\205\205Ns."), NULL, 0, &wanted,
+                                   &verdict);
+       assert(verdict.reason == STORKLOCKER_DEEP_KEY && wanted == 0);
+*/
 uint32_t storklocker_imports_loading(
     const struct storklocker_settings *settings,
     const uint8_t *pickle, size_t pickle_length,

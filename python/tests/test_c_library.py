@@ -15,8 +15,28 @@ SOURCES = [str(PYTHON / "storklocker.c"), str(PYTHON / "heap.c")]
 SANITIZED = "-O1 -g -fno-omit-frame-pointer -fsanitize=address,undefined -fno-sanitize-recover=all"
 WRAPPED = "-Wl,--wrap=malloc,--wrap=realloc,--wrap=free"
 STRICT = "-Wall -Wextra -Wpedantic -Wconversion -Wshadow -Wmissing-prototypes -Werror"
+# A comment of the header, and an example in it, which is indented as in Markdown.
+COMMENT = re.compile(r"(?ms)^/\* ?(.*?)\*/")
+EXAMPLE = re.compile(r"(?m)^ {7}\S.*\n(?:(?: {7}.*)?\n)*")
 CALLS = ["check_list", "check_pairs", "check_row", "check_within", "fault_text", "imports",
          "imports_loading", "list_told", "read_list", "reason_text", "version"]
+
+
+def program_of(header):
+    """A program that runs the examples of the header in their order, and what each calls. One that
+    begins with `#` or `static` is for those after it.
+    """
+    parts, calls = [], []
+    for comment in COMMENT.findall(header):
+        for example in EXAMPLE.findall(comment):
+            if not example.lstrip().startswith(("#", "static")):
+                calls.append(re.findall(r"storklocker_(\w+)\(", example))
+                example = f"static void example_{len(calls)}(void) {{\n{example}}}\n"
+            parts.append(example)
+    ran = "".join(f"example_{number + 1}();\n" for number in range(len(calls)))
+    names = "".join(f"#include <{name}.h>\n" for name in ("assert", "string"))
+    lines = [names, '#include "storklocker.h"\n', *parts, f"int main(void) {{\n{ran}}}\n"]
+    return "".join(lines), {call for names in calls for call in names}
 
 
 class Library(unittest.TestCase):
@@ -35,6 +55,17 @@ class Library(unittest.TestCase):
             program = compiled(self.folder, TESTS / name, *words, ARCHIVE)
             ran = subprocess.run([program], capture_output=True, text=True)
             self.assertEqual((ran.returncode, ran.stdout, ran.stderr), (0, "", ""), name)
+
+    @needs(COMPILER, ARCHIVE)
+    def test_examples_of_the_header(self):
+        text, calls = program_of((PACKAGE / "storklocker.h").read_text())
+        self.assertEqual(sorted(calls), CALLS)
+        source = self.folder / "examples.c"
+        source.write_text(text)
+        words = [*STRICT.split(), *SANITIZED.split()]
+        program = compiled(self.folder, source, *words, *SOURCES, ARCHIVE)
+        ran = subprocess.run([program], capture_output=True, text=True)
+        self.assertEqual((ran.returncode, ran.stdout, ran.stderr), (0, "", ""))
 
     @needs(ARCHIVE, "objdump")
     def test_functions_in_an_order_are_there(self):
