@@ -25,8 +25,6 @@ MOST_CLICKS = 2
 LONG_SENTENCE = 9
 # What docs/THEOREM.md says in words, shown.
 SESSION = "examples/yes-and-no.txt"
-# The tests that have the lines of the examples in the crates' documents.
-EXAMPLES = "crates/pkrows/src/examples.rt"
 # The documents that don't count: a reader looks things up in them.
 NO_PAPERS = re.compile(r"docs/(THEOREM|DECISIONS)\.md|CHANGELOG\.md|LICEN[CS]E.*")
 
@@ -135,20 +133,6 @@ def sentences_twice(found: List[Document]) -> Iterator[Fault]:
             yield Fault(name, line, f"{sentence!r} stands in {where[0][0]}:{where[0][1]} too")
 
 
-def untried_examples() -> Iterator[Fault]:
-    """Examples in the documents of crates whose lines no test has."""
-    tried = "\n".join(line.strip() for line in text_of(EXAMPLES).splitlines())
-    for path in FILES:
-        name = path.relative_to(ROOT).as_posix()
-        if path.suffix == ".rt" and "/src/" in name:
-            text = text_of(name)
-            for match in re.finditer(r"(?ms)^ *//[/!] ```rust\n(.*?)^ *//[/!] ```$", text):
-                example = re.sub(r"(?m)^ *//[/!] ?", "", match[1])
-                if example not in tried:
-                    line = text.count("\n", 0, match.start()) + 1
-                    yield Fault(name, line, f"no test of {EXAMPLES} has this example")
-
-
 CHECKS = [
     long_lines,
     dead_links,
@@ -164,7 +148,6 @@ def faults_of_all(found: List[Document]) -> Iterator[List[Fault]]:
     yield list(too_many_words(found))
     yield list(long_lines_of_scripts())
     yield list(far_answers(found))
-    yield list(untried_examples())
     yield list(sentences_twice(found))
     yield list(specified.wrong_names())
     for check in figures.OF_ALL:

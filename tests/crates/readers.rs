@@ -7,7 +7,6 @@ use pkread::{
     Frames, Head, Input, Memory, Next, Reader, Reason, Refusal, Source, frame_argument, genops,
     lend,
 };
-use std::alloc::Global;
 use std::process::Abort;
 use std::test::Fail;
 
@@ -185,24 +184,6 @@ fn the_number_that_frames_want(rt: HostRuntime) {
         };
         assert_eq!(rt; number, Some(wanted));
     }
-}
-
-// The example in the documentation of `Reader`.
-fn count<R: Source>(alloc: Global, source: &mut R) -> Result<u64, Refusal> {
-    let mut reader = Reader::new(alloc, source, &Limits::STANDARD);
-    let mut count = 0u64;
-    for _ in 0..u64::MAX {
-        match reader.next()? {
-            Next::Inst { .. } => count = count.wrapping_add(1),
-            Next::Ended => break,
-        }
-    }
-    Ok(count)
-}
-
-#[test]
-fn instructions_are_counted(rt: HostRuntime) {
-    assert_eq!(rt; count(rt.alloc(), &mut Memory::new(b"N.")), Ok(2));
 }
 
 #[test]

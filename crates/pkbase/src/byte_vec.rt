@@ -18,6 +18,15 @@ const SHORT: usize = 64;
 
 /// Bytes that grow and shrink at their end. The store never shrinks, and is longer than the bytes
 /// in use, so that a short piece is copied without a call.
+///
+/// ```rust
+/// use pkbase::ByteVec;
+///
+/// let mut bytes = ByteVec::new(alloc);
+/// bytes.push(b"pickle")?;
+/// bytes.truncate(4);
+/// assert_eq!(rt; bytes.bytes(), b"pick".as_slice());
+/// ```
 #[derive(Debug, Drop)]
 pub struct ByteVec {
     store: Vec<u8>,

@@ -26,6 +26,15 @@ pub enum NotStored {
 ///
 /// Where each new number is the one behind the last, a value takes no more than its place in a
 /// vector, and storing it or finding it takes a few instructions, whatever the first number is.
+///
+/// ```rust
+/// use pkbase::NumberedMap;
+///
+/// let mut memo = NumberedMap::new(alloc, 0u8);
+/// memo.store_next(10)?;
+/// memo.store(4_000_000_000, 20)?;
+/// assert_eq!(rt; (memo.get(0), memo.get(4_000_000_000), memo.get(1)), (Some(10), Some(20), None));
+/// ```
 #[derive(Drop)]
 pub struct NumberedMap<V> {
     /// The entries of numbers below `first`.

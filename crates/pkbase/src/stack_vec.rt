@@ -9,6 +9,16 @@ use std::marker::Model;
 
 /// A vector that grows and shrinks at its end, for values that are copied. The store never shrinks,
 /// so a push into a place that was in use before is a plain move.
+///
+/// ```rust
+/// use pkbase::StackVec;
+///
+/// let mut stack = StackVec::new(alloc, 0u8);
+/// stack.push(1)?;
+/// stack.push(2)?;
+/// assert_eq!(rt; stack.pop(), Some(2));
+/// assert_eq!(rt; stack.entries(), [1].as_slice());
+/// ```
 #[derive(Debug, Drop)]
 pub struct StackVec<T> {
     /// The entries, and behind them values that aren't in use.

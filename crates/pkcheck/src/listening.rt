@@ -46,6 +46,40 @@ pub trait Listener {
 /// the instructions in order: the accepted ones, and the refused one if it was read completely and
 /// is admitted. Payloads are held instead of skipped, so `counted` limits all of them.
 ///
+/// ```rust
+/// use pkcheck::{Listener, Policy, check_heard};
+/// use pkops::{Inst, Limits};
+/// use pkread::{Memory, ReadFailed};
+///
+/// #[derive(Drop)]
+/// struct Deepest {
+///     marks: usize,
+/// }
+///
+/// impl Listener for Deepest {
+///     ghost use Rattle.std.specs.Prelude.{⊤};
+///
+///     type Error = ReadFailed;
+///
+///     ghost hears = { λ old new heard. ⊤ };
+///
+///     fn hear(&mut self, _at: u64, _inst: &Inst<'_>, marks: usize) -> Result<(), ReadFailed> {
+///         self.marks = self.marks.max(marks);
+///         Ok(())
+///     }
+///
+///     ghost hears_none = { λ x. tt };
+///
+///     ghost hears_more = { λ x y z hs h a b. tt };
+/// }
+///
+/// let mut deepest = Deepest { marks: 0 };
+/// let mut source = Memory::new(b"((K\x01tK\x02t.");
+/// let (any, limits) = (Policy::AnyImport, Limits::STANDARD);
+/// let yes = check_heard(alloc, &mut source, &any, &limits, &mut deepest)??;
+/// assert_eq!(rt; (yes.taken, deepest.marks), (9, 2));
+/// ```
+///
 /// # Errors
 ///
 /// The listener's error, which ends the check. By then it has heard every earlier instruction, and

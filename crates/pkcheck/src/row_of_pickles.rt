@@ -60,6 +60,22 @@ impl Error for NoAll {}
 /// Reads one pickle after another, up to the end of the source, and checks each as
 /// [`check_as`](crate::check_as) does, with a fresh memo: this is [`check_all_loaded`] with
 /// [`Memo::Fresh`].
+///
+/// ```rust
+/// use pkcheck::{OldStrings, Policy, check_all};
+/// use pkops::Limits;
+/// use pkread::{Memory, Reason};
+///
+/// let (any, limits) = (Policy::AnyImport, Limits::STANDARD);
+/// let mut source = Memory::new(b"N.K\x01.");
+/// let yes = check_all(alloc, &mut source, &any, &limits, OldStrings::Unknown)?;
+/// assert_eq!(rt; (yes.pickles, yes.taken), (2, 5));
+/// let mut source = Memory::new(b"N.K\x01");
+/// let Err(no) = check_all(alloc, &mut source, &any, &limits, OldStrings::Unknown) else {
+///     panic!(rt; "a pickle without STOP is accepted");
+/// };
+/// assert_eq!(rt; (no.pickle, no.no.at, no.no.reason), (1, 4, Reason::Truncated));
+/// ```
 pub fn check_all<R: Source>(
     alloc: Global,
     source: &mut R,
@@ -92,6 +108,22 @@ pub fn check_all<R: Source>(
 /// A `YesAll` covers at least one pickle. A `NoAll` names the first refused pickle; if it is
 /// unknown whether another pickle begins, because the source failed or 2^64 - 1 bytes were taken,
 /// it names that one.
+///
+/// ```rust
+/// use pkcheck::{Loading, Memo, OldStrings, Permit, Policy, check_all_loaded};
+/// use pkops::Limits;
+/// use pkread::Memory;
+///
+/// let permit = Permit::By(Policy::AnyImport);
+/// let loading = Loading {
+///     memo: Memo::Kept,
+///     old_strings: OldStrings::Unknown,
+/// };
+/// // The second pickle gets the list that the first one has stored.
+/// let mut source = Memory::new(b"]q\x01.h\x01.");
+/// let yes = check_all_loaded(alloc, &mut source, &permit, &Limits::STANDARD, loading)?;
+/// assert_eq!(rt; yes.pickles, 2);
+/// ```
 pub fn check_all_loaded<R: Source>(
     alloc: Global,
     source: &mut R,

@@ -29,6 +29,26 @@ pub struct NoWithImports {
 /// these imports. The runs that end before have made the first of them. This holds whatever the
 /// reason, also if an allocation or a read failed. An import that is itself refused isn't among
 /// them.
+///
+/// ```rust
+/// use pkcheck::{Import, OldStrings, Permit, Policy, check_with_imports};
+/// use pkops::Limits;
+/// use pkread::{Memory, Reason};
+///
+/// let permit = Permit::By(Policy::AnyImport);
+/// let mut source = Memory::new(b"cos\nsystem\n(Vecho gone\ntR");
+/// let unknown = OldStrings::Unknown;
+/// let answer = check_with_imports(alloc, &mut source, &permit, &Limits::STANDARD, unknown);
+/// let Err(refused) = answer else {
+///     panic!(rt; "a pickle without STOP is accepted");
+/// };
+/// assert_eq!(rt; (refused.no.at, refused.no.reason), (25, Reason::Truncated));
+/// let system = Import::Pair {
+///     module: "os",
+///     name: "system",
+/// };
+/// assert_eq!(rt; refused.imports.get(0), Some(system));
+/// ```
 pub fn check_with_imports<R: Source>(
     alloc: Global,
     source: &mut R,

@@ -17,6 +17,23 @@ use std::marker::Model;
 /// Imports in the order in which a pickle makes them. Each text of the pickle is kept once, and an
 /// import refers to the texts of its module and its name. The imports of several pickles with fresh
 /// memos keep only texts that an import refers to.
+///
+/// ```rust
+/// use pkcheck::{Policy, check};
+/// use pkimport::Import;
+/// use pkops::Limits;
+/// use pkread::Memory;
+///
+/// let mut source = Memory::new(b"cos\nsystem\n(Vecho gone\ntR.");
+/// let yes = check(alloc, &mut source, &Policy::AnyImport, &Limits::STANDARD)?;
+/// let mut names = Vec::new(alloc);
+/// for import in yes.imports.iter() {
+///     if let Import::Pair { name, .. } = import {
+///         names.push(name)?;
+///     }
+/// }
+/// assert_eq!(rt; names.as_slice(), ["system"].as_slice());
+/// ```
 #[derive(Debug, Drop)]
 pub struct Imports {
     table: ImportTable,

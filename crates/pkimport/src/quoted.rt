@@ -6,6 +6,13 @@ use std::fmt;
 use std::fmt::Display;
 
 /// Bytes that are printed between double quotes, on one line and in ASCII.
+///
+/// ```rust
+/// use pkimport::Quoted;
+///
+/// let text = format!(in alloc; "{}", Quoted(b"two\nlines"))?;
+/// assert_eq!(rt; text.as_str(), "\"two\\x0alines\"");
+/// ```
 #[derive(Clone, Copy, Debug)]
 pub struct Quoted<'a>(pub &'a [u8]);
 

@@ -38,6 +38,15 @@ use std::io::Write;
 /// value of a key wins. The value contains no float, so its `to_string` is the text of
 /// `export_text`.
 ///
+/// ```rust
+/// use pkjson::export;
+/// use pkops::Limits;
+///
+/// let value = export(alloc, b"]K\x01a.", &Limits::STANDARD)?;
+/// let text = value.to_string(alloc)?;
+/// assert_eq!(rt; text.as_str(), "[1]");
+/// ```
+///
 /// # Errors
 ///
 /// The first of these that applies: `Check`, if the pickle is not accepted; `NotPlain`, `Key` or
@@ -56,6 +65,9 @@ pub fn export(alloc: Global, bytes: &[u8], limits: &Limits) -> Result<Value, Exp
 /// without building that value, which needs several times the memory.
 ///
 /// ```rust
+/// use pkjson::export_text;
+/// use pkops::Limits;
+///
 /// let text = export_text(alloc, b"}\x8c\x01aK\x01s.", &Limits::STANDARD)?;
 /// assert_eq!(rt; text.as_slice(), b"{\"a\":1}".as_slice());
 /// ```
@@ -74,6 +86,19 @@ pub fn export_text(alloc: Global, bytes: &[u8], limits: &Limits) -> Result<Vec<u
 /// Writes the text that `export_text` returns, in pieces: a text of many pieces is never held
 /// whole. A refusal is known before anything is written, also for want of memory where the text is
 /// one piece.
+///
+/// ```rust
+/// use pkjson::{ExportError, export_to};
+/// use pkops::{Limits, Op};
+///
+/// let mut out = Vec::new(alloc);
+/// export_to(alloc, b"}\x8c\x01aK\x01s.", &Limits::STANDARD, &mut out)??;
+/// assert_eq!(rt; out.as_slice(), b"{\"a\":1}".as_slice());
+/// let Err(error) = export_to(alloc, b"c__main__\nf\n.", &Limits::STANDARD, &mut out)? else {
+///     panic!(rt; "an import is plain data");
+/// };
+/// assert_eq!(rt; error, ExportError::NotPlain(0, Op::Global));
+/// ```
 ///
 /// # Errors
 ///

@@ -62,6 +62,19 @@ impl Allow {
     /// of [`CostLimits`]. A table `substitutes` permits nothing: it says what is loaded in place of
     /// a name.
     ///
+    /// ```rust
+    /// use pklist::{Allow, AllowError, Where};
+    ///
+    /// let list = "version = 2\n[imports]\n\"a.b\" = [\"c\"]\n[limits]\nstack = 100\n";
+    /// let allow = Allow::from_toml(alloc, list)?;
+    /// assert!(rt; allow.contains("a.b", "c"));
+    /// assert_eq!(rt; allow.limits().stack(), 100);
+    /// let Err(error) = Allow::from_toml(alloc, "version = 1\n") else {
+    ///     panic!(rt; "a list without imports is accepted");
+    /// };
+    /// assert_eq!(rt; error, AllowError::Shape(Where::Imports));
+    /// ```
+    ///
     /// # Errors
     ///
     /// The first rule that the text breaks, in the order of [`AllowError`] and [`Where`].

@@ -59,10 +59,30 @@ impl fmt::Display for Costly {
 /// A refusal says that all that precedes the refused instruction keeps within the limits.
 ///
 /// ```rust
+/// use pkcheck::{Extent, Loading, Memo, OldStrings, Permit, Policy, Terms};
+/// use pkload::{Excess, Tolls, check_loading};
+/// use pkops::Limits;
+/// use pkread::Memory;
+///
+/// let terms = Terms {
+///     limits: Limits::STANDARD,
+///     loading: Loading {
+///         memo: Memo::Fresh,
+///         old_strings: OldStrings::Unknown,
+///     },
+///     extent: Extent::OnePickle,
+/// };
 /// let permit = Permit::By(Policy::AnyImport);
 /// let mut source = Memory::new(b"}(K\x01K\x02K\x03K\x04tNs.");
 /// let billed = check_loading(alloc, &mut source, &permit, &terms, &Tolls::standard())??;
 /// assert_eq!(rt; (billed.tally.levels, billed.tally.weight), (1, 5));
+/// let mut tolls = Tolls::standard();
+/// tolls.weight = 4;
+/// let mut source = Memory::new(b"}(K\x01K\x02K\x03K\x04tNs.");
+/// let Err(costly) = check_loading(alloc, &mut source, &permit, &terms, &tolls) else {
+///     panic!(rt; "a key that is too heavy is accepted");
+/// };
+/// assert_eq!(rt; (costly.at, costly.excess), (12, Excess::HeavyKeys));
 /// ```
 ///
 /// # Errors

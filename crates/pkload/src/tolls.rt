@@ -93,6 +93,15 @@ impl Tolls {
     }
 
     /// The limits that a list file says, and no others.
+    ///
+    /// ```rust
+    /// use pklist::Allow;
+    /// use pkload::Tolls;
+    ///
+    /// let allow = Allow::from_toml(alloc, "version = 2\n[imports]\n[limits]\nlevels = 100\n")?;
+    /// let tolls = Tolls::said(&allow.cost_limits());
+    /// assert_eq!(rt; (tolls.levels, tolls.memory), (100, u64::MAX));
+    /// ```
     pub fn said(said: &CostLimits) -> Tolls
         ensures { result ≡ tolls_said said.now }
     {

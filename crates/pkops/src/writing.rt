@@ -78,6 +78,15 @@ pub fn write_inst<W: Write>(inst: &Inst<'_>, to: &mut W) -> Result<(), io::Error
 }
 
 /// The spellings of instructions, in order. Fails only if an allocation is refused.
+///
+/// ```rust
+/// use pkops::{Arg, Inst, Op, assemble};
+///
+/// let seven = Inst::new(Op::BinInt1, Arg::U1(7)).ok_or("an argument of another kind")?;
+/// let stop = Inst::new(Op::Stop, Arg::None).ok_or("an argument of another kind")?;
+/// let pickle = assemble(alloc, &[seven, stop])?;
+/// assert_eq!(rt; pickle.as_slice(), b"K\x07.".as_slice());
+/// ```
 pub fn assemble(alloc: Global, insts: &[Inst<'_>]) -> Result<Vec<u8>, AllocError>
     ensures { IfOk result (λ out.
         out.items ≡ flat_map (λ inst. spelling (instruction_of inst)) insts.now) }

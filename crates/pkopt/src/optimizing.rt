@@ -129,6 +129,17 @@ fn past_limit(parts: &[PackedPart], plan: &Plan, writes: u32) -> Option<u64>
 /// The optimized form, as `optimize` returns it. Nothing of it is written yet, and the only errors
 /// after this are those of the writer.
 ///
+/// ```rust
+/// use pkops::Limits;
+/// use pkopt::optimized_form;
+///
+/// let form = optimized_form(alloc, b"]q\x00Nq\x01ah\x000.", &Limits::STANDARD)?;
+/// assert_eq!(rt; (form.taken(), form.len()), (11, 9));
+/// let mut out = Vec::new(alloc);
+/// form.write_to(&mut out)?;
+/// assert_eq!(rt; out.as_slice(), b"]q\x00Nah\x000.".as_slice());
+/// ```
+///
 /// # Errors
 ///
 /// Those of `optimize`.
@@ -182,6 +193,9 @@ pub fn optimized_form<'a>(
 /// the same way.
 ///
 /// ```rust
+/// use pkops::Limits;
+/// use pkopt::optimize;
+///
 /// let smaller = optimize(alloc, b"]q\x00Nq\x01ah\x000.", &Limits::STANDARD)?;
 /// assert_eq!(rt; smaller.as_slice(), b"]q\x00Nah\x000.".as_slice());
 /// ```

@@ -30,6 +30,19 @@ pub enum Outcome {
 /// Checks the pickle at the front of a source, decoding Python 2 strings as `old_strings` says, and
 /// writes the line of the answer.
 ///
+/// ```rust
+/// use pkcheck::{OldStrings, Policy};
+/// use pkops::Limits;
+/// use pkprint::{Outcome, check_to};
+/// use pkread::Memory;
+///
+/// let (any, limits, unknown) = (Policy::AnyImport, Limits::STANDARD, OldStrings::Unknown);
+/// let mut out = Vec::new(alloc);
+/// let outcome = check_to(alloc, &mut Memory::new(b"N."), &any, &limits, &mut out, unknown)?;
+/// assert_eq!(rt; outcome, Outcome::Done);
+/// assert_eq!(rt; out.as_slice(), b"yes: 2 bytes, 0 imports\n".as_slice());
+/// ```
+///
 /// # Errors
 ///
 /// The writer's. How much of the line was written is then unspecified.

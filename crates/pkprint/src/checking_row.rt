@@ -20,6 +20,19 @@ use std::io::Write;
 /// Checks a source of pickles that follow one another up to its end, each loaded afresh, and writes
 /// the line of the answer.
 ///
+/// ```rust
+/// use pkcheck::{OldStrings, Policy};
+/// use pkops::Limits;
+/// use pkprint::{Outcome, check_all_to};
+/// use pkread::Memory;
+///
+/// let (any, limits, unknown) = (Policy::AnyImport, Limits::STANDARD, OldStrings::Unknown);
+/// let mut out = Vec::new(alloc);
+/// let outcome = check_all_to(alloc, &mut Memory::new(b"N.0"), &any, &limits, &mut out, unknown)?;
+/// assert_eq!(rt; outcome, Outcome::Refused);
+/// assert_eq!(rt; out.as_slice(), b"no in pickle 1 at 2: MissingItem\n".as_slice());
+/// ```
+///
 /// # Errors
 ///
 /// The writer's. How much of the line was written is then unspecified.

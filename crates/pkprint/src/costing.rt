@@ -26,6 +26,33 @@ pub struct Billing {
 /// Checks pickles as `check_loading` does, and writes the line of the answer. A yes is followed by
 /// the line of the bill if `billing` asks for it.
 ///
+/// ```rust
+/// use pkcheck::{Extent, Loading, Memo, OldStrings, Permit, Policy, Terms};
+/// use pkload::Tolls;
+/// use pkops::Limits;
+/// use pkprint::{Billing, Outcome, check_loading_to};
+/// use pkread::Memory;
+///
+/// let terms = Terms {
+///     limits: Limits::STANDARD,
+///     loading: Loading {
+///         memo: Memo::Fresh,
+///         old_strings: OldStrings::Unknown,
+///     },
+///     extent: Extent::OnePickle,
+/// };
+/// let billing = Billing {
+///     tolls: Tolls::standard(),
+///     bill: false,
+/// };
+/// let permit = Permit::By(Policy::AnyImport);
+/// let mut out = Vec::new(alloc);
+/// let mut source = Memory::new(b"}K\x01Ns.");
+/// let outcome = check_loading_to(alloc, &mut source, &permit, &terms, &billing, &mut out)?;
+/// assert_eq!(rt; outcome, Outcome::Done);
+/// assert_eq!(rt; out.as_slice(), b"yes: 6 bytes, 0 imports\n".as_slice());
+/// ```
+///
 /// # Errors
 ///
 /// The writer's. How much was written is then unspecified.

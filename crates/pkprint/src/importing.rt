@@ -23,6 +23,17 @@ use std::io::Write;
 /// Checks the pickle at the front of a source under any import. For a yes it writes a line for each
 /// import, in order, then the line of the answer; for a no, that line alone.
 ///
+/// ```rust
+/// use pkops::Limits;
+/// use pkprint::imports_to;
+/// use pkread::Memory;
+///
+/// let mut out = Vec::new(alloc);
+/// imports_to(alloc, &mut Memory::new(b"cos\nsystem\n."), &Limits::STANDARD, &mut out)?;
+/// let lines = b"\"os\" \"system\"\nyes: 12 bytes, 1 imports\n";
+/// assert_eq!(rt; out.as_slice(), lines.as_slice());
+/// ```
+///
 /// # Errors
 ///
 /// The writer's. How much was written is then unspecified.

@@ -51,6 +51,17 @@ impl<'w, W: Write> Listener for Lines<'w, W> {
 /// before the next instruction is read, so the listing of a refused pickle reaches up to the
 /// refused instruction.
 ///
+/// ```rust
+/// use pkops::Limits;
+/// use pkprint::dis_to;
+/// use pkread::Memory;
+///
+/// let mut out = Vec::new(alloc);
+/// dis_to(alloc, &mut Memory::new(b"K\x07."), &Limits::STANDARD, &mut out)?;
+/// let lines = b"    0: 4b BININT1 7\n    2: 2e STOP\nhighest protocol: 1\n";
+/// assert_eq!(rt; out.as_slice(), lines.as_slice());
+/// ```
+///
 /// # Errors
 ///
 /// The writer's, which ends the listing. How much was written is then unspecified.

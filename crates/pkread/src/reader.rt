@@ -41,7 +41,11 @@ pub enum Head<'a> {
 /// The reader borrows its source, so write the reading code as a function that is generic in the
 /// source, and call it with any source:
 ///
-/// ```
+/// ```rust
+/// use pkops::Limits;
+/// use pkread::{Memory, Next, Reader, Refusal, Source};
+/// use std::alloc::Global;
+///
 /// fn count<R: Source>(alloc: Global, source: &mut R) -> Result<u64, Refusal> {
 ///     let mut reader = Reader::new(alloc, source, &Limits::STANDARD);
 ///     let mut count = 0u64;
@@ -53,9 +57,9 @@ pub enum Head<'a> {
 ///     }
 ///     Ok(count)
 /// }
-/// ```
 ///
-/// with `count(alloc, &mut Memory::new(b"N."))` for a pickle in memory.
+/// assert_eq!(rt; count(alloc, &mut Memory::new(b"N.")), Ok(2));
+/// ```
 #[derive(Debug)]
 pub struct Reader<'r, R, B: Drop = Core> {
     source: &'r mut R,

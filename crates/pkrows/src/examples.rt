@@ -1,4 +1,4 @@
-//! The examples in the documents of the crates, whose lines are here.
+//! Calls that people make first.
 
 use pkcheck::{Allow, Extent, Loading, Memo, OldStrings, Permit, Policy, Terms, check};
 use pkjson::export_text;

@@ -20,6 +20,19 @@ use std::alloc::Global;
 use std::marker::Model;
 
 /// The stack. A place is the number of entries below it.
+///
+/// ```rust
+/// use pkops::Limits;
+/// use pkstack::{SliceRule, Slot, Stack, Takes};
+///
+/// let limits = Limits::STANDARD;
+/// let mut stack: Stack<u8, Slot<u8>> = Stack::new(alloc);
+/// stack.push(&limits, 1)?;
+/// stack.push_mark(&limits)?;
+/// stack.push(&limits, 2)?;
+/// let found = stack.find(Takes::Slice(SliceRule::AnySlice))?;
+/// assert_eq!(rt; stack.operands(found.place).first(), Some(2));
+/// ```
 #[derive(Drop)]
 pub struct Stack<V, C: Cell<V>> {
     /// The entries; the last one is on top.
