@@ -67,7 +67,10 @@ def next_in(guard: Guard, file: Any) -> Optional[bytes]:
     if not data:
         raise EOFError("Ran out of input")
     if not verdict:
-        raise guard._told(verdict, data)
+        from ._refusal import loaded_from, name_of  # (a refusal may cost)
+
+        with loaded_from(name_of(file)):
+            raise guard._told(verdict, data)
     return data
 
 

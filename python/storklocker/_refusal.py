@@ -4,6 +4,7 @@ from __future__ import annotations
 
 import contextlib
 import contextvars
+import os
 from typing import Any, Iterator, Tuple
 
 from ._answers import Verdict
@@ -30,7 +31,7 @@ class Refusal:
     size: the number of these bytes.
     sha256: their SHA-256, in hexadecimal; computed on first access.
     missing: `missing` of the verdict.
-    context: the value of `context` around the call.
+    context: the value of `context` around the call; if there is none, the name of the file.
     enforced: False if the pickle is loaded in spite of the refusal.
     misused: how the pickle misuses a listed name, if `Misused` stopped the load of an accepted
         pickle; otherwise an empty text.
@@ -97,3 +98,19 @@ def context(value: Any) -> Iterator[None]:
         yield
     finally:
         CONTEXT.reset(token)
+
+
+@contextlib.contextmanager
+def loaded_from(origin: Any) -> Iterator[None]:
+    """Makes an origin the `context` within the block, unless the caller has set one."""
+    if origin is None or CONTEXT.get() is not None:
+        yield
+    else:
+        with context(origin):
+            yield
+
+
+def name_of(file: Any) -> Any:
+    """The name of a file that is given by name or open, or None."""
+    name = file if isinstance(file, (str, os.PathLike)) else getattr(file, "name", None)
+    return os.fspath(name) if isinstance(name, (str, os.PathLike)) else None

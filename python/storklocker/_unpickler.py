@@ -14,6 +14,7 @@ from ._answers import Verdict
 from ._checking import JUDGING, check_row
 from ._reading import FIRST_BLOCK, block_of, can_step_back, too_long
 from ._reasons import Reason
+from ._refusal import loaded_from, name_of
 from ._storklocker import verdict, walked
 from ._substitute import Substitute
 from ._substitutes import Reader
@@ -180,7 +181,8 @@ class GuardedUnpickler(pickle.Unpickler):
         guard, data = self.guard, self._bytes[self._taken :]
         if self._pickles:  # lets `missing` check the pickle on its own, not as part of the row
             verdict._asked = (data, guard._listed_for(data), None)
-        guard._refuse(verdict, data, self._taken)
+        with loaded_from(name_of(self._file)):
+            guard._refuse(verdict, data, self._taken)
         while self._read_on():  # not enforced: everything is loaded
             pass
         return walked(self._bytes, self._taken)[0]

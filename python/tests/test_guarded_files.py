@@ -7,12 +7,18 @@ import os
 import pickle
 import sys
 import tempfile
+import threading
 import unittest
+from multiprocessing import connection
+from pathlib import Path
 
 import storklocker
 from common import BY_PAIRS
 from guarding import GUARD, HOSTILE, NOTHING, ROW
 from storklocker import AllowList, Guard, Reason, Refused
+from storklocker.contrib import multiprocessing as guarded
+from storklocker.contrib.joblib import load_joblib
+from storklocker.contrib.torch import load_torch
 from streams import Minimal, Piped, files
 
 
@@ -276,6 +282,56 @@ class Inherited(unittest.TestCase):
         self.assertIs(
             GUARD.Unpickler(io.BytesIO(b"ccollections\ndeque\n.")).load(), collections.deque
         )
+
+
+class Origins(unittest.TestCase):
+    """A refusal names where the pickle comes from, unless the caller does."""
+
+    def test_the_name_of_a_file(self):
+        contexts = []
+        guard = Guard(BY_PAIRS, on_refusal=lambda refusal: contexts.append(refusal.context))
+        with tempfile.TemporaryDirectory() as folder:
+            path = Path(folder, "x.pkl")
+            path.write_bytes(b"N.N.N." + HOSTILE + b"N.")  # (PyTorch's old format has five)
+            for load in (_last_of, _last_unpickled, load_torch):
+                with self.subTest(load=load), self.assertRaises(Refused) as raised:
+                    load(path, guard)
+                self.assertEqual(raised.exception.origin, ascii(str(path)))
+            path.write_bytes(HOSTILE)
+            for caller, origin in ((None, str(path)), ("mine", "mine")):
+                with storklocker.context(caller), self.assertRaises(Refused):
+                    load_joblib(path, guard)
+                self.assertEqual(contexts.pop(), origin)
+        with self.assertRaises(Refused) as raised:
+            load_joblib(HOSTILE, guard)
+        self.assertEqual(raised.exception.origin, "")
+
+    def test_the_other_end_of_a_connection(self):
+        with guarded.Listener(("localhost", 0), NOTHING, authkey=b"key") as listener:
+            sender = threading.Thread(target=_send, args=(listener.address,))
+            sender.start()
+            with listener.accept() as accepted, self.assertRaises(Refused) as raised:
+                accepted.recv()
+            sender.join()
+            self.assertEqual(raised.exception.origin, ascii(listener.last_accepted))
+
+
+def _last_of(path, guard):
+    with open(path, "rb") as file:
+        for _ in range(4):
+            guard.load(file)
+
+
+def _last_unpickled(path, guard):
+    with open(path, "rb") as file:
+        unpickler = guard.Unpickler(file)
+        for _ in range(4):
+            unpickler.load()
+
+
+def _send(address):
+    with connection.Client(address, authkey=b"key") as plain:
+        plain.send_bytes(HOSTILE)
 
 
 if __name__ == "__main__":

@@ -19,6 +19,7 @@ from typing import Any, List, Optional, Tuple, Union
 
 from .. import AllowList, Guard
 from .._checking import JUDGING
+from .._refusal import loaded_from, name_of
 from .._storklocker import walked
 from ..scanning.following import NotFollowed
 from ..scanning.joblib_cutting import WRAPPERS, Cut, Cutter
@@ -45,7 +46,7 @@ def load_joblib(file: File, guard: Guard, *, mmap_mode: Optional[str] = None) ->
     if mmap_mode not in MODES:
         raise ValueError(f"mmap_mode must be one of {MODES}, not {mmap_mode!r}")
     guard = guard._now()
-    with opened(file, guard) as found:
+    with loaded_from(name_of(file)), opened(file, guard) as found:
         source = found.source
         cut, nested = _cut(source, guard)
         if cut.end < source.size and found.finish is None:

@@ -8,7 +8,8 @@
     guarded.register(guard, "guarded")
     Manager(address, authkey=key, serializer="guarded").connect()
 
-`recv` raises Refused if the guard refuses a message; the connection stays usable. A manager sends
+`recv` raises Refused if the guard refuses a message; the connection stays usable. The context of
+a `Refusal` is the address of the other end. A manager sends
 its own `multiprocessing.managers.Token`, which must be on the list. It also names the methods of
 its objects, which Python compiles in the client: one that isn't an identifier raises
 UnpicklingError.
@@ -18,10 +19,11 @@ from __future__ import annotations
 
 import keyword
 from multiprocessing import connection, managers
-from typing import Any
+from typing import Any, Callable
 
 from .. import Guard
 from .._answers import told
+from .._refusal import loaded_from
 
 
 class Listener(connection.Listener):
@@ -32,12 +34,25 @@ class Listener(connection.Listener):
         self._guard = guard
 
     def accept(self) -> Any:
-        return _Connection(super().accept(), self._guard.dumps, self._guard.loads)
+        plain = super().accept()
+        origin = self.last_accepted or self.address
+        return _Connection(plain, self._guard.dumps, _loads_from(origin, self._guard))
 
 
 def Client(address: Any, guard: Guard, **named: Any) -> Any:
     """`multiprocessing.connection.Client` with a connection that loads through the guard."""
-    return _Connection(connection.Client(address, **named), guard.dumps, guard.loads)
+    plain = connection.Client(address, **named)
+    return _Connection(plain, guard.dumps, _loads_from(address, guard))
+
+
+def _loads_from(origin: Any, guard: Guard) -> Callable[[bytes], Any]:
+    """The guard's `loads`, whose refusals name the other end of a connection."""
+
+    def loads(data: bytes) -> Any:
+        with loaded_from(origin):
+            return guard.loads(data)
+
+    return loads
 
 
 def register(guard: Guard, name: str) -> None:
@@ -48,7 +63,7 @@ def register(guard: Guard, name: str) -> None:
 
     def client(address: Any, authkey: Any = None) -> Any:
         plain = connection.Client(address, authkey=authkey)
-        return _ManagerConnection(plain, guard.dumps, guard.loads)
+        return _ManagerConnection(plain, guard.dumps, _loads_from(address, guard))
 
     managers.listener_client[name] = (listener, client)  # type: ignore[attr-defined]
 

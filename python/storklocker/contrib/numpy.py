@@ -18,6 +18,7 @@ from pathlib import Path
 from typing import Any, BinaryIO, Dict, Union
 
 from .. import Guard
+from .._refusal import loaded_from, name_of
 from ._zip import Archive
 
 Source = Union[str, Path, bytes, BinaryIO]
@@ -25,15 +26,17 @@ Source = Union[str, Path, bytes, BinaryIO]
 
 def load_npy(source: Source, guard: Guard) -> Any:
     """The array in an `.npy` file. Raises Refused if its pickle is refused."""
-    return _array_of(bytes_of(source), guard)
+    with loaded_from(name_of(source)):
+        return _array_of(bytes_of(source), guard)
 
 
 def load_npz(source: Source, guard: Guard) -> Dict[str, Any]:
     """The arrays in an `.npz` file, by name. Raises Refused if the pickle of any is refused, and
     UnpicklingError if the file unpacks to more than the bounds of `storklocker scan`.
     """
-    archive = Archive(bytes_of(source), guard)
-    return {name[:-4]: _array_of(archive.read(name), guard) for name in archive.sizes}
+    with loaded_from(name_of(source)):
+        archive = Archive(bytes_of(source), guard)
+        return {name[:-4]: _array_of(archive.read(name), guard) for name in archive.sizes}
 
 
 def bytes_of(source: Source) -> bytes:

@@ -18,6 +18,7 @@ import io
 from typing import Any, Callable, Dict, List, Optional
 
 from .. import Guard, _names
+from .._refusal import loaded_from, name_of
 from .._storklocker import walked
 from ._zip import Archive
 from .numpy import Source, bytes_of
@@ -30,7 +31,11 @@ def load_torch(source: Source, guard: Guard, *, map_location: Optional[Any] = No
     """Loads a file written by `torch.save`. Raises Refused if a pickle is refused, and
     UnpicklingError if the file doesn't have one of the formats.
     """
-    data, guard = bytes_of(source), guard._now()
+    with loaded_from(name_of(source)):
+        return _loaded(bytes_of(source), guard._now(), map_location)
+
+
+def _loaded(data: bytes, guard: Guard, map_location: Any) -> Any:
     is_zip = data[:4] == b"PK\x03\x04"
     sizes: Optional[Dict[str, int]] = None
     if is_zip:
