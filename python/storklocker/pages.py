@@ -24,6 +24,7 @@ EXAMPLES = (
     "storklocker learn trusted/ > list.toml",
     "storklocker lint list.toml",
     "storklocker check --allow @numpy,@pandas frame.pickle",
+    "storklocker explain stranger.pickle",
     "storklocker dis stranger.pickle",
 )
 

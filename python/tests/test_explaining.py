@@ -3,6 +3,7 @@
 
 import io
 import json
+import os
 import pickle
 import random
 import unittest
@@ -35,6 +36,13 @@ class Point:
 
     def __init__(self):
         self.own = {"point": self, "listed": [1, 2.5, b"x"]}
+
+
+class Hostile:
+    """An object whose load runs a command."""
+
+    def __reduce__(self):
+        return os.system, ("touch M",)
 
 
 def said(data, full=True):
@@ -122,6 +130,18 @@ class Explaining(unittest.TestCase):
         for name, (data, most) in SHAPES.items():
             with self.subTest(name):
                 self.assertLess(len(said(data, False)), most)
+
+    def test_behind_what_is_explained(self):
+        """A dangerous import is found however far behind it is."""
+        many = list(range(210_000))
+        for protocol in (0, 2, 4):
+            data = pickle.dumps([*many, Hostile(), *many[:99]], protocol)
+            found = said(data, False)
+            with self.subTest(protocol=protocol):
+                self.assertIn("system is imported behind this, at ", found)
+                self.assertIn("system('touch M')", found)
+                self.assertIn("# made so far: [0, 1, 2,", found)
+                self.assertIn("# 200,000 instructions are explained", found)
 
     def test_folded(self):
         found = said(pickle.dumps({"a": list(range(10_010)), "b": "c" * 500}), False)

@@ -14,11 +14,11 @@ from ..scanning.source import Source
 from ..scanning.spelled import SIZES
 from ..scanning.valued import DICT, LIST, SET, TUPLE, Valued, with_values
 from .nodes import (
-    ADD, APPEND, BYTEARRAY, CALL, COLLECTED, DEEPEST, EXTEND, IMPORT, INSTANCE, LONG, NEW,
-    PICKLE, RETURN, SETITEM, SETSTATE, UNREAD, Node, Span, worst_of
+    ADD, APPEND, BYTEARRAY, CALL, COLLECTED, DEEPEST, EXTEND, IMPORT, INSTANCE, LEFT,
+    LONG, NEW, NOTE, PICKLE, RETURN, SETITEM, SETSTATE, UNREAD, Node, Span, worst_of
 )
 
-STEPS = 300_000
+STEPS = 200_000
 """The most instructions that are explained, unless all are asked for."""
 SHORT = 1000
 """Longer texts and bytes are read when they are written."""
@@ -31,8 +31,8 @@ _TEXTS = {"STRING": "latin-1", "UNICODE": "raw-unicode-escape", "BINSTRING": "la
 class Machine(Valued):
     """Follows pickles one after another, and keeps what happens."""
 
-    def __init__(self, source: Source, at: int, most: int) -> None:
-        super().__init__(source, at)
+    def __init__(self, source: Source, at: int, most: int, is_open: bool = False) -> None:
+        super().__init__(source, at, is_open)
         self.most = most
         self.events: List[Node] = []
         """What happens, and values where they are used first."""
@@ -58,6 +58,12 @@ class Machine(Valued):
         self.events.append(Node(PICKLE, self.at, [self.pickles, bool(memo)]))
         self._memo = memo
         return self.again()[0]
+
+    def stop(self) -> None:
+        """Takes what the pickle has made so far."""
+        left = [it for held in (*self._below, self._stack) for it in held]
+        if left:
+            self._event(LEFT, left)
 
     # ---- events
 

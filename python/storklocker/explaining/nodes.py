@@ -11,13 +11,16 @@ from ..scanning.valued import DICT, FROZENSET, LIST, SET, TUPLE
 IMPORT, CALL, NEW, INSTANCE, SETSTATE = "import", "call", "new", "instance", "setstate"
 APPEND, EXTEND, SETITEM, ADD, RETURN = "append", "extend", "setitem", "add", "return"
 LONG, BYTEARRAY, UNREAD, PICKLE = "long", "bytearray", "unread", "pickle"
+LEFT, NOTE = "left", "note"
+COMMENTS = frozenset((PICKLE, LEFT, NOTE))
+"""What is said beside the statements."""
 HELPERS = frozenset(
     "find_class persistent_load next_buffer readonly extension instantiate setstate".split()
 )
 """The functions that stand for instructions which Python has no words for."""
 COLLECTED = frozenset((LIST, TUPLE, DICT, SET, FROZENSET, LONG, BYTEARRAY))
 """Values that no event makes."""
-STATEMENTS = frozenset((IMPORT, SETSTATE, APPEND, EXTEND, SETITEM, ADD, RETURN))
+STATEMENTS = frozenset((IMPORT, SETSTATE, APPEND, EXTEND, SETITEM, ADD, RETURN, LEFT))
 """Events that make no value."""
 ORDER = (DANGER, WARNING, UNKNOWN, HARMLESS, "")
 """How bad a name is, from the worst; the last is that of a value."""

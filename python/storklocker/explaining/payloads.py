@@ -8,6 +8,7 @@ from typing import Any, Callable, Dict, Iterable, Iterator, List, NamedTuple, Op
 
 from ..scanning.dangers import judged
 from ..scanning.known import HARMLESS
+from ..scanning.lenient import ANY
 from ..scanning.report import shown
 from ..scanning.valued import DICT, FROZENSET, LIST, SET, TUPLE
 from .brief import brief
@@ -200,6 +201,8 @@ class Opener:
     def _value(self, value: Any) -> Any:
         """A plain value. Raises Unknown."""
         self._bill.visit()
+        if value is ANY:
+            raise Unknown
         if type(value) is not Node:
             return value
         if value.kind == IMPORT:

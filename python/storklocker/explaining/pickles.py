@@ -12,6 +12,7 @@ from ..scanning.readings import Piece, Place, examine
 from ..scanning.rows import Row, row_of
 from ..scanning.source import Source, in_memory
 from .machine import STEPS, Machine
+from .needles import behind
 from .nodes import Node
 
 ENDLESS = 1 << 60
@@ -71,6 +72,9 @@ def followed_row(piece: Piece, row: Row, is_full: bool) -> Followed:
     while machine.pickles < count and machine.at < source.size and not end:
         if not machine.apart():
             end = _end_of(machine)
+    if machine.steps > machine.most:
+        machine.stop()
+        machine.events += behind(row, machine)
     if machine.is_misread:
         end = "; ".join(filter(None, (_MISREAD, end)))
     refusal = (-1, "") if row.refusal is None else _refused(row.refusal)

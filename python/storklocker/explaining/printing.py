@@ -7,7 +7,7 @@ from typing import Any, Dict, Iterable, Iterator, List, NamedTuple, Tuple
 
 from ..scanning.colour import Paint, plain
 from .judged import HIDDEN, Name, names_in, row_of
-from .nodes import BAD, IMPORT, PICKLE, Node
+from .nodes import BAD, COMMENTS, IMPORT, Node
 from .payloads import Bill, Opener
 from .pickles import Followed, followed_bytes
 from .writing import Statement, Writer
@@ -128,7 +128,7 @@ def _lines(followed: Followed, opener: Opener, is_full: bool) -> Iterator[Line]:
             fault = -1
         count += 1
         if count <= LINES or is_full:
-            yield _comment("".join(it.pieces)) if it.event.kind == PICKLE else _line(it, opener)
+            yield _comment("".join(it.pieces)) if it.event.kind in COMMENTS else _line(it, opener)
         else:
             left += 1
     if left:

@@ -5,12 +5,13 @@ from __future__ import annotations
 import math
 from typing import Any, Callable, Dict, Iterator, List, NamedTuple, Tuple
 
+from ..scanning.lenient import ANY
 from ..scanning.source import Source
 from ..scanning.valued import DICT, FROZENSET, LIST, SET, TUPLE
 from .naming import Naming, is_plain
 from .nodes import (
-    ADD, APPEND, BAD, BYTEARRAY, CALL, COLLECTED, EXTEND, IMPORT, INSTANCE, LONG, NEW, PICKLE,
-    RETURN, SETITEM, SETSTATE, STATEMENTS, UNREAD, Node, Span
+    ADD, APPEND, BAD, BYTEARRAY, CALL, COLLECTED, EXTEND, IMPORT, INSTANCE, LEFT, LONG, NEW,
+    NOTE, PICKLE, RETURN, SETITEM, SETSTATE, STATEMENTS, UNREAD, Node, Span
 )
 
 ITEMS, LETTERS, ROOM = 12, 160, 1500
@@ -51,7 +52,7 @@ class Writer:
             if it.kind in COLLECTED:
                 if it.uses > 1:
                     yield from self._stated(it, True)
-            elif it.kind == PICKLE:
+            elif it.kind in (PICKLE, NOTE):
                 yield from self._flushed(0)
                 yield from self._begun(it)
             elif it.kind == IMPORT and is_plain(*it.items):
@@ -64,7 +65,10 @@ class Writer:
         yield from self._flushed(0)
 
     def _begun(self, it: Node) -> Iterator[Statement]:
-        """Another pickle begins."""
+        """Another pickle begins, or something is said."""
+        if it.kind == NOTE:
+            yield Statement(it.at, it, iter([f"# {it.items[0]}"]))
+            return
         number, is_kept = it.items
         if not is_kept:
             self._naming.forget()
@@ -143,6 +147,8 @@ class Writer:
                 for piece in self._long(it):
                     yield piece
                     room -= len(piece)
+            elif it is ANY:
+                yield "..."
             elif type(it) is Node:
                 name = self._names.get(it)
                 todo.extend(reversed(self._parts(it) if name is None else [_Text(name)]))
@@ -250,6 +256,10 @@ class Writer:
         target, key, value = items
         return [*_callable(target), _Text("["), key, _Text("] = "), value]
 
+    def _left(self, items: List[Any]) -> List[Any]:
+        listed = self._collected(Node(LIST, 0, items))
+        return [_Text("# made so far: "), *listed[1:-1]]
+
     def _returned(self, items: List[Any]) -> List[Any]:
         return [_Text(f"{self._return} "), *items]
 
@@ -271,7 +281,7 @@ _FORMS: Dict[str, Callable[[Writer, List[Any]], List[Any]]] = {
     APPEND: lambda it, items: it._method("append", items),
     ADD: lambda it, items: it._method("add", items),
     EXTEND: Writer._extend, SETITEM: Writer._set_item, RETURN: Writer._returned,
-    UNREAD: Writer._unread,
+    UNREAD: Writer._unread, LEFT: Writer._left,
     SETSTATE: lambda it, items: [_Text("setstate("), *_listed(items), _CLOSE],
 }
 

@@ -25,8 +25,8 @@ LIST, TUPLE, DICT, SET, FROZENSET = "[]", "(,)", "{:}", "{}", "frozenset"
 class Valued(Walk):
     """Follows a pickle with its values."""
 
-    def __init__(self, source: Source, at: int) -> None:
-        super().__init__(source, at)
+    def __init__(self, source: Source, at: int, is_open: bool = False) -> None:
+        super().__init__(source, at, is_open)
         self._dropped: List[Any] = []
         """What the last mark had above it."""
         self._front = source.read(at, 2)
