@@ -212,7 +212,7 @@ def try_results(port):
         connection.hset(job.key, "meta", data)
         common.raises(queue.fetch_job(job.id).return_value)
         common.raises(lambda: queue.job_class.fetch(job.id, connection=connection).get_meta())
-        common.raises(lambda: Job.fetch(job.id, connection, serializer=plain))
+        common.raises(lambda: Job.fetch(job.id, connection, serializer=plain).get_meta())
 
 
 def try_report_only():

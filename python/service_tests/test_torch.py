@@ -128,7 +128,9 @@ def try_legacy(guard):
         for whole in made.values():
             common.raises(lambda: load_torch(whole, guard))
         control.shapes = made
-        control.runs_all(lambda whole: torch.load(io.BytesIO(whole)))
+        # (since 2.6 PyTorch takes few names by default)
+        words = {"weights_only": False} if "weights_only" in torch.load.__kwdefaults__ else {}
+        control.runs_all(lambda whole: torch.load(io.BytesIO(whole), **words))
 
 
 def try_other_names():

@@ -17,7 +17,7 @@ import storklocker._reasons  # noqa: F401  # the first refusal imports it
 multiprocessing.get_context()  # (its first use writes a file)
 MARKS = Path(os.environ["STORKLOCKER_MARKS"])
 LATER = {"_strptime", "encodings", "stringprep", "unicodedata", "locale", "gc",
-         "ast", "_ast"}
+         "ast", "_ast", "resource"}
 """Modules that the standard library imports on first use."""
 RUN = {
     "os.system", "os.exec", "os.posix_spawn", "os.spawn", "os.startfile", "pty.spawn",

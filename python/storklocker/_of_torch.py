@@ -44,7 +44,8 @@ def _within(name: str, storage: Any, offset: Any, size: Any, stride: Any) -> Non
         raise wrong(name)
     _sizes(name, size, stride)
     last = offset + sum((many - 1) * step for many, step in zip(size, stride))
-    if len(size) != len(stride) or 0 not in size and last >= storage.size():
+    held = getattr(storage, "_size", storage.size)  # (since 2.0 the latter warns)
+    if len(size) != len(stride) or 0 not in size and last >= held():
         raise wrong(name)
 
 
@@ -96,15 +97,19 @@ def _sparse(reader: Reader, *given: Any) -> Any:
     if len(given) != 2 or type(given[1]) is not tuple or not _is_validated(reader):
         raise wrong("_rebuild_sparse_tensor")
     *held, size = given[1] or (None,)
+    if type(size) is bool and len(held) == 3:  # (since PyTorch 2.1: whether it is coalesced)
+        size = held.pop()
     layouts = {torch.sparse_coo: 2, torch.sparse_csr: 3}
     is_known = type(given[0]) is torch.layout and layouts.get(given[0]) == len(held)
+    is_known = is_known and (len(given[1]) == len(held) + 1 or len(held) == 2)
     if not is_known or any(type(it) is not torch.Tensor for it in held):
         raise wrong("_rebuild_sparse_tensor")
     if any(it.layout is not torch.strided or it.dtype is not torch.int64 for it in held[:-1]):
         raise wrong("_rebuild_sparse_tensor")
     _sizes("_rebuild_sparse_tensor", size)
-    name = "_rebuild_sparse_tensor" if len(held) == 2 else "_rebuild_sparse_csr_tensor"
-    return getattr(_functions(), name)(*given)
+    own = vars(_functions())  # (PyTorch 2 has one function for both)
+    made = own.get("_rebuild_sparse_csr_tensor") if len(held) == 3 else None
+    return (made or own["_rebuild_sparse_tensor"])(*given)
 
 
 def _quantized(reader: Reader, *given: Any) -> Any:
@@ -209,7 +214,7 @@ def _is_part(kind: Any, name: str, value: Any) -> bool:
         "_buffers": (torch.Tensor, type(None)),
         "_modules": (module, type(None)),
     }
-    if name.endswith("_hooks") or name.endswith("_hooks_with_kwargs"):
+    if "_hooks" in name:  # (or which of them take keywords, or are always called)
         return type(value) in _DICTS and not value
     if name in held:
         return type(value) in _DICTS and _are(value.values(), held[name]) and all(

@@ -13,7 +13,7 @@ or callback is refused fails. The context of each `Refusal` is `{"id": ..}`, the
 
 from __future__ import annotations
 
-from typing import Any, Optional, Tuple, Type
+from typing import Any, Dict, Optional, Tuple, Type
 
 from .. import Guard
 from .._refusal import CONTEXT
@@ -97,6 +97,7 @@ class _Guarded:
     _names: Names
     _refused: Optional[Exception] = None
     id: str
+    meta: Any
 
     def __init__(self, *given: Any, **named: Any) -> None:
         super().__init__(*given, **named)
@@ -115,7 +116,7 @@ class _Guarded:
 
     def restore(self, raw_data: Any) -> None:
         plain: Any = super()
-        self._refused = None
+        self._refused, self.serializer.failed = None, {}
         try:
             plain.restore(raw_data)
         except Exception as error:  # RQ's worker ends if it cannot read a job's metadata
@@ -124,6 +125,9 @@ class _Guarded:
                 raise
             plain.restore(kept)
             self._refused = error
+        for key in (b"meta", "meta"):  # (RQ 2 goes on without)
+            if raw_data.get(key) in self.serializer.failed:
+                self._refused, self.meta = self.serializer.failed[raw_data[key]], {}
         if self._guard.enforce:
             self._judge_callbacks()
 
@@ -167,10 +171,15 @@ class _JobSerializer:
 
     def __init__(self, guard: Guard, job: Any) -> None:
         self.dumps, self._loads, self._job = guard.dumps, Loader(guard).loads, job
+        self.failed: Dict[bytes, Exception] = {}
+        """What didn't load of what a job was last restored from."""
 
     def loads(self, data: bytes) -> Any:
         token = CONTEXT.set({"id": self._job.id})
         try:
             return self._loads(data)
+        except Exception as error:
+            self.failed[data] = error
+            raise
         finally:
             CONTEXT.reset(token)
