@@ -267,10 +267,13 @@ class Maker:
     def named(self):
         self.push(b"\x8c\x02m9\x8c\x01z\x93", "thing")
 
-    def computed(self):
-        """A name that a call has made."""
-        if self.stack and self.stack[-1] == "thing":
-            return
+    def nested(self):
+        """A value in many tuples."""
+        if self.stack:
+            count = self.chosen.randrange(1, 40)
+            is_plain = self.stack[-1] in ("plain", "plain tuple")
+            self.stack[-1] = "plain tuple" if is_plain else "tuple"
+            self.made.append(b"\x85" * count)
 
 
 STEPS = [
@@ -278,5 +281,5 @@ STEPS = [
     Maker.get, Maker.dup, Maker.pop, Maker.tuple, Maker.tuple, Maker.reduce, Maker.reduce,
     Maker.called, Maker.called, Maker.new_with_names, Maker.build, Maker.build, Maker.append,
     Maker.append, Maker.set_item, Maker.set_item, Maker.marked, Maker.marked, Maker.persistent,
-    Maker.registered, Maker.named,
+    Maker.registered, Maker.named, Maker.nested,
 ]

@@ -125,6 +125,14 @@ class Explaining(unittest.TestCase):
         self.assertEqual(found.verdict, "dangerous")
         self.assertIn("os.system  dangerous: It runs a command.", str(found))
 
+    def test_members_of_enums(self):
+        """A scan says nothing of `getattr` if it gets these alone."""
+        front = b"cbuiltins\ngetattr\n(cuuid\nSafeUUID\nV"
+        found = storklocker.explain(front + b"unknown\ntR.")
+        self.assertEqual((found.verdict, found.part.worst), ("unjudged", ()))
+        found = storklocker.explain(front + b"__class__\ntR.")
+        self.assertEqual((found.verdict, len(found.part.worst)), ("dangerous", 1))
+
     def test_bounds(self):
         """No shape makes the text long."""
         for name, (data, most) in SHAPES.items():

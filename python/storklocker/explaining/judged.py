@@ -42,7 +42,8 @@ def row_of(it: Node) -> Name:
     dotted = shown(f"{module}.{name}", _LONGEST)
     if row is None:
         return Name(dotted, UNKNOWN, "Nobody has judged what a pickle can do with it.")
-    return Name(dotted, row.severity, row.why)
+    is_harmless = it.severity == HARMLESS  # (here, whatever else it may do)
+    return Name(dotted, it.severity, "" if is_harmless else row.why)
 
 
 def names_in(events: Iterable[Node]) -> Tuple[List[Name], int]:

@@ -7,7 +7,9 @@ from typing import Any, Dict, List, Tuple
 
 from ..scanning.dangers import judged
 from ..scanning.following import value_of
+from ..scanning.known import HARMLESS
 from ..scanning.lenient import ANY, OTHER, Names
+from ..scanning.members import GETATTR
 from ..scanning.names import named_today, pair_of
 from ..scanning.severity import DANGER, UNKNOWN
 from ..scanning.source import Source
@@ -37,6 +39,8 @@ class Machine(Valued):
         self.events: List[Node] = []
         """What happens, and values where they are used first."""
         self.pickles = 0
+        self.gets_members = False
+        """Whether `getattr` is only asked for members of enums."""
 
     def apart(self) -> bool:
         """Follows the next pickle; with the memo of the last one if it needs that. Returns whether
@@ -157,6 +161,8 @@ class Machine(Valued):
         made = self._event(IMPORT, [module, name])
         row = judged(module or "", name or "")
         made.severity = UNKNOWN if row is None else row.severity
+        if self.gets_members and f"{module}.{name}" == GETATTR:
+            made.severity = HARMLESS
         return made
 
     # ---- values

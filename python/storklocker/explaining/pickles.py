@@ -7,8 +7,11 @@ from typing import Iterator, List, NamedTuple, Tuple
 
 from .._answers import Verdict
 from ..scanning.budget import Budget, TooMuch
+from ..scanning.enums import without_members
 from ..scanning.joblib_files import WRAPPER_NAMES, without_arrays
+from ..scanning.members import GETATTR
 from ..scanning.readings import Piece, Place, examine
+from ..scanning.report import Finding
 from ..scanning.rows import Row, row_of
 from ..scanning.source import Source, in_memory
 from .machine import STEPS, Machine
@@ -68,6 +71,7 @@ def followed_row(piece: Piece, row: Row, is_full: bool) -> Followed:
     """What pickles do that follow one another, up to the first that is refused, and that."""
     source = piece.source
     machine = Machine(source, 0, ENDLESS if is_full else STEPS)
+    machine.gets_members = _gets_members(source, row)
     count, end = row.pickles + (row.refusal is not None), ""
     while machine.pickles < count and machine.at < source.size and not end:
         if not machine.apart():
@@ -79,6 +83,17 @@ def followed_row(piece: Piece, row: Row, is_full: bool) -> Followed:
         end = "; ".join(filter(None, (_MISREAD, end)))
     refusal = (-1, "") if row.refusal is None else _refused(row.refusal)
     return Followed(piece.path, piece.kind, source, machine.events, count > 1, refusal, end)
+
+
+def _gets_members(source: Source, row: Row) -> bool:
+    """Whether `getattr` is only asked for members of enums, so that a scan says nothing of it."""
+    if (b"builtins", b"getattr") not in row.names:
+        return False
+    asked = [Finding("dangerous-import", "", GETATTR)]
+    try:
+        return not without_members(asked, source, row.taken, Budget(source.size))
+    except TooMuch:
+        return False
 
 
 def _end_of(machine: Machine) -> str:
