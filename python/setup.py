@@ -18,6 +18,8 @@ SHARED = HERE / "share"
 MACHINE = platform.machine() if sys.platform == "linux" and sys.maxsize >> 32 else sys.platform
 SHIPPED = HERE / "checker" / f"libpkguard-{MACHINE}.a"
 """The checker of a source distribution, which was proved and compiled for this processor."""
+MADE = HERE / "checker" / "made"
+"""The checker of a source distribution for other machines, in C."""
 PROGRAM = HERE / "checker" / f"pktool-{MACHINE}.gz"
 BUILT = HERE.parent / "crates" / "pkguard" / "out" / "libpkguard.a"
 """The checker that a clone has proved and compiled."""
@@ -28,15 +30,10 @@ def words():
     named = os.environ.get("STORKLOCKER_ARCHIVE")
     if named:
         return ["--archive", named]
-    for archive in (SHIPPED, BUILT):
-        if archive.exists():
-            return ["--archive", str(archive)]
-    if (HERE / "checker").exists():
-        raise SystemExit(
-            "storklocker: a source distribution has the checker for 64-bit Linux on x86-64 and"
-            f" arm64, and this is {platform.machine()} under {platform.system()}.\n"
-            "For others name a libpkguard.a in STORKLOCKER_ARCHIVE."
-        )
+    found = [it for it in (SHIPPED, BUILT, MADE) if it.exists()]
+    if found:
+        print(f"storklocker: the checker is {found[0].name}", file=sys.stderr)
+        return ["--archive", str(found[0])]
     if shutil.which("rt"):
         return []
     raise SystemExit(

@@ -155,6 +155,26 @@ class Packages(unittest.TestCase):
         if not built:
             self.skipTest("no interpreter with venv, setuptools 61, wheel and Python.h")
 
+    def test_the_source_distribution_builds_elsewhere(self) -> None:
+        """Without an archive for the processor, of C."""
+        version = (ROOT / "VERSION").read_text().strip()
+        name = f"storklocker-{version}"
+        subprocess.run(["tar", "-xzf", wheels() / f"{name}.tar.gz"], cwd=self.folder, check=True)
+        checker = self.folder / name / "checker"
+        if not (checker / "made").exists():
+            self.skipTest("this source distribution has no checker in C")
+        for archive in checker.glob("*.[ag]*"):
+            archive.unlink()
+        bin_ = self.build("/usr/bin/python3", checker.parent)
+        if bin_ is None:
+            self.skipTest("no interpreter with venv, setuptools 61, wheel and Python.h")
+        scanned = ran(bin_ / "storklocker", "scan", self.files() / "bad.pkl", cwd="/")
+        self.assertEqual(scanned.returncode, 1, scanned.stdout + scanned.stderr)
+        self.assertIn("os.system", scanned.stdout)
+        listed = ran(bin_ / "storklocker", "dis", self.files() / "bad.pkl", cwd="/")
+        self.assertEqual((listed.returncode, listed.stdout), (2, ""))
+        self.assertIn("this package has none", listed.stderr)
+
     def build(self, interpreter: str, source: Path) -> Optional[Path]:
         """The folder of commands of an environment with the package, built from a source
         distribution; None if the interpreter lacks what that takes.

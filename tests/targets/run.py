@@ -84,6 +84,20 @@ TARGETS = [
     ),
     Target("Windows on x86-64", "x86_64-windows", "x86_64-w64-mingw32-gcc", "wine"),
     Target("WebAssembly", "wasm", "", "node"),
+    Target(
+        "Linux on armhf, in C",
+        "portable",
+        "arm-linux-gnueabihf-gcc",
+        "qemu-arm-static",
+        ("-static", "-O1"),
+    ),
+    Target(
+        "Linux on s390x, in C",
+        "portable",
+        "s390x-linux-gnu-gcc",
+        "qemu-s390x-static",
+        ("-static", "-O1"),
+    ),
 ]
 
 
@@ -136,6 +150,9 @@ def built(target: Target, folder: Path, work: Path) -> Path:
     if target.archive.endswith("windows"):
         shutil.copy(folder / "storklocker.dll", made)
         libraries = [f"-I{folder}", f"{folder}/libstorklocker.dll.a"]
+    elif target.archive == "portable":
+        libraries = [f"-I{folder}", "-isystem", f"{folder}/made"]
+        libraries += [f"{folder}/portable.c", f"{folder}/storklocker.c"]
     else:
         libraries = [f"-I{folder}/include", f"{folder}/lib/libstorklocker.a"]
     words = [target.compiler, "-O2", "-o", "answers.exe", "answers.c", *libraries, *target.options]
