@@ -183,6 +183,19 @@ class Explaining(unittest.TestCase):
         out = self.run_command("scan", self.put("plain", pickle.dumps(1)), "--format", "html")[1]
         self.assertNotIn("What it does", out)
 
+    @needs("module:joblib", "module:numpy")
+    def test_joblib(self):
+        """Arrays between the instructions are left out, and arrays of objects are explained too."""
+        import joblib
+        import numpy
+
+        path = self.put("arrays", b"")
+        held = numpy.array([Hostile(), 1], dtype=object)
+        joblib.dump([numpy.arange(1000), held], path)
+        status, out = self.run_command("explain", path)
+        self.assertEqual((status, out.count("joblib, without its arrays")), (0, 2))
+        self.assertIn("= system('touch M')", out)
+
     @needs("module:jsonschema")
     def test_schema(self):
         import jsonschema

@@ -75,6 +75,6 @@ def _lines(
     word, headline = verdict
     yield paint(f"# {word}: {headline}", word)
     for it in parts:
-        if it.path != asked.file:
+        if it.path != asked.file or it.kind != "pickle":
             yield f"# {shown(it.path)}  {it.kind}"
         yield from it.written(paint)

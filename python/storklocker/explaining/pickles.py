@@ -55,9 +55,19 @@ def followed_in(path: str, source: Source, is_full: bool) -> Iterator[Followed]:
                 if WRAPPER_NAMES.intersection(row.names):
                     it, row = without_arrays(it, row, None, place.budget)
                 answer, count = row.taken, count + 1
-                yield followed_row(it, row, is_full)
+                yield from _followed(it, row, place.budget, is_full)
     except TooMuch:
         return  # (the verdict says so)
+
+
+def _followed(piece: Piece, row: Row, budget: Budget, is_full: bool) -> Iterator[Followed]:
+    """What a piece does; of joblib's files without the arrays, and in those of objects."""
+    if piece.kind != "joblib" or row.raw:
+        yield followed_row(piece, row, is_full)
+        return
+    for source in row.sources:
+        part = piece._replace(source=source, kind="joblib, without its arrays")
+        yield followed_row(part, Row(part, None, budget), is_full)
 
 
 def followed_bytes(data: bytes, is_full: bool) -> Followed:
