@@ -45,7 +45,7 @@ PURPOSES = {
     "pkargs": ["the command line"],
     "pkprint": ["answers as lines"],
     "pkpage": ["dis in memory,", "for the page"],
-    "pktool": ["the program: alone", "touches files"],
+    "pktool": ["the program: the only", "crate that touches files"],
     "pkrows": ["tests across crates,", "by tables of rows"],
 }
 TERMINAL = "text { font: 13px monospace; fill: #ddd; white-space: pre }"

@@ -179,8 +179,8 @@ def _add_lint(commands: "argparse._SubParsersAction[argparse.ArgumentParser]") -
     it = commands.add_parser(
         "lint",
         help="lists the dangerous and the unjudged names in a list",
-        description="Lists the names in a list that are dangerous (status 1), do more than hold"
-        " data, or that nobody has judged (status 3).",
+        description="Lists the names in a list that are dangerous (status 1), that do more than"
+        " hold data, or that nobody has judged (status 3).",
     )
     it.add_argument("list", metavar="LIST", help=LISTS)
     it.add_argument(

@@ -34,14 +34,17 @@ def add_commands(commands: "argparse._SubParsersAction[argparse.ArgumentParser]"
     what = "shows and compares lists, and adds names to one"
     within = commands.add_parser("list", help=what, description=f"{what.capitalize()}.")
     its = within.add_subparsers(required=True, metavar="COMMAND")
-    show = its.add_parser("show", help="prints lists as one list file")
+    what = "prints lists as one list file"
+    show = its.add_parser("show", help=what, description=f"{what.capitalize()}.")
     show.add_argument("lists", nargs="*", metavar="LIST", help=LISTS)
     show.set_defaults(run=_show)
-    diff = its.add_parser("diff", help="shows how two lists differ; status 1 if they do")
+    what = "shows how two lists differ; status 1 if they do"
+    diff = its.add_parser("diff", help=what, description=f"{what.capitalize()}.")
     diff.add_argument("old", metavar="OLD", help=LISTS)
     diff.add_argument("new", metavar="NEW", help=LISTS)
     diff.set_defaults(run=_diff)
-    add = its.add_parser("add", help="adds names to a list file, and keeps its comments")
+    what = "adds names to a list file, and keeps its comments"
+    add = its.add_parser("add", help=what, description=f"{what.capitalize()}.")
     add.add_argument("list", metavar="LIST", help="the list file; a new one if there is none")
     add.add_argument(
         "names", nargs="+", metavar="NAME", help="module.name, or module:name if the name has dots"

@@ -80,7 +80,7 @@ def _add_judgements(it: argparse.ArgumentParser) -> None:
     it.add_argument(
         "--danger",
         metavar="FILE",
-        help="a file of more dangerous names: `[danger] A sentence.`, then one name a line",
+        help="a file of more dangerous names: a line `[danger] A sentence.`, then one name a line",
     )
     it.add_argument(
         "--baseline",
