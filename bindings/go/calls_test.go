@@ -72,7 +72,8 @@ func TestNamesOfAnyLengthAreTold(t *testing.T) {
 	if len(found) != 1 || *found[0] != *refusal.Pair || err != nil {
 		t.Error(len(found), err)
 	}
-	bomb := "\x80\x04X\x70\x11\x01\x00" + module + "\x940" + strings.Repeat("h\x00h\x00\x930", 1000) + "N."
+	bomb := "\x80\x04X\x70\x11\x01\x00" + module + "\x940" +
+		strings.Repeat("h\x00h\x00\x930", 1000) + "N."
 	if found, _, err := Imports([]byte(bomb), Standard()); found != nil || err == nil {
 		t.Error(len(found), err)
 	} else if _, isRefusal := err.(*Refusal); isRefusal {

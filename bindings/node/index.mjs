@@ -104,7 +104,8 @@ function limitsOf(found, costs, said) {
 export class List {
   constructor(pairs, limits = STANDARD, substitutes = []) {
     for (const name of pairs.flatMap((it) => [it.module, it.name])) {
-      if (text.decode(encoder.encode(name)) !== name) throw new TypeError(`no text: ${quoted(name)}`);
+      const isText = text.decode(encoder.encode(name)) === name;
+      if (!isText) throw new TypeError(`no text: ${quoted(name)}`);
     }
     this.pairs = pairs;
     this.limits = { ...limits };
@@ -126,7 +127,8 @@ export class List {
       if (!found.pairs || !said.substitutes) throw new RangeError("the list is too long");
       const limits = limitsOf(found, it.costs(source, FREE), said);
       const substitutes = said.substitutes.map((pair) => [pair.module, pair.name]);
-      return new List(found.pairs.map(({ module, name }) => ({ module, name })), limits, substitutes);
+      const pairs = found.pairs.map(({ module, name }) => ({ module, name }));
+      return new List(pairs, limits, substitutes);
     });
   }
 

@@ -16,7 +16,8 @@ function refused(list, pickle, message, call = "check") {
 const none = List.of({});
 const os = bytes("cos\nsystem\n(Vtouch /tmp/mark\ntR.");
 refused(none, os, 'no at 0: ImportOffList("os","system")');
-assert.deepStrictEqual(List.of({ os: ["system"] }).check(os), { taken: 32, imports: 1, pickles: 1 });
+const accepted = List.of({ os: ["system"] }).check(os);
+assert.deepStrictEqual(accepted, { taken: 32, imports: 1, pickles: 1 });
 assert.deepStrictEqual(none.checkStream(bytes("N.N.")), { taken: 4, imports: 0, pickles: 2 });
 refused(none, bytes("N.(."), "no in pickle 1 at 3: MissingItem", "checkStream");
 refused(none, bytes(""), "no in pickle 0 at 0: Truncated", "checkStream");
@@ -47,7 +48,8 @@ build = "made"
 [substitutes]
 "q:C.d" = "s.t:e"
 `);
-assert.deepStrictEqual([list.limits.levels, list.limits.weight, list.limits.builds], [20, undefined, false]);
+const { levels, weight, builds } = list.limits;
+assert.deepStrictEqual([levels, weight, builds], [20, undefined, false]);
 assert.deepStrictEqual(list.substitutes, [["q:C.d", "s.t:e"]]);
 for (const pickle of ["ca\nx\n.", "ca\ny\n.", "cq\nC.d\n."]) list.check(bytes(pickle));
 refused(list, bytes("cq\nC\n."), 'no at 0: ImportOffList("q","C")');
@@ -56,7 +58,8 @@ assert.throws(() => List.parse("version = 9"), (error) => error instanceof ListF
 // a name is compared with all its characters, and printed in ASCII
 const marked = Buffer.from("\ufeffos", "utf-8");
 const hidden = Buffer.concat([bytes("\x80\x04\x8c\x05"), marked, bytes("\x8c\x06system\x93.")]);
-refused(List.of({ os: ["system"] }), hidden, String.raw`no at 17: ImportOffList("\xef\xbb\xbfos","system")`);
+refused(List.of({ os: ["system"] }), hidden,
+  String.raw`no at 17: ImportOffList("\xef\xbb\xbfos","system")`);
 refused(List.parse('version = 1\n[imports]\n"\ufeffos" = ["system"]\n'), os,
   'no at 0: ImportOffList("os","system")');
 assert.throws(() => List.of({ "\ud800": ["a"] }), TypeError);
