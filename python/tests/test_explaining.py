@@ -7,6 +7,7 @@ import os
 import pickle
 import random
 import unittest
+import zipfile
 
 import explained
 import explained_events
@@ -182,6 +183,19 @@ class Explaining(unittest.TestCase):
             self.assertIn(f"x0 = system({quote}touch M{quote})", out)
         out = self.run_command("scan", self.put("plain", pickle.dumps(1)), "--format", "html")[1]
         self.assertNotIn("What it does", out)
+
+    def test_many_members(self):
+        """Behind a hundred pickles only the dangerous ones are explained."""
+        path = self.put("many.zip", b"")
+        with zipfile.ZipFile(path, "w") as archive:
+            for number in range(300):
+                value = Hostile() if number == 250 else number
+                archive.writestr(f"{number}.pkl", pickle.dumps(value))
+        out = self.run_command("explain", path)[1]
+        self.assertIn("250.pkl", out)
+        self.assertIn("= system('touch M')", out)
+        self.assertIn("# 199 more pickles", out)
+        self.assertNotIn("more pickles", self.run_command("explain", path, "--full")[1])
 
     @needs("module:joblib", "module:numpy")
     def test_joblib(self):

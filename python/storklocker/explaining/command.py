@@ -7,16 +7,19 @@ import json
 import sys
 from typing import Any, BinaryIO, Dict, Iterable, Iterator, Tuple
 
+from ..scanning.budget import TooMuch
 from ..scanning.colour import paint_for
 from ..scanning.judging import Question, reports_of
 from ..scanning.report import shown
 from ..scanning.source import source_of
 from ..scanning.words import Word
 from . import verdict_of
-from .pickles import followed_in
+from .pickles import Followed, followed_in
 from .printing import Part, part_of
 
 YES, NO, FAULT = 0, 1, 2
+PICKLES, MOST = 100, 5000
+"""The most pickles of a file that are explained, and the most among which dangerous ones are."""
 VERSION = 1
 """The version of the JSON, which `docs/explain.schema.json` describes."""
 
@@ -48,10 +51,13 @@ def _explain(asked: argparse.Namespace) -> int:
 
 
 def _explained(asked: argparse.Namespace, file: BinaryIO) -> int:
-    source = source_of(file)
+    try:
+        source = source_of(file)
+    except TooMuch as error:
+        raise OSError(str(error)) from None
     reports = list(reports_of(asked.file, source.opened(), Question(as_program=True)))
     verdict = verdict_of(reports)
-    parts = (part_of(it, asked.full) for it in followed_in(asked.file, source, asked.full))
+    parts = _Parts(followed_in(asked.file, source, asked.full), asked.full)
     if asked.format == "json":
         print(json.dumps({"version": VERSION, **_as_dict(asked.file, verdict, parts)}))
     else:
@@ -62,15 +68,34 @@ def _explained(asked: argparse.Namespace, file: BinaryIO) -> int:
     return NO if any(it.status is Word.UNREADABLE for it in reports) else YES
 
 
-def _as_dict(path: str, verdict: Tuple[str, str], parts: Iterable[Part]) -> Dict[str, Any]:
+class _Parts:
+    """The explanations of a file's pickles. Behind many, only the dangerous ones follow."""
+
+    def __init__(self, found: Iterable[Followed], is_full: bool) -> None:
+        self._found, self._is_full = found, is_full
+        self.left_out = 0
+
+    def __iter__(self) -> Iterator[Part]:
+        count = 0
+        for it in self._found:
+            part = part_of(it, self._is_full)
+            count += 1
+            if count <= PICKLES or self._is_full:
+                yield part
+            elif part.worst and count <= MOST:
+                yield part._replace(lines=())
+            else:
+                self.left_out += 1
+
+
+def _as_dict(path: str, verdict: Tuple[str, str], parts: _Parts) -> Dict[str, Any]:
     word, headline = verdict
-    pickles = [it.as_dict() for it in parts]
-    return {"path": path, "verdict": word, "headline": headline, "pickles": pickles}
+    made: Dict[str, Any] = {"path": path, "verdict": word, "headline": headline}
+    made["pickles"] = [it.as_dict() for it in parts]
+    return {**made, "left_out": parts.left_out}
 
 
-def _lines(
-    asked: argparse.Namespace, verdict: Tuple[str, str], parts: Iterable[Part]
-) -> Iterator[str]:
+def _lines(asked: argparse.Namespace, verdict: Tuple[str, str], parts: _Parts) -> Iterator[str]:
     paint = paint_for(asked.color, sys.stdout)
     word, headline = verdict
     yield paint(f"# {word}: {headline}", word)
@@ -78,3 +103,5 @@ def _lines(
         if it.path != asked.file or it.kind != "pickle":
             yield f"# {shown(it.path)}  {it.kind}"
         yield from it.written(paint)
+    if parts.left_out:
+        yield f"# {parts.left_out:,} more pickles (--full has them)"

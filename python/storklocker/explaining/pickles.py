@@ -19,6 +19,9 @@ from .needles import behind
 from .nodes import Node
 
 ENDLESS = 1 << 60
+"""As many instructions as there are."""
+_FILE, _EACH = 5 * STEPS, 500
+"""The most instructions of a file that are explained, but for so many of each pickle."""
 _MISREAD = "a reader reads other bytes than are shown, from a frame's end on"
 
 
@@ -30,6 +33,8 @@ class Followed(NamedTuple):
     source: Source
     events: List[Node]
     is_stream: bool
+    steps: int
+    """How many instructions were followed."""
     refusal: Tuple[int, str]
     """Where a reader stops, and why; -1 if it doesn't."""
     end: str
@@ -39,48 +44,52 @@ class Followed(NamedTuple):
 def followed_in(path: str, source: Source, is_full: bool) -> Iterator[Followed]:
     """What the pickles in a file do, and in its members."""
     place = Place(path, source, Budget(source.size))
-    found, answer, count = examine(place), None, 0
+    found, answer, left = examine(place), None, ENDLESS if is_full else _FILE
+    is_empty = True
     try:
         while True:
             try:
                 it = found.send(answer)
             except StopIteration:
-                if not count:
+                if is_empty:
                     piece = place.piece("pickle", is_claimed=True)
-                    yield followed_row(piece, Row(piece, None, place.budget), is_full)
+                    yield followed_row(piece, Row(piece, None, place.budget), left)
                 return
             answer = None
             row = row_of(it, None, place.budget) if isinstance(it, Piece) else None
             if row is not None and isinstance(it, Piece):
                 if WRAPPER_NAMES.intersection(row.names):
                     it, row = without_arrays(it, row, None, place.budget)
-                answer, count = row.taken, count + 1
-                yield from _followed(it, row, place.budget, is_full)
+                answer, is_empty = row.taken, False
+                for told in _followed(it, row, place.budget, max(left, _EACH)):
+                    left -= told.steps
+                    yield told
     except TooMuch:
         return  # (the verdict says so)
 
 
-def _followed(piece: Piece, row: Row, budget: Budget, is_full: bool) -> Iterator[Followed]:
+def _followed(piece: Piece, row: Row, budget: Budget, most: int) -> Iterator[Followed]:
     """What a piece does; of joblib's files without the arrays, and in those of objects."""
     if piece.kind != "joblib" or row.raw:
-        yield followed_row(piece, row, is_full)
+        yield followed_row(piece, row, most)
         return
     for source in row.sources:
         part = piece._replace(source=source, kind="joblib, without its arrays")
-        yield followed_row(part, Row(part, None, budget), is_full)
+        yield followed_row(part, Row(part, None, budget), most)
 
 
 def followed_bytes(data: bytes, is_full: bool) -> Followed:
     """What the pickles at the front of these bytes do."""
     source = in_memory(io.BytesIO(data))
     piece = Piece("", "pickle", source, True)
-    return followed_row(piece, Row(piece, None, Budget(len(data))), is_full)
+    most = ENDLESS if is_full else STEPS
+    return followed_row(piece, Row(piece, None, Budget(len(data))), most)
 
 
-def followed_row(piece: Piece, row: Row, is_full: bool) -> Followed:
+def followed_row(piece: Piece, row: Row, most: int) -> Followed:
     """What pickles do that follow one another, up to the first that is refused, and that."""
     source = piece.source
-    machine = Machine(source, 0, ENDLESS if is_full else STEPS)
+    machine = Machine(source, 0, most if most > _FILE else min(most, STEPS))
     machine.gets_members = _gets_members(source, row)
     count, end = row.pickles + (row.refusal is not None), ""
     while machine.pickles < count and machine.at < source.size and not end:
@@ -92,7 +101,9 @@ def followed_row(piece: Piece, row: Row, is_full: bool) -> Followed:
     if machine.is_misread:
         end = "; ".join(filter(None, (_MISREAD, end)))
     refusal = (-1, "") if row.refusal is None else _refused(row.refusal)
-    return Followed(piece.path, piece.kind, source, machine.events, count > 1, refusal, end)
+    is_stream = count > 1
+    told = (piece.path, piece.kind, source, machine.events, is_stream, machine.steps, refusal, end)
+    return Followed(*told)
 
 
 def _gets_members(source: Source, row: Row) -> bool:

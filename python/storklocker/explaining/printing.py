@@ -60,6 +60,7 @@ class Part(NamedTuple):
             "kind": self.kind,
             "imports": [it._asdict() for it in self.names],
             "unlisted": self.unlisted,
+            "dangerous": [it._asdict() for it in self.worst],
             "statements": [it._asdict() for it in self.lines],
         }
 
@@ -75,9 +76,13 @@ class Part(NamedTuple):
             yield "# dangerous statements:"
         for line in self.worst:
             yield from line.written(paint, _INDENT)
+        lines = iter(self.lines)
+        first = next(lines, None)
+        if first is None:
+            return
         if self.names:
             yield "# all statements:"
-        for line in self.lines:
+        for line in itertools.chain([first], lines):
             yield from line.written(paint)
 
 
