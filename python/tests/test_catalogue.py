@@ -16,6 +16,7 @@ from storklocker._substitutes import TABLE, declared, substitute_of
 from storklocker.scanning import dangers
 
 sys.path.append(str(PYTHON / "catalogue"))
+import describe  # noqa: E402
 import elsewhere  # noqa: E402
 import rows as catalogue  # noqa: E402
 import shipping  # noqa: E402
@@ -57,7 +58,9 @@ class Rows(unittest.TestCase):
         if row.does and self.words[row.does].severity == "harmless":
             return row.by
         package = self.rows.get(f"{today[0].partition('.')[0]}.*")
-        return "its package's" if package and package.substitute == "any" else row.kind
+        if package and package.substitute == "any":
+            return "its package's"
+        return row.kind if row.kind in ("enum", "exception", "value") else ""
 
     def test_every_listed_name_has_an_answer(self):
         for name in lists.__all__:
@@ -85,6 +88,14 @@ class Rows(unittest.TestCase):
                 is_error = isinstance(it, type) and issubclass(it, BaseException)
                 self.assertTrue(
                     is_error or not callable(it) or substitute_of(pair) is not None, pair)
+
+    def test_a_kind_is_true(self):
+        """As far as this Python has the names, some of which differ between versions."""
+        told = [(name, kind) for name, _, kind in describe.described() if kind is not None]
+        wrong = [name for name, kind in told if self.rows[name].kind not in ("", kind)]
+        self.assertEqual(wrong, [])
+        self.assertGreater(len(told), 200)
+        self.assertLess(sum(not self.rows[name].kind for name, _ in told), len(told) // 20)
 
     def test_every_danger_has_one(self):
         for name, row in dangers.known().rows.items():
