@@ -16,6 +16,8 @@ WHY = {
     "a substitute, or what judges objects: its code stands beside the names that it is for":
         "_arrays _builtins _calls _compiled _library _of_estimators _of_numpy _of_packages"
         " _of_pandas _of_torch _sections _states _uses",
+    "whose calls explain follows, with what they are given":
+        "explaining/decoding explaining/payloads",
     "getattr is asked for members of enums": "_learning scanning/command scanning/members",
     "what hostile pickles are made of, and what they do": "judge/objects judge/shapes judge/watch",
     "what a reader of such files does with these names":
