@@ -175,6 +175,24 @@ class Packages(unittest.TestCase):
         self.assertEqual((listed.returncode, listed.stdout), (2, ""))
         self.assertIn("this package has none", listed.stderr)
 
+    def test_the_debian_package_builds(self) -> None:
+        for it in ("dpkg-buildpackage", "dh", "pybuild"):
+            if shutil.which(it) is None:
+                self.skipTest(f"without {it}")
+        version = (ROOT / "VERSION").read_text().strip()
+        source, made = wheels() / f"storklocker-{version}.tar.gz", self.folder / "debian"
+        said = ran(ROOT / "packaging" / "debian" / "make", source, made)
+        if "Unmet build dependencies" in said.stderr:
+            self.skipTest(said.stderr.strip().splitlines()[0])
+        self.assertEqual(said.returncode, 0, said.stdout + said.stderr)
+        (package,) = made.glob("python3-storklocker_*.deb")
+        subprocess.run(["dpkg-deb", "-x", package, made], check=True)
+        place = {"PYTHONPATH": str(made / "usr/lib/python3/dist-packages")}
+        words = ("-m", "storklocker", "scan", self.files() / "bad.pkl")
+        scanned = ran("/usr/bin/python3", *words, cwd="/", env=place)
+        self.assertEqual(scanned.returncode, 1, scanned.stdout + scanned.stderr)
+        self.assertTrue((made / "usr/share/man/man1/storklocker.1.gz").exists())
+
     def build(self, interpreter: str, source: Path) -> Optional[Path]:
         """The folder of commands of an environment with the package, built from a source
         distribution; None if the interpreter lacks what that takes.
