@@ -53,7 +53,7 @@ impl<D: Domain> Model for Session<D> {
 
     ghost Value = { SessionView };
 
-    ghost view = { λ s. record { frame = s.frames; machine = s.machine } };
+    ghost view = { λ s. record { frame = s.frames; machine = s.machine.view } };
 }
 
 impl<D: Domain> Session<D> {
@@ -312,7 +312,7 @@ impl<D: Domain> Session<D> {
 
     /// Moves the machine out, and leaves another in its place.
     fn take_machine(&mut self, alloc: Global) -> Machine<D>
-        ensures machine { result ≡ self.old.machine }
+        ensures machine { result.view ≡ self.old.machine }
         ensures frame { self.new.frame ≡ self.old.frame }
     {
         let domain = self.machine.domain();

@@ -3,6 +3,8 @@ pub mod Coverage
 pub mod StepParts
 -- the fields of the machine: the stack, the memo, the texts, the imports
 pub mod ResolvedEntries
+pub mod FollowedItems
+mod FollowedExamples
 pub mod PushedTexts
 pub mod AskedOperands
 pub mod Numbered

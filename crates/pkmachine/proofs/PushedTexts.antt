@@ -34,11 +34,12 @@ module _ {I : Type 0} (limit : ℕ) (text : List ℕ) (item : I) (old : StackAnd
 
   pub text_pushed : {A : Type 0} (a : A) (new : StackAndTable I) → new.entries ≡ numbered
       → length new.entries ≤ limit → new.table ≡ appended text old.table
-      → HasPushedText limit text old new (Ok a)
+      → HasPushedText item limit text old new (Ok a)
   text_pushed a new entries room table =
       let texts = old.table.texts in
       rw (table, entries) (record {
         ok = text_seen texts text item old.entries sees;
+        has = refl;
         sees = text_sees texts text item old.entries sees;
         grows = record { more = text ∷ []; is = refl };
         count = omega (arith, length-append texts (text ∷ []));
@@ -53,12 +54,13 @@ module _ {I : Type 0} (limit : ℕ) (text : List ℕ) (item : I) (old : StackAnd
       → OnOk x (new.entries ≡ entries) → OnOk x (new.table ≡ appended text table)
       → IfErr x (λ why. (new.entries ≡ below place entries) × (new.table ≡ table)
       × (why ≡ OutOfMemory))
-      → HasPushedText limit text old new (with_reason x)
+      → HasPushedText item limit text old new (with_reason x)
   text_added (Ok a) entries table place new top room same at kept added err =
       text_pushed a new (kept ∙ top) (subst (λ l. length l ≤ limit) (sym kept) room)
       (added ∙ ap (appended text) same)
   text_added (Err why) entries table place new top room same at kept added err = record {
     ok = tt;
+    has = tt;
     sees = tt;
     grows = tt;
     count = tt;

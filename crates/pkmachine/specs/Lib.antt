@@ -11,6 +11,7 @@ pub mod Policies
 pub mod View
 pub mod Texts
 pub mod Memory
+pub mod Following
 pub mod Step
 -- laws of these definitions
 pub mod AlikeLaws

@@ -3,6 +3,7 @@
 pub mod Packed
 pub mod HeldCells
 pub mod Slots
+pub mod Items
 pub mod Asking
 pub mod StepErrors
 pub mod Spelled

@@ -19,43 +19,38 @@ pub trait Item: Copy + Drop {
 /// Whoever follows the objects of a pickle along with the machine: what each is made of, and what
 /// the moves do. An operation that leaves its first operand leaves that one's item.
 pub trait Domain: Copy + Drop {
-    ghost use Rattle.std.specs.Prelude.{◌≡◌, List, [], map};
+    ghost use Rattle.std.specs.Prelude.{◌≡◌, [], map};
     ghost use Rattle.pkmachine.specs.declared.held.Held.{Held};
     ghost use Rattle.pkops.specs.Inst.{instruction_of};
+    ghost use Rattle.pkmachine.specs.Following.{Follower};
     ghost use Rattle.pkops.specs.Spelling.{Instruction};
-    ghost use Rattle.pkstack.specs.declared.moves.Move.{Move as Movement};
 
     /// What is kept of an object.
     type Item: Item;
 
-    // What is kept of the object that an instruction makes of operands of which this is kept.
-    ghost given: { Self → Instruction → List Self.Item → Self.Item };
-
-    // What the domain is behind an instruction that takes operands of which this is kept.
-    ghost after: { Self → Instruction → List Self.Item → Self };
-
-    // What the domain is behind a move.
-    ghost after_move: { Self → Movement → Instruction → Self };
+    // What is kept of the object that an instruction makes, and what the domain is behind it.
+    ghost follows: { Follower Self.Item Self };
 
     /// Follows an instruction that makes an object without operands.
     fn made(&mut self, inst: &Inst<'_>) -> Self::Item
-        ensures item { result ≡ given self.old (instruction_of inst.now) [] }
-        ensures state { self.new ≡ after self.old (instruction_of inst.now) [] };
+        ensures item { result ≡ follows.given self.old (instruction_of inst.now) [] }
+        ensures state { self.new ≡ follows.after self.old (instruction_of inst.now) [] };
 
     /// Follows an instruction that makes an object, whose payload was skipped.
     fn passed(&mut self, op: Op) -> Self::Item
-        ensures item { (i : Instruction) → i.op ≡ op → result ≡ given self.old i [] }
-        ensures state { (i : Instruction) → i.op ≡ op → self.new ≡ after self.old i [] };
+        ensures item { (i : Instruction) → i.op ≡ op → result ≡ follows.given self.old i [] }
+        ensures state { (i : Instruction) → i.op ≡ op → self.new ≡ follows.after self.old i [] };
 
     /// Follows an operation on these operands.
     fn operated(&mut self, op: Op, operands: &Operands<'_, Self::Item>) -> Self::Item
         ensures item { (i : Instruction) → i.op ≡ op
-            → result ≡ given self.old i (map (λ (held : Held Self.Item). held.item) operands.now) }
+            → result ≡ follows.given self.old i
+            (map (λ (held : Held Self.Item). held.item) operands.now) }
         ensures state { (i : Instruction) → i.op ≡ op
-            → self.new ≡ after self.old i
+            → self.new ≡ follows.after self.old i
             (map (λ (held : Held Self.Item). held.item) operands.now) };
 
     /// Follows a move.
     fn moved(&mut self, what: Move, inst: &Inst<'_>)
-        ensures { self.new ≡ after_move self.old what (instruction_of inst.now) };
+        ensures { self.new ≡ follows.after_move self.old what (instruction_of inst.now) };
 }

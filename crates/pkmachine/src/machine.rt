@@ -1,7 +1,8 @@
 //! The symbolic machine, which knows what holds in every run and executes nothing.
 
 ghost use Rattle.std.specs.Prelude.{◌≡◌, option_map, is_some, IfErr, IfOk, IsTrue};
-ghost use Rattle.std.specs.Prelude.{[], None, false, true, OnErr, OnOk};
+ghost use Rattle.std.specs.Prelude.{[], None, Ok, false, true, OnErr, OnOk};
+ghost use Rattle.pkmachine.specs.declared.memo.Memo.TheVariants as Memo;
 ghost use Rattle.pkmachine.specs.declared.old_strings.OldStrings.TheVariants as OldStrings;
 ghost use Rattle.pkops.specs.Inst.{instruction_of};
 ghost use Rattle.pkops.specs.Admitted.{is_admitted};
@@ -13,6 +14,7 @@ ghost use Rattle.pkmachine.specs.Knowledge.{nothing_known};
 ghost use Rattle.pkmachine.specs.Policies.{permit_of, policy_of};
 ghost use Rattle.pkimport.specs.Import.{asked_shown, pair_shown};
 ghost use Rattle.pkops.specs.Payloads.{is_passed};
+ghost use Rattle.pkmachine.specs.Following.{carried_on, followed, nothing_carried};
 ghost use Rattle.pkmachine.specs.Step.{IsStep};
 ghost use Rattle.pkmachine.specs.Texts.{texts_then};
 ghost use Rattle.pkmachine.specs.View.{fresh, has_off_list, moved_apart, restarted, stopped_by};
@@ -45,9 +47,9 @@ pub struct Machine<D: Domain> {
 }
 
 impl<D: Domain> Model for Machine<D> {
-    ghost use Rattle.pkmachine.specs.View.{View};
+    ghost use Rattle.pkmachine.specs.Following.{MachineView};
 
-    ghost Value = { View };
+    ghost Value = { MachineView D.Item D };
 
     ghost use Rattle.std.specs.Prelude.{◌≡◌, None, is_some, option_map};
     ghost use Rattle.pkimport.specs.Import.{asked_shown, pair_shown};
@@ -55,19 +57,22 @@ impl<D: Domain> Model for Machine<D> {
     ghost use Rattle.pkmachine.specs.View.{has_off_list};
 
     ghost view = { λ m. record {
-      knowledge = m.state.knowledge;
-      limits = m.config.limits;
-      old_strings = m.config.old_strings;
-      imports = m.state.imports;
-      off = option_map asked_shown m.off;
-      refused = m.refused;
-      stopped = m.stopped;
-      texts = m.state.texts;
+      view = record {
+        knowledge = m.state.view.knowledge;
+        limits = m.config.limits;
+        old_strings = m.config.old_strings;
+        imports = m.state.view.imports;
+        off = option_map asked_shown m.off;
+        refused = m.refused;
+        stopped = m.stopped;
+        texts = m.state.view.texts;
+      };
+      carried = m.state.carried;
     } };
 
     // A machine that has refused nothing is within its limits and holds no pair. One that has
     // refused holds a pair exactly if the import was off the list.
-    ghost invariant = { λ m. (m.refused ≡ None → FitsLimits m.config.limits m.state.knowledge)
+    ghost invariant = { λ m. (m.refused ≡ None → FitsLimits m.config.limits m.state.view.knowledge)
         × (m.refused ≡ None → m.off ≡ None)
         × (is_some (pair_shown (option_map asked_shown m.off)) ≡ has_off_list m.refused) };
 }
@@ -76,16 +81,16 @@ impl Machine<Nothing> {
     /// A machine at the first instruction, with an empty stack and memo. Python 2 strings may
     /// decode to anything. Allocates nothing.
     pub fn new(alloc: Global, limits: &Limits) -> Machine<Nothing>
-        ensures fresh { result ≡ fresh OldStrings.Unknown limits.now }
-        ensures covers { Covers result.knowledge start }
+        ensures fresh { result.view ≡ fresh OldStrings.Unknown limits.now }
+        ensures covers { Covers result.view.knowledge start }
     {
         Machine::new_as(alloc, limits, OldStrings::Unknown)
     }
 
     /// Like `new`, for an unpickler that decodes Python 2 strings as `old_strings` says.
     pub fn new_as(alloc: Global, limits: &Limits, old_strings: OldStrings) -> Machine<Nothing>
-        ensures fresh { result ≡ fresh old_strings limits.now }
-        ensures covers { Covers result.knowledge start }
+        ensures fresh { result.view ≡ fresh old_strings limits.now }
+        ensures covers { Covers result.view.knowledge start }
     {
         Machine::followed(alloc, limits, old_strings, Nothing)
     }
@@ -99,8 +104,9 @@ impl<D: Domain> Machine<D> {
         old_strings: OldStrings,
         domain: D,
     ) -> Machine<D>
-        ensures fresh { result ≡ fresh old_strings limits.now }
-        ensures covers { Covers result.knowledge start }
+        ensures fresh { result.view ≡ fresh old_strings limits.now }
+        ensures carried { result.carried ≡ nothing_carried domain }
+        ensures covers { Covers result.view.knowledge start }
     {
         Machine {
             config: MachineConfig {
@@ -128,11 +134,14 @@ impl<D: Domain> Machine<D> {
     #[inline(always)]
     pub fn step(&mut self, inst: &Inst, policy: &Policy) -> Result<Moved, Reason>
         requires admitted { is_admitted (instruction_of inst.now) ≡ true }
-        requires running { self.old.stopped ≡ false }
-        ensures step { IsStep (policy_of policy.now) (instruction_of inst.now) self.old self.new
-            result }
-        ensures texts { OnOk result (self.new.texts
-            ≡ texts_then self.old.old_strings (instruction_of inst.now).op self.old.texts) }
+        requires running { self.old.view.stopped ≡ false }
+        ensures step { IsStep (policy_of policy.now) (instruction_of inst.now) self.old.view
+            self.new.view result }
+        ensures carried { OnOk result (followed D.follows (instruction_of inst.now)
+            self.old.carried ≡ Ok self.new.carried) }
+        ensures texts { OnOk result (self.new.view.texts
+            ≡ texts_then self.old.view.old_strings (instruction_of inst.now).op
+            self.old.view.texts) }
     {
         if let Some(reason) = self.refused {
             return Err(reason);
@@ -144,12 +153,15 @@ impl<D: Domain> Machine<D> {
     #[inline(always)]
     pub fn step_on(&mut self, inst: &Inst, policy: &Permit) -> Result<Moved, Reason>
         requires admitted { is_admitted (instruction_of inst.now) ≡ true }
-        requires running { self.old.stopped ≡ false }
-        requires well { self.old.refused ≡ None }
-        ensures step { IsStep (permit_of policy.now) (instruction_of inst.now) self.old self.new
-            result }
-        ensures texts { OnOk result (self.new.texts
-            ≡ texts_then self.old.old_strings (instruction_of inst.now).op self.old.texts) }
+        requires running { self.old.view.stopped ≡ false }
+        requires well { self.old.view.refused ≡ None }
+        ensures step { IsStep (permit_of policy.now) (instruction_of inst.now) self.old.view
+            self.new.view result }
+        ensures carried { OnOk result (followed D.follows (instruction_of inst.now)
+            self.old.carried ≡ Ok self.new.carried) }
+        ensures texts { OnOk result (self.new.view.texts
+            ≡ texts_then self.old.view.old_strings (instruction_of inst.now).op
+            self.old.view.texts) }
     {
         bounded_names();
         match advance(&mut self.state, &self.config, inst, policy, &mut self.off) {
@@ -172,11 +184,15 @@ impl<D: Domain> Machine<D> {
     /// `TooLarge` if the stack would exceed its limit; `OutOfMemory` if an allocation was refused.
     pub fn step_passed(&mut self, op: Op, policy: &Policy) -> Result<Moved, Reason>
         requires passed { IsTrue (is_passed op) }
-        requires running { self.old.stopped ≡ false }
+        requires running { self.old.view.stopped ≡ false }
         ensures step { (instruction : Instruction) → instruction.op ≡ op
-            → IsStep (policy_of policy.now) instruction self.old self.new result }
-        ensures goes_on { IfOk result (λ moved. (moved ≡ Moved.On) × (self.new.stopped ≡ false)) }
-        ensures imports { self.new.imports ≡ self.old.imports }
+            → IsStep (policy_of policy.now) instruction self.old.view self.new.view
+            result }
+        ensures carried { (instruction : Instruction) → instruction.op ≡ op
+            → OnOk result (followed D.follows instruction self.old.carried ≡ Ok self.new.carried) }
+        ensures goes_on { IfOk result (λ moved. (moved ≡ Moved.On)
+            × (self.new.view.stopped ≡ false)) }
+        ensures imports { self.new.view.imports ≡ self.old.view.imports }
     {
         self.step_passed_by(op, &Permit::By(*policy))
     }
@@ -184,11 +200,15 @@ impl<D: Domain> Machine<D> {
     /// Steps as [`Machine::step_passed`] does, whatever permits the imports.
     pub fn step_passed_by(&mut self, op: Op, policy: &Permit) -> Result<Moved, Reason>
         requires passed { IsTrue (is_passed op) }
-        requires running { self.old.stopped ≡ false }
+        requires running { self.old.view.stopped ≡ false }
         ensures step { (instruction : Instruction) → instruction.op ≡ op
-            → IsStep (permit_of policy.now) instruction self.old self.new result }
-        ensures goes_on { IfOk result (λ moved. (moved ≡ Moved.On) × (self.new.stopped ≡ false)) }
-        ensures imports { self.new.imports ≡ self.old.imports }
+            → IsStep (permit_of policy.now) instruction self.old.view self.new.view
+            result }
+        ensures carried { (instruction : Instruction) → instruction.op ≡ op
+            → OnOk result (followed D.follows instruction self.old.carried ≡ Ok self.new.carried) }
+        ensures goes_on { IfOk result (λ moved. (moved ≡ Moved.On)
+            × (self.new.view.stopped ≡ false)) }
+        ensures imports { self.new.view.imports ≡ self.old.view.imports }
     {
         bounded_names();
         if let Some(earlier) = self.refused {
@@ -208,21 +228,23 @@ impl<D: Domain> Machine<D> {
     }
 
     /// What follows the objects along, as it is now.
-    pub fn domain(&self) -> D {
+    pub fn domain(&self) -> D
+        ensures { result ≡ self.now.carried.domain }
+    {
         self.state.domain()
     }
 
     /// The limits of the check.
     pub fn limits(&self) -> &Limits
-        ensures { result.now ≡ self.now.limits }
+        ensures { result.now ≡ self.now.view.limits }
     {
         &self.config.limits
     }
 
     /// The number of open marks, which is the same in every run.
     pub fn marks(&self) -> usize
-        ensures known { result ≡ marks_of self.now.knowledge.entries }
-        ensures covered { (state : State) → Covers self.now.knowledge state
+        ensures known { result ≡ marks_of self.now.view.knowledge.entries }
+        ensures covered { (state : State) → Covers self.now.view.knowledge state
             → result ≡ marks_of state.shape.entries }
     {
         self.state.marks()
@@ -232,14 +254,14 @@ impl<D: Domain> Machine<D> {
     /// SHORT_BINUNICODE, BINUNICODE, BINUNICODE8, and a Python 2 string decoded as ASCII. Other
     /// steps leave it unchanged.
     pub fn texts(&self) -> usize
-        ensures { result ≡ self.now.texts }
+        ensures { result ≡ self.now.view.texts }
     {
         self.state.texts()
     }
 
     /// The imports so far, in order.
     pub fn imports(&self) -> ImportList<'_>
-        ensures { result ≡ self.now.imports }
+        ensures { result ≡ self.now.view.imports }
     {
         self.state.imports()
     }
@@ -247,8 +269,8 @@ impl<D: Domain> Machine<D> {
     /// The module and the name of the import that was off the list; `None` unless the reason was
     /// `ImportOffList`.
     pub fn off_list(&self) -> Option<(&str, &str)>
-        ensures pair { option_map (λ p. (p.0.now, p.1.now)) result ≡ pair_shown self.now.off }
-        ensures present { is_some result ≡ has_off_list self.now.refused }
+        ensures pair { option_map (λ p. (p.0.now, p.1.now)) result ≡ pair_shown self.now.view.off }
+        ensures present { is_some result ≡ has_off_list self.now.view.refused }
     {
         match &self.off {
             Some(
@@ -266,10 +288,11 @@ impl<D: Domain> Machine<D> {
     /// forgets everything else. With a kept memo it only clears the stack, in constant time,
     /// because the memo may refer to any text.
     pub fn into_next(self, memo: Memo, apart: &mut ImportTable) -> Result<Machine<D>, Machine<D>>
-        requires { self.refused ≡ None }
-        ensures next { IfOk result (λ next. next ≡ restarted memo self) }
+        requires { self.view.refused ≡ None }
+        ensures next { IfOk result (λ next. next.view ≡ restarted memo self.view) }
+        ensures carried { IfOk result (λ next. next.carried ≡ carried_on memo self.carried) }
         ensures apart { OnOk result (apart.new.asked
-            ≡ moved_apart memo apart.old.asked self.imports) }
+            ≡ moved_apart memo apart.old.asked self.view.imports) }
         ensures kept { IfErr result (λ same. same ≡ self) }
     {
         let mut machine = self;
@@ -281,10 +304,11 @@ impl<D: Domain> Machine<D> {
 
     /// Continues at the first instruction of another pickle.
     fn restart(&mut self, memo: Memo, apart: &mut ImportTable) -> Result<(), AllocError>
-        requires { self.old.refused ≡ None }
-        ensures next { OnOk result (self.new ≡ restarted memo self.old) }
+        requires { self.old.view.refused ≡ None }
+        ensures next { OnOk result (self.new.view ≡ restarted memo self.old.view) }
+        ensures carried { OnOk result (self.new.carried ≡ carried_on memo self.old.carried) }
         ensures apart { OnOk result (apart.new.asked
-            ≡ moved_apart memo apart.old.asked self.old.imports) }
+            ≡ moved_apart memo apart.old.asked self.old.view.imports) }
         ensures kept { OnErr result (self.new ≡ self.old) }
     {
         match memo {
@@ -300,20 +324,21 @@ impl<D: Domain> Machine<D> {
 
     /// Moves the imports out, and forgets the stack, the memo and the texts.
     pub fn take_imports(&mut self) -> Imports
-        ensures imports { result ≡ self.old.imports }
-        ensures off { self.new.off ≡ self.old.off }
-        ensures after { self.new ≡ record self.old {
+        ensures imports { result ≡ self.old.view.imports }
+        ensures off { self.new.view.off ≡ self.old.view.off }
+        ensures after { self.new.view ≡ record self.old.view {
           knowledge = nothing_known;
           imports = [];
           texts = 0;
         } }
+        ensures carried { self.new.carried ≡ carried_on Memo.Fresh self.old.carried }
     {
         self.state.take_imports(self.config.alloc)
     }
 
     /// The pair that was off the list.
     pub fn into_off_list(self) -> Option<Asked>
-        ensures { option_map asked_shown result ≡ self.off }
+        ensures { option_map asked_shown result ≡ self.view.off }
     {
         let Machine { off, .. } = self;
         off
@@ -321,7 +346,7 @@ impl<D: Domain> Machine<D> {
 
     /// Whether STOP was accepted.
     pub fn stopped(&self) -> bool
-        ensures { result ≡ self.now.stopped }
+        ensures { result ≡ self.now.view.stopped }
     {
         self.stopped
     }

@@ -58,7 +58,7 @@ fn name_text<I: Item>(
 ) -> Result<(), NotPushed>
     requires utf8 { IsUtf8 text.now }
     requires sees { AreSeen (record { entries = stack.old; table = table.old }) }
-    ensures { HasPushedText limits.now.stack text.now
+    ensures { HasPushedText item limits.now.stack text.now
         (record { entries = stack.old; table = table.old })
         (record { entries = stack.new; table = table.new }) (with_reason result) }
 {
@@ -86,7 +86,7 @@ fn name_any_text<I: Item>(
 ) -> Result<(), NotPushed>
     requires utf8 { IsUtf8 text.now }
     requires sees { AreSeen (record { entries = stack.old; table = table.old }) }
-    ensures { HasPushedText limits.now.stack text.now
+    ensures { HasPushedText item limits.now.stack text.now
         (record { entries = stack.old; table = table.old })
         (record { entries = stack.new; table = table.new }) (with_reason result) }
 {
@@ -138,7 +138,8 @@ fn name_payload<I: Item>(
 ) -> Result<(), NotPushed>
     requires good { IsGood (instruction op (Counted payload.now)) }
     requires sees { AreSeen (record { entries = stack.old; table = table.old }) }
-    ensures { HasPushedText config.now.limits.stack (text (instruction op (Counted payload.now)))
+    ensures { HasPushedText item config.now.limits.stack
+        (text (instruction op (Counted payload.now)))
         (record { entries = stack.old; table = table.old })
         (record { entries = stack.new; table = table.new }) (with_reason result) }
 {
@@ -172,7 +173,8 @@ fn name_payload_slowly<I: Item>(
 ) -> Result<(), NotPushed>
     requires good { IsGood (instruction op (Counted payload.now)) }
     requires sees { AreSeen (record { entries = stack.old; table = table.old }) }
-    ensures { HasPushedText config.now.limits.stack (text (instruction op (Counted payload.now)))
+    ensures { HasPushedText item config.now.limits.stack
+        (text (instruction op (Counted payload.now)))
         (record { entries = stack.old; table = table.old })
         (record { entries = stack.new; table = table.new }) (with_reason result) }
 {
@@ -195,7 +197,7 @@ fn name_line<I: Item>(
 ) -> Result<(), NotPushed>
     requires good { IsGood (instruction op (Line line.now)) }
     requires sees { AreSeen (record { entries = stack.old; table = table.old }) }
-    ensures { HasPushedText config.now.limits.stack (text (instruction op (Line line.now)))
+    ensures { HasPushedText item config.now.limits.stack (text (instruction op (Line line.now)))
         (record { entries = stack.old; table = table.old })
         (record { entries = stack.new; table = table.new }) (with_reason result) }
 {
@@ -230,7 +232,7 @@ fn name_line_slowly<I: Item>(
 ) -> Result<(), NotPushed>
     requires good { IsGood (instruction op (Line line.now)) }
     requires sees { AreSeen (record { entries = stack.old; table = table.old }) }
-    ensures { HasPushedText config.now.limits.stack (text (instruction op (Line line.now)))
+    ensures { HasPushedText item config.now.limits.stack (text (instruction op (Line line.now)))
         (record { entries = stack.old; table = table.old })
         (record { entries = stack.new; table = table.new }) (with_reason result) }
 {
@@ -252,7 +254,7 @@ pub fn make_text<I: Item>(
 ) -> Result<(), Reason>
     requires spells { IsSpelled (instruction_of inst.now).arg }
     requires sees { AreSeen (record { entries = stack.old; table = table.old }) }
-    ensures { HasPushedText config.now.limits.stack (text (instruction_of inst.now))
+    ensures { HasPushedText item config.now.limits.stack (text (instruction_of inst.now))
         (record { entries = stack.old; table = table.old })
         (record { entries = stack.new; table = table.new }) result }
 {

@@ -25,11 +25,11 @@ impl Item for NoItem {
 impl Domain for Nothing {
     type Item = NoItem;
 
-    ghost given = { λ domain instruction items. record {} };
-
-    ghost after = { λ domain instruction items. domain };
-
-    ghost after_move = { λ domain what instruction. domain };
+    ghost follows = { record {
+      given = λ domain instruction items. record {};
+      after = λ domain instruction items. domain;
+      after_move = λ domain what instruction. domain;
+    } };
 
     #[inline(always)]
     fn made(&mut self, _inst: &Inst<'_>) -> NoItem {

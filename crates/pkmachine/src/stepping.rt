@@ -2,6 +2,7 @@
 ghost use Rattle.std.specs.Prelude.{◌≡◌, ◌≤◌, length, option_map, None, Ok};
 ghost use Rattle.std.specs.Prelude.{IfOk, IfErr, OnOk, OnErr};
 ghost use Rattle.pkmachine.specs.Effects.{effect_as, effect_of};
+ghost use Rattle.pkmachine.specs.Following.{followed, stop_followed};
 ghost use Rattle.pkmachine.specs.Knowledge.{stop_learned};
 ghost use Rattle.pkmachine.specs.Private.Actions.{IsOperation};
 ghost use Rattle.pkmachine.specs.Private.Steps.{Advances, HasReadOldString, IsAdvanceFault};
@@ -47,17 +48,19 @@ pub fn advance<D: Domain>(
     policy: &Permit,
     off: &mut Option<Asked>,
 ) -> Result<Moved, Reason>
-    requires room { FitsLimits config.now.limits state.old.knowledge }
+    requires room { FitsLimits config.now.limits state.old.view.knowledge }
     requires none { off.old ≡ None }
     ensures ok { IfOk result (Advances config.now (permit_of policy.now) (instruction_of inst.now)
-        state.old state.new) }
-    ensures room { OnOk result (FitsLimits config.now.limits state.new.knowledge) }
-    ensures texts { OnOk result (state.new.texts ≡ texts_after
-        (effect_as config.now.old_strings (instruction_of inst.now)) state.old.texts) }
+        state.old.view state.new.view) }
+    ensures carried { OnOk result (followed D.follows (instruction_of inst.now) state.old.carried
+        ≡ Ok state.new.carried) }
+    ensures room { OnOk result (FitsLimits config.now.limits state.new.view.knowledge) }
+    ensures texts { OnOk result (state.new.view.texts ≡ texts_after
+        (effect_as config.now.old_strings (instruction_of inst.now)) state.old.view.texts) }
     ensures off { OnOk result (off.new ≡ None) }
-    ensures kept { OnErr result (state.new ≡ state.old) }
+    ensures kept { OnErr result (state.new.view ≡ state.old.view) }
     ensures err { IfErr result (λ r. IsAdvanceFault config.now (permit_of policy.now)
-        (instruction_of inst.now) state.old.knowledge r (option_map asked_shown off.new)) }
+        (instruction_of inst.now) state.old.view.knowledge r (option_map asked_shown off.new)) }
 {
     let op = inst.op();
     match action_of(op) {
@@ -102,8 +105,9 @@ fn read_copy<D: Domain>(
     inst: &Inst,
 ) -> Result<(), Reason>
     requires old { IsOldString (instruction_of inst.now) }
-    requires memo { length state.old.knowledge.memo ≤ config.now.limits.memo }
-    ensures { HasReadOldString config.now (instruction_of inst.now) state.old state.new result }
+    requires memo { length state.old.view.knowledge.memo ≤ config.now.limits.memo }
+    ensures { HasReadOldString D.follows config.now (instruction_of inst.now) state.old state.new
+        result }
 {
     let copy = Inst::known(inst.op(), inst.arg());
     read_old_string(state, config, &copy)?;
@@ -118,8 +122,9 @@ fn read_old_string<D: Domain>(
     inst: &Inst,
 ) -> Result<(), Reason>
     requires old { IsOldString (instruction_of inst.now) }
-    requires memo { length state.old.knowledge.memo ≤ config.now.limits.memo }
-    ensures { HasReadOldString config.now (instruction_of inst.now) state.old state.new result }
+    requires memo { length state.old.view.knowledge.memo ≤ config.now.limits.memo }
+    ensures { HasReadOldString D.follows config.now (instruction_of inst.now) state.old state.new
+        result }
 {
     match config.old_strings {
         OldStrings::Unknown => state.answer(&config.limits, inst),
@@ -137,16 +142,18 @@ fn read_old_string<D: Domain>(
 
 /// Pops the result. Refuses with `LeftOver` if anything else is on the stack.
 fn finish<D: Domain>(state: &mut MachineState<D>) -> Result<(), Reason>
-    ensures ok { OnOk result (stop_learned state.old.knowledge.memo
-        (top state.old.knowledge.entries)
-        ≡ Ok (record { after = state.new.knowledge; import = None })) }
-    ensures texts { state.new.texts ≡ state.old.texts }
-    ensures imports { state.new.imports ≡ state.old.imports }
-    ensures room { (length state.new.knowledge.entries ≤ length state.old.knowledge.entries)
-        × (state.new.knowledge.memo ≡ state.old.knowledge.memo) }
-    ensures kept { OnErr result (state.new ≡ state.old) }
-    ensures err { IfErr result (λ r. IsStopFault (stop_learned state.old.knowledge.memo
-        (top state.old.knowledge.entries)) r) }
+    ensures ok { OnOk result (stop_learned state.old.view.knowledge.memo
+        (top state.old.view.knowledge.entries)
+        ≡ Ok (record { after = state.new.view.knowledge; import = None })) }
+    ensures carried { OnOk result (stop_followed state.old.carried ≡ Ok state.new.carried) }
+    ensures texts { state.new.view.texts ≡ state.old.view.texts }
+    ensures imports { state.new.view.imports ≡ state.old.view.imports }
+    ensures room { (length state.new.view.knowledge.entries
+        ≤ length state.old.view.knowledge.entries)
+        × (state.new.view.knowledge.memo ≡ state.old.view.knowledge.memo) }
+    ensures kept { OnErr result (state.new.view ≡ state.old.view) }
+    ensures err { IfErr result (λ r. IsStopFault (stop_learned state.old.view.knowledge.memo
+        (top state.old.view.knowledge.entries)) r) }
 {
     state.finish()?;
     Ok(())
@@ -162,17 +169,20 @@ fn import<D: Domain>(
     off: &mut Option<Asked>,
 ) -> Result<Moved, Reason>
     requires operation { IsOperation (effect_of (instruction_of inst.now).op) }
-    requires room { FitsLimits config.now.limits state.old.knowledge }
+    requires room { FitsLimits config.now.limits state.old.view.knowledge }
     requires none { off.old ≡ None }
     ensures ok { IfOk result (LeadsTo (permit_of policy.now) config.now.limits
-        (effect_of (instruction_of inst.now).op) (instruction_of inst.now) state.old state.new) }
-    ensures room { OnOk result (FitsLimits config.now.limits state.new.knowledge) }
-    ensures texts { state.new.texts ≡ state.old.texts }
+        (effect_of (instruction_of inst.now).op) (instruction_of inst.now)
+        state.old.view state.new.view) }
+    ensures carried { OnOk result (followed D.follows (instruction_of inst.now) state.old.carried
+        ≡ Ok state.new.carried) }
+    ensures room { OnOk result (FitsLimits config.now.limits state.new.view.knowledge) }
+    ensures texts { state.new.view.texts ≡ state.old.view.texts }
     ensures off { OnOk result (off.new ≡ None) }
-    ensures kept { OnErr result (state.new ≡ state.old) }
+    ensures kept { OnErr result (state.new.view ≡ state.old.view) }
     ensures err { IfErr result (λ r. IsStepFault (permit_of policy.now) config.now.limits
-        (effect_of (instruction_of inst.now).op) (instruction_of inst.now) state.old.knowledge r
-        (option_map asked_shown off.new)) }
+        (effect_of (instruction_of inst.now).op) (instruction_of inst.now)
+        state.old.view.knowledge r (option_map asked_shown off.new)) }
 {
     match state.operate_named(config, inst, policy) {
         Ok(true) => Ok(Moved::Import),

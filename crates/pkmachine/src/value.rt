@@ -1,6 +1,8 @@
 //! What is known about an object.
-ghost use Rattle.std.specs.Prelude.{◌≡◌, ℕ, List};
+ghost use Rattle.std.specs.Prelude.{◌≡◌, ℕ, List, option_map};
+ghost use Rattle.pkmachine.specs.Following.{item_left};
 ghost use Rattle.pkmachine.specs.Knowledge.{known_given};
+ghost use Rattle.pkmachine.specs.Private.Items.{item_of};
 ghost use Rattle.pkmachine.specs.Private.StepErrors.{IgnoresArgument};
 ghost use Rattle.pkmachine.specs.Private.Slots.{StandsIf};
 ghost use Rattle.pkmachine.specs.Runs.{int_or_bool};
@@ -38,7 +40,9 @@ pub fn int_or_bool(inst: &Inst) -> Class
 /// What is kept of the result of an operation, with this item; `None` if it leaves the receiver.
 pub fn value_of<I: Item>(gives: Gives, item: I) -> Option<Held<I>>
     requires { IgnoresArgument gives }
-    ensures { (ts : List (List ℕ)) (i : Instruction) → StandsIf ts result (known_given gives i) }
+    ensures stands { (ts : List (List ℕ)) (i : Instruction)
+        → StandsIf ts result (known_given gives i) }
+    ensures item { option_map item_of result ≡ item_left gives item }
 {
     let value = match gives {
         Gives::Leaves(_) => return None,

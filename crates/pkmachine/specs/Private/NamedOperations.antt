@@ -14,6 +14,9 @@ use Rattle.pkmachine.specs.Private.Asking.{Spells}
 use Rattle.pkmachine.specs.Private.Slots.{Sees, seen}
 use Rattle.pkstack.specs.Shape.{Entry}
 use Rattle.pkops.specs.Limits.{Bounds}
+use Rattle.pkops.specs.declared.Op.{Op}
+use Rattle.pkmachine.specs.Following.{Follower}
+use Rattle.pkmachine.specs.Private.Items.{FollowsEffect}
 use Rattle.pkops.specs.Spelling.{Instruction}
 
 -- the entries of the stack, and the import table
@@ -30,13 +33,15 @@ abbrev pub known_with : {I : Type 0} → List (ℕ × Known) → StackAndTable I
 known_with memo here = record { entries = seen here.table.texts here.entries; memo = memo }
 
 -- what the operation answers, and what it does to the stack and the table, for every instruction
--- that spells these names
-pub record HasImported {I : Type 0} (p : Policy) (limits : Bounds) (e : Effect)
-    (names : Option (Bor (List ℕ) × Bor (List ℕ))) (old new : StackAndTable I)
+-- that spells these names; the domain follows
+pub record HasImported {I D : Type 0} (follows : Follower I D) (p : Policy) (limits : Bounds)
+    (op : Op) (e : Effect) (names : Option (Bor (List ℕ) × Bor (List ℕ)))
+    (old : StackAndTable I) (was : D) (new : StackAndTable I) (is : D)
     (answer : Result Bool StepError) : Type 0 where
   pub ok : (i : Instruction) → Spells names i → (memo : List (ℕ × Known))
       → IfOk answer (Proceeds (learn p e i (known_with memo old)) (known_with memo new)
       old.table.asked new.table.asked)
+  pub followed : OnOk answer (FollowsEffect follows op e old.entries was new.entries is)
   pub sees : OnOk answer (AreSeen new)
   pub texts : new.table.texts ≡ old.table.texts
   pub room : OnOk answer (length new.entries ≤ limits.stack)

@@ -9,6 +9,7 @@ use Rattle.pkmachine.specs.declared.new_text.NotPushed.TheVariants.{Full, OutOfM
 use Rattle.pkstack.specs.Faults.{WantsRoom}
 use Rattle.pkmachine.specs.Private.NamedOperations.{AreSeen, StackAndTable}
 use Rattle.pkmachine.specs.Private.Slots.{seen}
+use Rattle.pkmachine.specs.Private.Items.{items_on}
 use Rattle.pkimport.specs.Table.{HasMoreTexts}
 use Rattle.pkmachine.specs.Runs.{Text}
 use Rattle.pkstack.specs.Shape.{Item}
@@ -23,11 +24,12 @@ abbrev pub with_reason : {A : Type 0} → Result A NotPushed → Result A Reason
 with_reason (Ok x) = Ok x
 with_reason (Err why) = Err (reason_for why)
 
--- the text is appended to the table, and its number is on top of the stack
-pub record HasPushedText {A I : Type 0} (limit : ℕ) (text : List ℕ) (old new : StackAndTable I)
-    (answer : Result A Reason) : Type 0 where
+-- the text is appended to the table, and its number is on top of the stack, with this item
+pub record HasPushedText {A I : Type 0} (item : I) (limit : ℕ) (text : List ℕ)
+    (old new : StackAndTable I) (answer : Result A Reason) : Type 0 where
   pub ok : OnOk answer (seen new.table.texts new.entries
       ≡ Item (Some (Text text)) ∷ seen old.table.texts old.entries)
+  pub has : OnOk answer (items_on new.entries ≡ Item item ∷ items_on old.entries)
   pub sees : OnOk answer (AreSeen new)
   pub grows : OnOk answer (HasMoreTexts old.table.texts new.table.texts)
   pub count : OnOk answer (length new.table.texts ≡ suc (length old.table.texts))

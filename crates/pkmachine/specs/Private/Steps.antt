@@ -9,6 +9,8 @@ use Rattle.pkimport.specs.Import.{Asked}
 use Rattle.pkmachine.specs.Private.StepErrors.{FitsLimits, GoesTo, IsRefusedFor, IsWantOfMemory}
 use Rattle.pkmachine.specs.Private.StepErrors.{MayWantMemory}
 use Rattle.pkmachine.specs.Private.Slots.{StateView}
+use Rattle.pkmachine.specs.Following.{Follower}
+use Rattle.pkmachine.specs.Private.Items.{CarriedState, with_made_item}
 use Rattle.pkmachine.specs.Private.Spelled.{IsSpelled}
 use Rattle.pkstack.specs.Shape.{and_then}
 use Rattle.pkmachine.specs.View.{texts_after}
@@ -47,11 +49,13 @@ module _ (config : MachineConfig) (p : Policy) (i : Instruction) where
 abbrev pub IsOldString : Instruction → Type 0
 IsOldString i = (is_old_string i.op ≡ true) × IsSpelled i.arg
 
--- what the step of an old string answers, and what it does, whatever the policy
-pub record HasReadOldString {A : Type 0} (config : MachineConfig) (i : Instruction)
-    (old new : StateView) (answer : Result A Reason) : Type 0 where
-  pub ok : (p : Policy) → OnOk answer (Advances config p i old new On)
-  pub room : OnOk answer (FitsLimits config.limits new.knowledge)
-  pub texts : OnOk answer (new.texts ≡ texts_after (effect_as config.old_strings i) old.texts)
-  pub kept : OnErr answer (new ≡ old)
-  pub err : (p : Policy) → IfErr answer (λ r. IsAdvanceFault config p i old.knowledge r None)
+-- what the step of an old string answers, and what it does, whatever the policy; the domain follows
+pub record HasReadOldString {A I D : Type 0} (follows : Follower I D) (config : MachineConfig)
+    (i : Instruction) (old new : CarriedState I D) (answer : Result A Reason) : Type 0 where
+  pub ok : (p : Policy) → OnOk answer (Advances config p i old.view new.view On)
+  pub carried : OnOk answer (new.carried ≡ with_made_item follows i old.carried)
+  pub room : OnOk answer (FitsLimits config.limits new.view.knowledge)
+  pub texts : OnOk answer (new.view.texts
+      ≡ texts_after (effect_as config.old_strings i) old.view.texts)
+  pub kept : OnErr answer (new.view ≡ old.view)
+  pub err : (p : Policy) → IfErr answer (λ r. IsAdvanceFault config p i old.view.knowledge r None)

@@ -101,10 +101,10 @@ fn replace_named<D: Domain>(
     requires given { WellGiven request.now.operation.gives request.now.operation.takes }
     requires plain { IgnoresArgument request.now.operation.gives }
     requires sees { AreSeen (record { entries = stack.old; table = table.old }) }
-    ensures { HasImported (permit_of request.now.policy.now) config.now.limits
-        (effect_in request.now.operation) request.now.names
-        (record { entries = stack.old; table = table.old })
-        (record { entries = stack.new; table = table.new }) result }
+    ensures { HasImported D.follows (permit_of request.now.policy.now) config.now.limits
+        request.now.op (effect_in request.now.operation) request.now.names
+        (record { entries = stack.old; table = table.old }) domain.old
+        (record { entries = stack.new; table = table.new }) domain.new result }
 {
     let found = stack.find(request.operation.takes)?;
     let operands = stack.operands(found.place);
@@ -136,9 +136,10 @@ pub fn operate_named<D: Domain>(
     requires good { IfSome spelled.now.lines (λ pair.
         IsGood (instruction spelled.now.op (Pair pair.0.now pair.1.now))) }
     requires sees { AreSeen (record { entries = stack.old; table = table.old }) }
-    ensures { HasImported (permit_of policy.now) config.now.limits (effect_of spelled.now.op)
-        spelled.now.lines (record { entries = stack.old; table = table.old })
-        (record { entries = stack.new; table = table.new }) result }
+    ensures { HasImported D.follows (permit_of policy.now) config.now.limits spelled.now.op
+        (effect_of spelled.now.op) spelled.now.lines
+        (record { entries = stack.old; table = table.old }) domain.old
+        (record { entries = stack.new; table = table.new }) domain.new result }
 {
     let request = Request {
         op: spelled.op,

@@ -4,6 +4,7 @@ ghost use Rattle.pkmachine.specs.declared.effect.Names.{Names};
 ghost use Rattle.pkmachine.specs.Effects.{Operates, effect_of, fills};
 ghost use Rattle.pkmachine.specs.Private.Actions.{IsUnnamed};
 ghost use Rattle.pkmachine.specs.Private.StepErrors.{IgnoresArgument, WellGiven};
+ghost use Rattle.pkmachine.specs.Private.Items.{FollowsEffect};
 ghost use Rattle.pkmachine.specs.Private.NamelessOperations.{HasOperated, HasReplaced};
 ghost use Rattle.pkmachine.specs.Private.NamelessOperations.{IsReplaceFault};
 ghost use Rattle.pkmachine.specs.Private.NamelessOperations.{MakesOf, Replaces, StaysSeen};
@@ -34,6 +35,9 @@ fn replace<D: Domain>(
     requires plain { IgnoresArgument operation.gives }
     ensures ok { OnOk result (Replaces (Operates operation.takes Names.NoName operation.gives)
         stack.old stack.new) }
+    ensures follows { OnOk result (FollowsEffect D.follows op
+        (Operates operation.takes Names.NoName operation.gives) stack.old domain.old stack.new
+        domain.new) }
     ensures sees { OnOk result (StaysSeen stack.old stack.new) }
     ensures room { OnOk result (length stack.new ≤ limits.now.stack) }
     ensures kept { OnErr result (stack.new ≡ stack.old) }
@@ -57,8 +61,10 @@ fn replace<D: Domain>(
 /// look at one or two entries. Returns false and changes nothing at any other operation.
 #[inline(always)]
 fn make_quickly<D: Domain>(stack: &mut Stack<D::Item>, domain: &mut D, op: Op) -> bool
-    ensures done { result ≡ true → HasReplaced (effect_of op) stack.old stack.new }
+    ensures done { result ≡ true → HasReplaced D.follows op (effect_of op) stack.old domain.old
+        stack.new domain.new }
     ensures kept { result ≡ false → stack.new ≡ stack.old }
+    ensures still { result ≡ false → domain.new ≡ domain.old }
 {
     match op {
         Op::Tuple1 => make_few(
@@ -91,8 +97,10 @@ fn make_few<D: Domain>(
     value: PackedValue,
 ) -> bool
     requires { 0 < count }
-    ensures done { result ≡ true → MakesOf count value stack.old stack.new }
+    ensures done { result ≡ true → MakesOf D.follows op count value stack.old domain.old stack.new
+        domain.new }
     ensures kept { result ≡ false → stack.new ≡ stack.old }
+    ensures still { result ≡ false → domain.new ≡ domain.old }
 {
     let Some(place) = stack.find_few(count) else {
         return false;
@@ -109,8 +117,10 @@ fn make_few<D: Domain>(
 /// compiler may keep those out of line where the loop would become too large.
 #[inline(always)]
 fn fill_quickly<D: Domain>(stack: &mut Stack<D::Item>, domain: &mut D, op: Op) -> bool
-    ensures done { result ≡ true → HasReplaced (effect_of op) stack.old stack.new }
+    ensures done { result ≡ true → HasReplaced D.follows op (effect_of op) stack.old domain.old
+        stack.new domain.new }
     ensures kept { result ≡ false → stack.new ≡ stack.old }
+    ensures still { result ≡ false → domain.new ≡ domain.old }
 {
     match op {
         Op::Append => append(stack, domain),
@@ -122,24 +132,30 @@ fn fill_quickly<D: Domain>(stack: &mut Stack<D::Item>, domain: &mut D, op: Op) -
 
 /// APPEND, for `fill_quickly`.
 fn append<D: Domain>(stack: &mut Stack<D::Item>, domain: &mut D) -> bool
-    ensures done { result ≡ true → HasReplaced (effect_of Op.Append) stack.old stack.new }
+    ensures done { result ≡ true → HasReplaced D.follows Op.Append (effect_of Op.Append) stack.old
+        domain.old stack.new domain.new }
     ensures kept { result ≡ false → stack.new ≡ stack.old }
+    ensures still { result ≡ false → domain.new ≡ domain.old }
 {
     fill(stack, domain, Op::Append, 2, Wanted::WantsList)
 }
 
 /// SETITEM, for `fill_quickly`.
 fn set_item<D: Domain>(stack: &mut Stack<D::Item>, domain: &mut D) -> bool
-    ensures done { result ≡ true → HasReplaced (effect_of Op.SetItem) stack.old stack.new }
+    ensures done { result ≡ true → HasReplaced D.follows Op.SetItem (effect_of Op.SetItem) stack.old
+        domain.old stack.new domain.new }
     ensures kept { result ≡ false → stack.new ≡ stack.old }
+    ensures still { result ≡ false → domain.new ≡ domain.old }
 {
     fill(stack, domain, Op::SetItem, 3, Wanted::WantsDict)
 }
 
 /// BUILD, for `fill_quickly`.
 fn build<D: Domain>(stack: &mut Stack<D::Item>, domain: &mut D) -> bool
-    ensures done { result ≡ true → HasReplaced (effect_of Op.Build) stack.old stack.new }
+    ensures done { result ≡ true → HasReplaced D.follows Op.Build (effect_of Op.Build) stack.old
+        domain.old stack.new domain.new }
     ensures kept { result ≡ false → stack.new ≡ stack.old }
+    ensures still { result ≡ false → domain.new ≡ domain.old }
 {
     fill(stack, domain, Op::Build, 2, Wanted::WantsAny)
 }
@@ -155,8 +171,10 @@ fn fill<D: Domain>(
 ) -> bool
     requires { 0 < count }
     ensures done { result ≡ true
-        → HasReplaced (fills (Takes.Objects count) wanted) stack.old stack.new }
+        → HasReplaced D.follows op (fills (Takes.Objects count) wanted) stack.old domain.old
+        stack.new domain.new }
     ensures kept { result ≡ false → stack.new ≡ stack.old }
+    ensures still { result ≡ false → domain.new ≡ domain.old }
 {
     let Some(place) = stack.find_few(count) else {
         return false;
@@ -181,7 +199,8 @@ pub fn operate_unnamed<D: Domain>(
 ) -> Result<(), Reason>
     requires within { length stack.old ≤ limits.now.stack }
     requires unnamed { IsUnnamed (effect_of op) }
-    ensures { HasOperated limits.now (effect_of op) stack.old stack.new result }
+    ensures { HasOperated D.follows limits.now op (effect_of op) stack.old domain.old stack.new
+        domain.new result }
 {
     if make_quickly(stack, domain, op) {
         return Ok(());
@@ -202,7 +221,8 @@ fn operate_any<D: Domain>(
 ) -> Result<(), Reason>
     requires within { length stack.old ≤ limits.now.stack }
     requires unnamed { IsUnnamed (effect_of op) }
-    ensures { HasOperated limits.now (effect_of op) stack.old stack.new result }
+    ensures { HasOperated D.follows limits.now op (effect_of op) stack.old domain.old stack.new
+        domain.new result }
 {
     match op {
         Op::Append => operate(stack, domain, limits, Op::Append),
@@ -226,7 +246,8 @@ fn operate_slowly<D: Domain>(
 ) -> Result<(), Reason>
     requires within { length stack.old ≤ limits.now.stack }
     requires unnamed { IsUnnamed (effect_of op) }
-    ensures { HasOperated limits.now (effect_of op) stack.old stack.new result }
+    ensures { HasOperated D.follows limits.now op (effect_of op) stack.old domain.old stack.new
+        domain.new result }
 {
     operate(stack, domain, limits, op)
 }
@@ -242,7 +263,8 @@ fn operate<D: Domain>(
 ) -> Result<(), Reason>
     requires within { length stack.old ≤ limits.now.stack }
     requires unnamed { IsUnnamed (effect_of op) }
-    ensures { HasOperated limits.now (effect_of op) stack.old stack.new result }
+    ensures { HasOperated D.follows limits.now op (effect_of op) stack.old domain.old stack.new
+        domain.new result }
 {
     replace(stack, domain, limits, op, operation_of(op))
 }

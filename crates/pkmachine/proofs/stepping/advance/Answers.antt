@@ -13,7 +13,7 @@ returns-in_err-make-in-Makes-clause-err g c =
     let q = err_from_is_err_and c.from_residual.result c.from_residual.ensures.1 in
     rw (q.1, q.2, c.requires.none)
     (not_pushed c.args.config.now.old_strings (permit_of c.args.policy.now)
-    c.args.config.now.limits (instruction_of c.args.inst.now) c.args.state.now.knowledge
+    c.args.config.now.limits (instruction_of c.args.inst.now) c.args.state.now.view.knowledge
     (Makes c.in-Makes.class)
     (of_action c.args.config.now.old_strings (instruction_of c.args.inst.now) _ _ _
     c.op-op.ensures.op c.action_of.ensures.effect c.action_of.ensures.old c.in-Makes.is refl)
@@ -26,7 +26,7 @@ returns-in_err-make-in-MakesIntOrBool-clause-err g c =
     c.from_residual-in_err-make-in-MakesIntOrBool.ensures.1 in
     rw (q.1, q.2, c.requires.none)
     (not_pushed c.args.config.now.old_strings (permit_of c.args.policy.now)
-    c.args.config.now.limits (instruction_of c.args.inst.now) c.args.state.now.knowledge
+    c.args.config.now.limits (instruction_of c.args.inst.now) c.args.state.now.view.knowledge
     MakesIntOrBool (of_action c.args.config.now.old_strings (instruction_of c.args.inst.now) _ _ _
     c.op-op.ensures.op c.action_of.ensures.effect c.action_of.ensures.old
     c.in-MakesIntOrBool.is refl) refl c.in_err-make-in-MakesIntOrBool.field-0.0
@@ -39,7 +39,8 @@ returns-in_err-make_text-in-MakesText-clause-err g c =
     c.from_residual-in_err-make_text-in-MakesText.ensures.1 in
     rw (q.1, q.2, c.requires.none)
     (not_pushed c.args.config.now.old_strings (permit_of c.args.policy.now)
-    c.args.config.now.limits (instruction_of c.args.inst.now) c.args.state.now.knowledge MakesText
+    c.args.config.now.limits (instruction_of c.args.inst.now) c.args.state.now.view.knowledge
+    MakesText
     (of_action c.args.config.now.old_strings (instruction_of c.args.inst.now) _ _ _
     c.op-op.ensures.op c.action_of.ensures.effect c.action_of.ensures.old c.in-MakesText.is refl)
     refl c.in_err-make_text-in-MakesText.field-0.0 c.in_err-make_text-in-MakesText.ensures.err)
@@ -58,12 +59,12 @@ returns-in_err-apply-in-Moves-clause-err g c =
     c.from_residual-in_err-apply-in-Moves.ensures.1 in
     rw (q.1, q.2, c.requires.none)
     (errs_by c.args.config.now.old_strings (permit_of c.args.policy.now)
-    c.args.config.now.limits (instruction_of c.args.inst.now) c.args.state.now.knowledge
+    c.args.config.now.limits (instruction_of c.args.inst.now) c.args.state.now.view.knowledge
     (Moves c.in-Moves.what) (record { reason = c.in_err-apply-in-Moves.field-0.0; pair = None })
     (of_action c.args.config.now.old_strings (instruction_of c.args.inst.now) _ _ _
     c.op-op.ensures.op c.action_of.ensures.effect c.action_of.ensures.old c.in-Moves.is refl)
     (move_errs (permit_of c.args.policy.now) c.args.config.now.limits
-    (instruction_of c.args.inst.now) c.args.state.now.knowledge c.in-Moves.what
+    (instruction_of c.args.inst.now) c.args.state.now.view.knowledge c.in-Moves.what
     c.in_err-apply-in-Moves.field-0.0 c.in_err-apply-in-Moves.ensures.err.1))
 
 pub returns-in_err-operate-in-Operates-clause-err
@@ -73,7 +74,7 @@ returns-in_err-operate-in-Operates-clause-err g c =
     c.from_residual-in_err-operate-in-Operates.ensures.1 in
     rw (q.1, q.2, c.requires.none)
     (errs_by c.args.config.now.old_strings (permit_of c.args.policy.now)
-    c.args.config.now.limits (instruction_of c.args.inst.now) c.args.state.now.knowledge
+    c.args.config.now.limits (instruction_of c.args.inst.now) c.args.state.now.view.knowledge
     (effect_of c.op-op.result) (record {
       reason = c.in_err-operate-in-Operates.field-0.0;
       pair = None;
@@ -90,8 +91,9 @@ returns-in_ok-operate-in-Operates-clause-ok g c =
     c.action_of.ensures.old c.in-Operates.is refl in
     let room = c.in_ok-operate-in-Operates.ensures.room in
     rw same (unnamed_goes (permit_of c.args.policy.now) c.args.config.now.limits
-    (instruction_of c.args.inst.now) c.args.state.now.knowledge c.operate.new.self.knowledge
-    c.args.state.now.imports c.operate.new.self.imports (effect_of c.op-op.result)
+    (instruction_of c.args.inst.now) c.args.state.now.view.knowledge
+    c.operate.new.self.view.knowledge
+    c.args.state.now.view.imports c.operate.new.self.view.imports (effect_of c.op-op.result)
     c.in-Operates.ensures.well (c.in_ok-operate-in-Operates.ensures.ok
     (permit_of c.args.policy.now) (instruction_of c.args.inst.now)) room.0
     (omega (arith, room.1, c.requires.room.1)))

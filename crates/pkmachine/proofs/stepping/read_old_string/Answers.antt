@@ -15,12 +15,13 @@ use Rattle.pkmachine.proofs.stepping.read_old_string.Goals as goal
 pub returns-in-Unknown : goal.returns-in-Unknown
 returns-in-Unknown g c = record {
   ok = λ p. grind (arith, common_steps);
+  carried = c.answer.ensures.carried;
   room = grind (arith, common_steps);
   texts = grind (arith, common_steps);
   kept = c.answer.ensures.kept;
   err = λ p. IfErr-weaker c.answer.result _ _
       (λ r h. not_pushed c.args.config.now.old_strings p c.args.config.now.limits
-      (instruction_of c.args.inst.now) c.args.state.now.knowledge Answers
+      (instruction_of c.args.inst.now) c.args.state.now.view.knowledge Answers
       (old_unknown c.args.config.now.old_strings (instruction_of c.args.inst.now)
       c.requires.old.0 c.in-Unknown.is) refl r h) c.answer.ensures.err;
 }
@@ -28,12 +29,13 @@ returns-in-Unknown g c = record {
 pub returns-in-Bytes : goal.returns-in-Bytes
 returns-in-Bytes g c = record {
   ok = λ p. grind (arith, common_steps);
+  carried = c.make.ensures.carried;
   room = grind (arith, common_steps);
   texts = grind (arith, common_steps);
   kept = c.make.ensures.kept;
   err = λ p. IfErr-weaker c.make.result _ _
       (λ r h. not_pushed c.args.config.now.old_strings p c.args.config.now.limits
-      (instruction_of c.args.inst.now) c.args.state.now.knowledge (Makes class.Bytes)
+      (instruction_of c.args.inst.now) c.args.state.now.view.knowledge (Makes class.Bytes)
       (old_bytes_pushed c.args.config.now.old_strings
       (instruction_of c.args.inst.now) c.requires.old.0 c.in-Bytes.is) refl r h)
       c.make.ensures.err;
@@ -42,12 +44,13 @@ returns-in-Bytes g c = record {
 pub returns-then-is_ascii : goal.returns-then-is_ascii
 returns-then-is_ascii g c = record {
   ok = λ p. grind (arith, common_steps);
+  carried = c.make_text.ensures.carried;
   room = grind (arith, common_steps);
   texts = grind (arith, common_steps);
   kept = c.make_text.ensures.kept;
   err = λ p. IfErr-weaker c.make_text.result _ _
       (λ r h. not_pushed c.args.config.now.old_strings p c.args.config.now.limits
-      (instruction_of c.args.inst.now) c.args.state.now.knowledge MakesText
+      (instruction_of c.args.inst.now) c.args.state.now.view.knowledge MakesText
       (old_ascii c.args.config.now.old_strings (instruction_of c.args.inst.now) c.requires.old.0
       c.in-Ascii.is true (sym c.if-is_ascii.true ∙ c.in_ok-is_ascii-in-Ascii.ensures)) refl r h)
       c.make_text.ensures.err;
@@ -56,11 +59,12 @@ returns-then-is_ascii g c = record {
 pub returns-else-is_ascii : goal.returns-else-is_ascii
 returns-else-is_ascii g c = record {
   ok = λ p. tt;
+  carried = tt;
   room = tt;
   texts = tt;
   kept = refl;
   err = λ p. errs_by c.args.config.now.old_strings p c.args.config.now.limits
-      (instruction_of c.args.inst.now) c.args.state.now.knowledge Raises
+      (instruction_of c.args.inst.now) c.args.state.now.view.knowledge Raises
       (record { reason = reason.NotAscii; pair = None }) (old_ascii c.args.config.now.old_strings
       (instruction_of c.args.inst.now) c.requires.old.0 c.in-Ascii.is false
       (sym c.if-is_ascii.false ∙ c.in_ok-is_ascii-in-Ascii.ensures))
@@ -72,6 +76,7 @@ returns-in_err-is_ascii-in-Ascii g c =
     let q = err_from_is_err_and c.from_residual.result c.from_residual.ensures.1 in
     rw (q.1, q.2) (record {
       ok = λ p. tt;
+      carried = tt;
       room = tt;
       texts = tt;
       kept = refl;

@@ -13,7 +13,7 @@ invariant-instructions g l = record {
   hears : List Report;
   along : Along g.A.Audience.holding
       (permit_of l.fn.policy) l.fn.at l.fn.bytes l.inside l.fn.self l.rest
-      l.self-inside.machine hears;
+      l.self-inside.machine.view hears;
   heard : HearsMore g.A.Audience.hears l.initial.audience l.audience hears;
 }
 

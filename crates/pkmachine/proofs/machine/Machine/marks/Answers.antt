@@ -9,4 +9,5 @@ returns-clause-known g c = rw (← c.self.view_is) c.marks.ensures
 
 pub returns-clause-covered : goal.returns-clause-covered
 returns-clause-covered g c s h = returns-clause-known g c
-    ∙ marks_alike (TrueOf s.objects) c.args.self.now.knowledge.entries s.shape.entries h.entries
+    ∙ marks_alike (TrueOf s.objects) c.args.self.now.view.knowledge.entries s.shape.entries
+    h.entries

@@ -16,13 +16,13 @@ use Rattle.pkmachine.proofs.machine.Machine.step_passed_by.Goals as goal
 pub returns-in-Ok-clause-step : goal.returns-in-Ok-clause-step
 returns-in-Ok-clause-step g c i same =
     let p = permit_of c.args.policy.now in
-    let e = passed_effect c.args.self.now.old_strings i
+    let e = passed_effect c.args.self.now.view.old_strings i
     (subst (λ o. IsTrue (is_passed o)) (sym same) c.requires.passed)
     ∙ (ap effect_of same ∙ c.class_passed.ensures c.requires.passed) in
     let stack = subst (λ (k : Knowledge). length k.entries ≤ c.self.inside.config.limits.stack)
     c.in-Ok.ensures.ok c.in-Ok.ensures.room in
-    goes_on p i c.args.self.now _ On
-    (passes p i c.args.self.now _ c.class_passed.result e (rw (← c.self.view_is) stack)
+    goes_on p i c.args.self.now.view _ On
+    (passes p i c.args.self.now.view _ c.class_passed.result e (rw (← c.self.view_is) stack)
     (rw (← c.self.view_is) (c.self.invariant.0 c.in_default.is).1) c.requires.running
     (rw (← c.self.view_is) (λ j. record {
       knowledge = c.in-Ok.ensures.ok j;
@@ -39,15 +39,15 @@ returns-in-Ok-clause-step g c i same =
 pub returns-in-Err-clause-step : goal.returns-in-Err-clause-step
 returns-in-Err-clause-step g c i same =
     let p = permit_of c.args.policy.now in
-    let e = passed_effect c.args.self.now.old_strings i
+    let e = passed_effect c.args.self.now.view.old_strings i
     (subst (λ o. IsTrue (is_passed o)) (sym same) c.requires.passed)
     ∙ (ap effect_of same ∙ c.class_passed.ensures c.requires.passed) in
     let (v, long) = longest c.bounded_names.ensures c.args.policy.now in
-    fails p i c.args.self.now _ c.in-Err.reason v long
+    fails p i c.args.self.now.view _ c.in-Err.reason v long
     (passed_admitted i.op i.arg
     (subst (λ o. IsTrue (is_passed o)) (sym same) c.requires.passed))
     (rw (← c.self.view_is) c.in_default.is)
-    (lacks_room p i c.args.self.now _ c.class_passed.result e c.in-Err.reason
+    (lacks_room p i c.args.self.now.view _ c.class_passed.result e c.in-Err.reason
     (rw (← c.self.view_is) c.in-Err.ensures.err)
     (rw (← c.self.view_is) (λ j. record {
       knowledge = (c.in-Err.ensures.kept j).knowledge;

@@ -7,6 +7,7 @@ returns g c =
     let is = c.operation_of.ensures c.requires.operation in
     record {
       ok = λ i same memo. rw is (h.ok i (c.names_of.ensures i same) memo);
+      followed = rw is h.followed;
       sees = h.sees;
       texts = h.texts;
       room = h.room;

@@ -3,10 +3,12 @@ use Rattle.std.proofs.Common.{◌∙◌, ap, inl, inr, option_map, refl, None}
 use Rattle.std.proofs.lemmas.Result.{err_from_is_err_and}
 use Rattle.pkops.specs.declared.Op.TheVariants as op
 use Rattle.pkops.specs.Spelling.{Nothing, instruction}
+use Rattle.pkmachine.specs.Following.{item_left}
 use Rattle.pkmachine.specs.Private.Slots.{seen}
 use Rattle.pkmachine.specs.Policies.{permit_of}
 use Rattle.pkimport.specs.Table.{named_asked}
 use Rattle.pkmachine.proofs.AskedOperands.{are_numbered, listed_before}
+use Rattle.pkmachine.proofs.FollowedItems.{operation_follows}
 use Rattle.pkmachine.proofs.Places.{length_below}
 use Rattle.pkmachine.proofs.ResolvedEntries.{found_seen, found_is, found_lacks, put_seen, put_sees}
 use Rattle.pkmachine.proofs.ResolvedEntries.{length_seen}
@@ -22,6 +24,7 @@ returns-in_err-found g c =
     let o = c.args.request.now.operation in
     rw (p.1, p.2) (record {
       ok = λ i named memo. tt;
+      followed = tt;
       sees = tt;
       texts = refl;
       room = tt;
@@ -44,6 +47,7 @@ returns-in_err-named g c =
     let found = found_seen texts o.takes entries c.requires.sees _ c.in_ok-found.ensures.ok in
     rw (p.1, p.2) (record {
       ok = λ i named memo. tt;
+      followed = tt;
       sees = tt;
       texts = refl;
       room = tt;
@@ -75,7 +79,7 @@ give-requires-clause-first g c e =
     (left_there c.args.request.now.operation.takes c.args.request.now.operation.gives i
     c.requires.given
     (given_none c.args.table.now.texts c.value_of-value.result _ e
-    (c.value_of-value.ensures c.args.table.now.texts i)))
+    (c.value_of-value.ensures.stands c.args.table.now.texts i)))
 
 pub give-requires-clause-there : goal.give-requires-clause-there
 give-requires-clause-there g c e =
@@ -84,7 +88,7 @@ give-requires-clause-there g c e =
     (left_there c.args.request.now.operation.takes c.args.request.now.operation.gives i
     c.requires.given
     (given_none c.args.table.now.texts c.value_of-value.result _ e
-    (c.value_of-value.ensures c.args.table.now.texts i)))
+    (c.value_of-value.ensures.stands c.args.table.now.texts i)))
 
 pub returns-in_err-is_import : goal.returns-in_err-is_import
 returns-in_err-is_import g c =
@@ -94,6 +98,7 @@ returns-in_err-is_import g c =
     let failed = c.in_err-is_import.ensures.err in
     rw (p.1, p.2, failed.0) (record {
       ok = λ i named memo. tt;
+      followed = tt;
       sees = tt;
       texts = refl;
       room = tt;
@@ -116,7 +121,7 @@ returns-in-Ok g c =
     let listed = c.in_ok-is_import.ensures.ok in
     let found = found_seen texts o.takes entries c.requires.sees _ c.in_ok-found.ensures.ok in
     let is = found_is texts o.takes entries c.requires.sees _ c.in_ok-found.ensures.ok in
-    let value = c.value_of-value.ensures texts in
+    let value = c.value_of-value.ensures.stands texts in
     record {
       ok = λ i named memo.
           let fits = rw c.operands-operands.ensures at (c.in_ok-named.ensures.ok i named) in
@@ -126,6 +131,13 @@ returns-in-Ok g c =
           (record { entries = seen texts entries; memo = memo }) _ texts c.in_ok-named.named found
           fits (seen texts c.give.new.stack) c.args.table.now.asked _ c.in_ok-is_import.is_import
           (ap (seen texts) c.in-Ok.ensures.ok ∙ put) refl listed.1);
+      followed = λ i same memo.
+          let left = c.value_of-value.ensures.item
+          ∙ ap (item_left o.gives) (c.operated-item.ensures.item i same) in
+          operation_follows g.D.Domain.follows o.takes o.names o.gives i memo entries _
+          c.args.domain.now _ _ c.value_of-value.result c.in_ok-found.ensures.ok
+          (rw c.operands-operands.ensures at left) c.in-Ok.ensures.ok
+          (rw c.operands-operands.ensures at (c.operated-item.ensures.state i same));
       sees = rw (listed.0, c.in-Ok.ensures.ok)
           (put_sees texts c.value_of-value.result _ (value (instruction op.None Nothing)) _ is);
       texts = ap (λ l. l.texts) listed.0;
@@ -144,6 +156,7 @@ returns-in-Err g c =
     let found = found_seen texts o.takes entries c.requires.sees _ c.in_ok-found.ensures.ok in
     rw c.from.ensures (record {
       ok = λ i named memo. tt;
+      followed = tt;
       sees = tt;
       texts = ap (λ l. l.texts) c.keep.ensures ∙ ap (λ l. l.texts) c.in_ok-is_import.ensures.ok.0;
       room = tt;
@@ -158,7 +171,7 @@ returns-in-Err g c =
           let fits = rw c.operands-operands.ensures at (c.in_ok-named.ensures.ok i named) in
           unroomed (permit_of c.args.request.now.policy.now) o.takes o.names o.gives i
           (record { entries = seen texts entries; memo = memo }) _ texts c.in_ok-named.named found
-          fits texts c.value_of-value.result (c.value_of-value.ensures texts i)
+          fits texts c.value_of-value.result (c.value_of-value.ensures.stands texts i)
           c.args.config.now.limits c.in-Err.reason c.in-Err.ensures.err.1
           (rw (
             length_seen,

@@ -9,4 +9,11 @@ pub replace_all-requires-clause-marks : goal.replace_all-requires-clause-marks
 replace_all-requires-clause-marks g c = c.marks-marks.ensures ∙ c.in-Some.ensures.1.marks
 
 pub returns-clause-done : goal.returns-clause-done
-returns-clause-done g c done = (_, _, c.in-Some.ensures.1, c.replace_all.ensures)
+returns-clause-done g c done = record {
+  place = c.in-Some.place;
+  item = c.operated-item.result;
+  from = c.in-Some.ensures.1;
+  made = c.replace_all.ensures;
+  given = λ i same. rw c.operands.ensures at (c.operated-item.ensures.item i same);
+  after = λ i same. rw c.operands.ensures at (c.operated-item.ensures.state i same);
+}

@@ -9,6 +9,7 @@ returns g c =
     c.operation_of.ensures in
     record {
       ok = rw is c.replace.ensures.ok;
+      followed = rw is c.replace.ensures.follows;
       sees = c.replace.ensures.sees;
       room = c.replace.ensures.room;
       kept = c.replace.ensures.kept;

@@ -7,13 +7,17 @@ returns-then-make_quickly g c = has_operated c.args.limits.now c.requires.within
     (c.make_quickly.ensures.done c.if-make_quickly.true)
 
 pub returns-then-fill_quickly : goal.returns-then-fill_quickly
-returns-then-fill_quickly g c = rw (← (c.make_quickly.ensures.kept c.if-make_quickly.false))
-    (has_operated c.args.limits.now
-    (rw (c.make_quickly.ensures.kept c.if-make_quickly.false) c.requires.within)
+returns-then-fill_quickly g c =
+    let kept = c.make_quickly.ensures.kept c.if-make_quickly.false in
+    let still = c.make_quickly.ensures.still c.if-make_quickly.false in
+    rw (← kept, ← still)
+    (has_operated c.args.limits.now (rw kept c.requires.within)
     (c.fill_quickly.ensures.done c.if-fill_quickly.true))
 
 pub returns : goal.returns
 returns g c = rw (
   ← (c.make_quickly.ensures.kept c.if-make_quickly.false),
   ← (c.fill_quickly.ensures.kept c.if-fill_quickly.false),
+  ← (c.make_quickly.ensures.still c.if-make_quickly.false),
+  ← (c.fill_quickly.ensures.still c.if-fill_quickly.false),
 ) c.operate_any.ensures

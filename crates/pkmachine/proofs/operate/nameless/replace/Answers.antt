@@ -5,8 +5,10 @@ use Rattle.pkops.specs.declared.Op.TheVariants as op
 use Rattle.pkops.specs.Spelling.{Nothing, instruction}
 use Rattle.pkops.specs.declared.Reason.TheVariants as reason
 use Rattle.pkmachine.specs.declared.effect.Names.TheVariants.{NoName}
+use Rattle.pkmachine.specs.Following.{item_left}
 use Rattle.pkmachine.specs.Knowledge.{WrongClass}
 use Rattle.pkmachine.specs.Private.Slots.{seen}
+use Rattle.pkmachine.proofs.FollowedItems.{operation_follows}
 use Rattle.pkmachine.proofs.Places.{length_below}
 use Rattle.pkmachine.proofs.ResolvedEntries.{found_seen, found_is, found_lacks, put_seen, put_sees}
 use Rattle.pkmachine.proofs.ResolvedEntries.{length_seen}
@@ -45,14 +47,14 @@ give-requires-clause-first g c e =
     let i = instruction op.None Nothing in
     c.in_ok-found.ensures.first
     (left_there c.args.operation.takes c.args.operation.gives i c.requires.given
-    (given_none [] c.value_of-value.result _ e (c.value_of-value.ensures [] i)))
+    (given_none [] c.value_of-value.result _ e (c.value_of-value.ensures.stands [] i)))
 
 pub give-requires-clause-there : goal.give-requires-clause-there
 give-requires-clause-there g c e =
     let i = instruction op.None Nothing in
     c.in_ok-found.ensures.there
     (left_there c.args.operation.takes c.args.operation.gives i c.requires.given
-    (given_none [] c.value_of-value.result _ e (c.value_of-value.ensures [] i)))
+    (given_none [] c.value_of-value.result _ e (c.value_of-value.ensures.stands [] i)))
 
 pub returns-in-Ok-clause-ok : goal.returns-in-Ok-clause-ok
 returns-in-Ok-clause-ok g c ts sees p i m listed =
@@ -60,7 +62,7 @@ returns-in-Ok-clause-ok g c ts sees p i m listed =
     c.in_ok-found.ensures.ok in
     let is = found_is ts c.args.operation.takes c.args.stack.now sees _ c.in_ok-found.ensures.ok in
     let right = rw c.operands-operands.ensures at (sym (c.if-receiver_fault.ensures ts)) in
-    let put = put_seen ts c.value_of-value.result _ (c.value_of-value.ensures ts i) _ is in
+    let put = put_seen ts c.value_of-value.result _ (c.value_of-value.ensures.stands ts i) _ is in
     does_pass p c.args.operation.takes NoName c.args.operation.gives i
     (record { entries = seen ts c.args.stack.now; memo = m }) _ ts None found
     (judged_ok p NoName c.args.operation.gives i _ right None refl)
@@ -71,7 +73,7 @@ returns-in-Ok-clause-sees g c ts sees =
     let i = instruction op.None Nothing in
     let is = found_is ts c.args.operation.takes c.args.stack.now sees _ c.in_ok-found.ensures.ok in
     rw c.in-Ok.ensures.ok
-    (put_sees ts c.value_of-value.result _ (c.value_of-value.ensures ts i) _ is)
+    (put_sees ts c.value_of-value.result _ (c.value_of-value.ensures.stands ts i) _ is)
 
 pub returns-in-Err-clause-err : goal.returns-in-Err-clause-err
 returns-in-Err-clause-err g c ts sees p i m =
@@ -81,9 +83,18 @@ returns-in-Err-clause-err g c ts sees p i m =
     unroomed p c.args.operation.takes NoName c.args.operation.gives i
     (record { entries = seen ts c.args.stack.now; memo = m }) _ ts None found
     (judged_ok p NoName c.args.operation.gives i _ right None refl)
-    ts c.value_of-value.result (c.value_of-value.ensures ts i) c.args.limits.now c.in-Err.reason
-    c.in-Err.ensures.err.1
+    ts c.value_of-value.result (c.value_of-value.ensures.stands ts i) c.args.limits.now
+    c.in-Err.reason c.in-Err.ensures.err.1
     (rw (
       length_seen,
       length_below c.in_ok-found.found.place c.args.stack.now c.in_ok-found.ensures.within,
     ) c.in-Err.ensures.err.2)
+
+pub returns-in-Ok-clause-follows : goal.returns-in-Ok-clause-follows
+returns-in-Ok-clause-follows g c i same memo =
+    let left = c.value_of-value.ensures.item
+    ∙ ap (item_left c.args.operation.gives) (c.operated-item.ensures.item i same) in
+    operation_follows g.D.Domain.follows c.args.operation.takes NoName c.args.operation.gives i memo
+    c.args.stack.now _ c.args.domain.now _ _ c.value_of-value.result c.in_ok-found.ensures.ok
+    (rw c.operands-operands.ensures at left) c.in-Ok.ensures.ok
+    (rw c.operands-operands.ensures at (c.operated-item.ensures.state i same))

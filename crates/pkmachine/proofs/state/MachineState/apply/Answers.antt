@@ -4,6 +4,7 @@ use Rattle.pkops.specs.Inst.{instruction_of}
 use Rattle.pkops.specs.Operands.{memo_number}
 use Rattle.pkmachine.specs.Private.Slots.{resolved}
 use Rattle.std.proofs.lemmas.Result.{IfErr-weaker, on_ok_weaker}
+use Rattle.pkmachine.proofs.FollowedItems.{move_follows}
 use Rattle.pkmachine.proofs.ResolvedEntries.{moved_fault, moved_resolves, moved_seen}
 use Rattle.pkmachine.proofs.state.MachineState.apply.Goals as goal
 
@@ -48,3 +49,12 @@ returns-clause-err g c =
           h.2,
     ))
     c.apply.ensures.err)
+
+pub returns-clause-carried : goal.returns-clause-carried
+returns-clause-carried g c =
+    rw (← c.self.view_is)
+    (on_ok_weaker c.apply.result (λ e. move_follows g.D.Domain.follows c.args.what
+    (instruction_of c.args.inst.now)
+    (record { entries = c.self.inside.stack; memo = c.self.inside.memo })
+    (record { entries = c.apply.new.stack; memo = c.apply.new.memo }) c.self.inside.domain _
+    c.moved.ensures e) c.apply.ensures.ok)

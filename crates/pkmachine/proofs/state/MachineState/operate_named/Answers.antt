@@ -1,9 +1,12 @@
 -- An import adds no text, so the memo means the same before and after the operation.
-use Rattle.std.proofs.Common.{IfErr, IfOk, subst}
+use Rattle.std.proofs.Common.{◌≡◌, IfErr, IfOk, Ok, OnOk, subst, sym}
+use Rattle.std.proofs.lemmas.Result.{on_ok_weaker}
 use Rattle.pkmachine.specs.Effects.{effect_of}
 use Rattle.pkmachine.specs.Private.Steps.{IsStepFault}
 use Rattle.pkmachine.specs.Private.StepErrors.{Proceeds, pair_of_error}
+use Rattle.pkmachine.specs.Following.{followed_by}
 use Rattle.pkmachine.specs.Policies.{permit_of}
+use Rattle.pkmachine.specs.Private.Items.{carried_with, items_in}
 use Rattle.pkmachine.specs.Knowledge.{learn}
 use Rattle.pkmachine.specs.Private.Slots.{remembered, resolved, seen}
 use Rattle.pkops.specs.Inst.{instruction_of}
@@ -50,3 +53,15 @@ returns-clause-err g c =
     d.reason (pair_of_error d))) c.op.ensures.op
     (c.operate_named.ensures.err (instruction_of c.args.inst.now) c.lines_of.ensures.named
     (remembered old.table.texts old.memo)))
+
+pub returns-clause-carried : goal.returns-clause-carried
+returns-clause-carried g c =
+    let i = instruction_of c.args.inst.now in
+    let memo = items_in c.self.inside.memo in
+    let new = c.operate_named.new in
+    rw (← c.self.view_is)
+    (subst (λ o. OnOk c.operate_named.result (followed_by g.D.Domain.follows (effect_of o) i
+    (carried_with memo c.self.inside.stack c.self.inside.domain)
+    ≡ Ok (carried_with memo new.stack new.domain))) c.op.ensures.op
+    (on_ok_weaker c.operate_named.result (λ h. h i (sym c.op.ensures.op) memo)
+    c.operate_named.ensures.followed))
