@@ -66,17 +66,18 @@ class Limits(Named):
     The others limit the cost of loading a pickle, whatever its objects do; None turns a limit off.
     They concern keys: those of dicts, and the items of sets. An object weighs 1. An int that is
     written in digits or bytes weighs an eighth of their number more, a text or bytes a 64th of its
-    bytes more, and a tuple or frozenset the weights of its items more. The result of a call or an
-    import weighs 1, whatever its hash costs.
+    bytes more, and a tuple or frozenset the weights of its items more. The result of a call weighs
+    what a tuple of the callable and its arguments would, since it may hold them. An imported object
+    weighs 1.
 
     A check with such limits takes a tenth to a half longer. It takes twice as long or more if
-    memory is limited, if more than about ten tuples hold other tuples or earlier objects, or if
-    there is a BUILD under `build="made"`. `Limits(levels=None, weight=None, work=None)` turns these
+    memory is limited, if more than about ten tuples hold other tuples or earlier objects, if there
+    are more than about fifteen calls, or if there is a BUILD under `build="made"`. `Limits(levels=None, weight=None, work=None)` turns these
     limits off. Pass it once, to the list or to the guard: if one of the two is at its default, the
     other applies; otherwise the smaller does.
 
-    levels: levels of tuples in a key, since each takes C stack to hash; default 1,000, greatest
-        1,022.
+    levels: levels of tuples and results in a key, since each takes C stack to hash; default 1,000,
+        greatest 1,022.
     weight: the weight of a key; default 1,000,000, greatest 1,048,574. A heavier key adds 1,048,575
         to `work`.
     work: the weight of all keys of a pickle together; default 100,000,000.

@@ -88,10 +88,10 @@ struct storklocker_settings {
     /* What loading a pickle may cost; the standard is no limit. Keys are those of dicts and the
        items of sets. An object weighs 1, an int in digits or bytes an eighth of these more, a text
        or bytes a 64th of its bytes more, and a tuple or frozenset the weights of its items more.
-       What a call or an import gives weighs 1, whatever its hash costs. Weights are counted up to
-       1,048,575 and levels up to 1,023. UINT32_MAX is no limit on them; any other that no key can
-       exceed is STORKLOCKER_USAGE. */
-    uint32_t levels;      /* levels of tuples in a key, at most 1,022; UINT32_MAX */
+       What a call gives weighs what a tuple of its operands would, and an import 1. Weights are
+       counted up to 1,048,575 and levels up to 1,023. UINT32_MAX is no limit on them; any other
+       that no key can exceed is STORKLOCKER_USAGE. */
+    uint32_t levels;      /* levels of tuples and results in a key, at most 1,022; UINT32_MAX */
     uint32_t weight;      /* the weight of a key, at most 1,048,574; UINT32_MAX */
     uint64_t work;        /* the weight of all keys together; UINT64_MAX */
     uint64_t clash;       /* the weight of all keys but texts, bytes and answers, which alone can

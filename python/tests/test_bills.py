@@ -19,6 +19,7 @@ WITHIN = [
     (b"\x8f(K\x0122\x90.", 8),
     (b"cm\nf\n)R}b.", 10),
     (b"}cm\nf\nNs.", 9),
+    (b"}cm\nf\n)\x81Ns.", 11),
 ]
 """Pickles that keep within these limits, and their lengths."""
 ABOVE = [
@@ -30,6 +31,8 @@ ABOVE = [
     (b"cm\nf\n\x940h\0}b.", 10, Reason.BuildsImport),
     (b"cm\nf\n2}b0.", 7, Reason.BuildsImport),
     (b"\x8c\x01m\x8c\x01f\x93}b.", 8, Reason.BuildsImport),
+    (b"}cm\nf\n)\x85\x81Ns.", 10, Reason.DeepKey),
+    (b"}C\xc8" + bytes(200) + b"\x98Ns.", 205, Reason.HeavyKeys),
     (b"])\x85\x85Ns.", 5, Reason.WrongClass),
     (b"})\x85\x85s.", 4, Reason.MissingItem),
     (b")\x85\x85", 3, Reason.Truncated),

@@ -99,8 +99,9 @@ new_at hefts r =
 pub next_is_new : (i : Instruction) (ns : List ℕ) (hefts : List Heft)
     → hefts_with i ns (Some (length hefts)) hefts
     ≡ hefts ++ heft_of i (map (heft_at hefts) ns) ∷ []
-next_is_new i ns hefts = ap (λ b. cond b (answered_again i (length hefts) hefts)
-    (hefts ++ heft_of i (map (heft_at hefts) ns) ∷ []))
+next_is_new i ns hefts =
+    let answer = heft_of i (map (heft_at hefts) ns) in
+    ap (λ b. cond b (answered_again answer (length hefts) hefts) (hefts ++ answer ∷ []))
     (le-ltb (length hefts) (length hefts) (omega arith))
 
 -- ---- tallies only grow

@@ -1,19 +1,19 @@
 -- Whatever a run answers, it costs at least what the bill says.
-use Rattle.std.proofs.Common.{◌≡◌, ◌≤◌, ◌<◌, ℕ, zero, suc, Bool, true, false, cond, List, []}
-use Rattle.std.proofs.Common.{◌∷◌, ◌++◌, length, map, set, Some, refl, sym, subst, arith}
+use Rattle.std.proofs.Common.{◌≡◌, ◌<◌, ℕ, zero, suc, Bool, true, false, ◌&&◌, ◌||◌, List, []}
+use Rattle.std.proofs.Common.{◌∷◌, ◌++◌, length, map, Some, refl, sym, subst, arith}
 use Rattle.std.specs.Prelude.{⊤, slice_get, unwrap_or}
 use Rattle.pkops.specs.Spelling.{Instruction}
 use Rattle.pkops.specs.declared.Op.{Op}
 use Rattle.pkmachine.specs.Covers.{Pointwise}
 use Rattle.pkmachine.specs.Effects.{is_old_string}
 use Rattle.pkcheck.specs.NewRuns.{DecodesNew, If, IsNew}
-use Rattle.pkmachine.specs.Runs.{Event, Go, ObjectClass, Outcome, Raise, State, with_event}
+use Rattle.pkmachine.specs.Runs.{Event, Go, Outcome, Raise, State, with_event}
 use Rattle.pkload.proofs.Accounts.{at_most_itself, kept_at, new_at}
 use Rattle.pkload.proofs.Lighter.{AreLighter, IsLighter, made_below, operation_below}
-use Rattle.pkload.proofs.Readings.{AreSome, IsAgain, IsLightAnswer, Reading, answer_heft}
-use Rattle.pkload.specs.Heft.{Heft, argument_size, heft_of, imports_object}
+use Rattle.pkload.proofs.Readings.{IsAgain, Reading}
+use Rattle.pkload.specs.Heft.{Heft, argument_size, heft_of}
 use Rattle.pkload.specs.Tally.{Implies, IsAtMost, no_tally, with_operation}
-use Rattle.pkload.specs.Weighed.{answered_again, heft_at, no_heft}
+use Rattle.pkload.specs.Weighed.{answered_again, heavier, heft_at, no_heft}
 use Rattle.pkload.specs.declared.tally.Tally.{Tally}
 
 -- the object with this number costs at least this
@@ -55,82 +55,82 @@ counted_least o hefts hs ns run said h g =
 
 -- ---- an earlier object is answered
 
-abbrev imported_now : ℕ → List Heft → List Heft
-imported_now k hefts = set hefts k (record (heft_at hefts k) { imported = true })
+-- a bool implied by one of two, and what both imply
+implied_either : (p q r : Bool) → Implies p q → Implies p (q || r)
+implied_either true true r g = refl
+implied_either true false r g = cc
+implied_either false q r g = tt
 
-implies_true : (b : Bool) → Implies b true
-implies_true true = refl
-implies_true false = tt
+implied_other : (p q r : Bool) → Implies p r → Implies p (q || r)
+implied_other true true r g = refl
+implied_other true false r g = g
+implied_other false q r g = tt
+
+both_imply : (p q r : Bool) → Implies p r → Implies (p && q) r
+both_imply true true r g = g
+both_imply true false r g = tt
+both_imply false q r g = tt
+
+other_implies : (p q r : Bool) → Implies q r → Implies (p && q) r
+other_implies true q r g = g
+other_implies false q r g = tt
+
+-- what is lighter than an object is lighter than the same made heavier, and so is what is lighter
+-- than the answer
+earlier_lighter : (v x answer : Heft) → IsLighter v x → IsLighter v (heavier x answer)
+earlier_lighter v x answer h = record {
+  weight = omega (arith, h.weight);
+  depth = omega (arith, h.depth);
+  salted = both_imply x.salted answer.salted v.salted h.salted;
+  imported = implied_either v.imported x.imported answer.imported h.imported;
+}
+
+answer_lighter : (v x answer : Heft) → IsLighter v answer → IsLighter v (heavier x answer)
+answer_lighter v x answer h = record {
+  weight = omega (arith, h.weight);
+  depth = omega (arith, h.depth);
+  salted = other_implies x.salted answer.salted v.salted h.salted;
+  imported = implied_other v.imported x.imported answer.imported h.imported;
+}
 
 -- all others cost the same
-still_least : (k : ℕ) (hefts : List Heft) (heft : Heft) (n : ℕ) → CostsAtLeast hefts heft n
-    → CostsAtLeast (imported_now k hefts) heft n
-still_least k [] heft n h = h
-still_least zero (x ∷ hefts) heft zero h = record {
-  now = record x { imported = true };
+still_least : (answer : Heft) (k : ℕ) (hefts : List Heft) (heft : Heft) (n : ℕ)
+    → CostsAtLeast hefts heft n → CostsAtLeast (answered_again answer k hefts) heft n
+still_least answer k [] heft n h = h
+still_least answer zero (x ∷ hefts) heft zero h = record {
+  now = heavier x answer;
   is = refl;
   lighter =
       let same : h.now ≡ x = cc in
-      let l = subst (IsLighter heft) same h.lighter in search implies_true;
+      earlier_lighter heft x answer (subst (IsLighter heft) same h.lighter);
 }
-still_least zero (x ∷ hefts) heft (suc n) h = search
-still_least (suc k) (x ∷ hefts) heft zero h = search
-still_least (suc k) (x ∷ hefts) heft (suc n) h =
-    let l = still_least k hefts heft n (search) in search
+still_least answer zero (x ∷ hefts) heft (suc n) h = search
+still_least answer (suc k) (x ∷ hefts) heft zero h = search
+still_least answer (suc k) (x ∷ hefts) heft (suc n) h =
+    let l = still_least answer k hefts heft n (search) in search
 
--- an answer weighs one, and so does each object at least
-lighter_than : (o : Op) (x : Heft) → 1 ≤ x.weight → Implies (imports_object o) x.imported
-    → IsLighter (answer_heft o) x
-lighter_than o x w e = search (arith, implies_true)
-
-again_least : (o : Op) (k : ℕ) (hefts : List Heft) → k < length hefts → AreSome hefts
-    → imports_object o ≡ false → CostsAtLeast hefts (answer_heft o) k
-again_least o k [] l h e = absurd (omega (arith, l))
-again_least o zero (x ∷ hefts) l h e = record {
-  now = x;
+again_least : (answer said : Heft) (k : ℕ) (hefts : List Heft) → k < length hefts
+    → IsLighter said answer → CostsAtLeast (answered_again answer k hefts) said k
+again_least answer said k [] l h = absurd (omega (arith, l))
+again_least answer said zero (x ∷ hefts) l h = record {
+  now = heavier x answer;
   is = refl;
-  lighter = lighter_than o x h.0 (subst (λ q. Implies q x.imported) (sym e) tt);
+  lighter = answer_lighter said x answer h;
 }
-again_least o (suc k) (x ∷ hefts) l h e =
-    let m = again_least o k hefts (omega (arith, l)) h.1 e in search
+again_least answer said (suc k) (x ∷ hefts) l h =
+    let m = again_least answer said k hefts (omega (arith, l)) h in search
 
-import_least : (o : Op) (k : ℕ) (hefts : List Heft) → k < length hefts → AreSome hefts
-    → CostsAtLeast (imported_now k hefts) (answer_heft o) k
-import_least o k [] l h = absurd (omega (arith, l))
-import_least o zero (x ∷ hefts) l h = record {
-  now = record x { imported = true };
-  is = refl;
-  lighter = lighter_than o (record x { imported = true }) h.0 (implies_true (imports_object o));
-}
-import_least o (suc k) (x ∷ hefts) l h =
-    let m = import_least o k hefts (omega (arith, l)) h.1 in search
-
-either_kept : (q : Bool) (k : ℕ) (hefts : List Heft) (heft : Heft) (n : ℕ)
-    → CostsAtLeast hefts heft n → CostsAtLeast (cond q (imported_now k hefts) hefts) heft n
-either_kept true k hefts heft n h = still_least k hefts heft n h
-either_kept false k hefts heft n h = h
-
-either_is : (o : Op) (q : Bool) (k : ℕ) (hefts : List Heft) → imports_object o ≡ q
-    → k < length hefts → AreSome hefts
-    → CostsAtLeast (cond q (imported_now k hefts) hefts) (answer_heft o) k
-either_is o true k hefts e l h = import_least o k hefts l h
-either_is o false k hefts e l h = again_least o k hefts l h e
-
-not_old : (o : Bool) (s : State) (k : ℕ) (c : ObjectClass) → If o (IsNew s (Go k c))
-    → k < length s.objects → o ≡ false
-not_old true s k c h l = absurd (omega (arith, h, l))
-not_old false s k c h l = refl
-
-pub answered_least : (hefts : List Heft) (i : Instruction) (hs : List Heft) (s : State) (k : ℕ)
-    (c : ObjectClass) → DecodesNew i s (Go k c) → length hefts ≡ length s.objects
-    → k < length s.objects → AreSome hefts → IsLightAnswer i.op
-    → IsAgain CostsAtLeast hefts i hs k
-answered_least hefts i hs s k c may e l some light = record {
-  kept = λ heft n h. either_kept (imports_object i.op) k hefts heft n h;
-  is = subst (λ x. CostsAtLeast (answered_again i k hefts) x k)
-      (sym (light (not_old (is_old_string i.op) s k c may l) (argument_size i.arg) hs))
-      (either_is i.op (imports_object i.op) k hefts refl (omega (arith, e, l)) some);
-}
+pub answered_least : (hefts : List Heft) (i : Instruction) (hs : List Heft) (ns : List ℕ) (k : ℕ)
+    → Pointwise (CostsAtLeast hefts) hs ns → k < length hefts
+    → IsAgain CostsAtLeast hefts (heft_of i (map (heft_at hefts) ns)) (heft_of i hs) k
+answered_least hefts i hs ns k h l =
+    let answer = heft_of i (map (heft_at hefts) ns) in
+    record {
+      kept = λ heft n g. still_least answer k hefts heft n g;
+      is = again_least answer (heft_of i hs) k hefts l
+          (made_below i.op (argument_size i.arg) hs (map (heft_at hefts) ns)
+          (lighter_all hefts hs ns h));
+    }
 
 pub still_may : (q : Bool) (s : State) (e : Event) (o : Outcome) → If q (IsNew s o)
     → If q (IsNew (with_event e s) o)
@@ -150,5 +150,6 @@ at_least = record {
   made = made_least;
   counted = counted_least;
   behind = λ i s e o h. still_may (is_old_string i.op) s e o h;
-  again = answered_least;
+  again = λ hefts i said operands s k c may h e l. answered_least hefts i said operands k h
+      (omega (arith, e, l));
 }

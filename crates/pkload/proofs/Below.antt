@@ -253,6 +253,11 @@ module _ (i : Instruction) (size at n : ℕ) (c : Ceiling) (b : Bill)
   held_more op.Tuple1 m k l = omega arith
   held_more op.Tuple2 m k l = omega arith
   held_more op.Tuple3 m k l = omega arith
+  held_more op.Reduce m k l = omega arith
+  held_more op.NewObj m k l = omega arith
+  held_more op.NewObjEx m k l = omega arith
+  held_more op.BinPersid m k l = omega arith
+  held_more op.ReadonlyBuffer m k l = omega arith
   held_more o m k l = l
 
   -- one more instruction keeps the bill below

@@ -44,5 +44,5 @@ exactly = record {
   made = made_so;
   counted = counted_so;
   behind = λ i s e o h. still_new s e i o h;
-  again = λ hefts i said s number c h e l some light. absurd (omega (arith, h, l));
+  again = λ hefts i said operands s number c h w e l. absurd (omega (arith, h, l));
 }

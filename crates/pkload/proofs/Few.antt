@@ -177,6 +177,11 @@ most_held op.EmptyTuple entries = 0
 most_held op.Tuple1 entries = 1
 most_held op.Tuple2 entries = 2
 most_held op.Tuple3 entries = 3
+most_held op.Reduce entries = 2
+most_held op.NewObj entries = 2
+most_held op.NewObjEx entries = 3
+most_held op.BinPersid entries = 1
+most_held op.ReadonlyBuffer entries = 1
 most_held o entries = entries
 
 of_entries : (e : Effect) (n : ℕ) → most_of e n ≤ n
@@ -190,4 +195,9 @@ held_few op.EmptyTuple n = omega arith
 held_few op.Tuple1 n = omega arith
 held_few op.Tuple2 n = omega arith
 held_few op.Tuple3 n = omega arith
+held_few op.Reduce n = omega arith
+held_few op.NewObj n = omega arith
+held_few op.NewObjEx n = omega arith
+held_few op.BinPersid n = omega arith
+held_few op.ReadonlyBuffer n = omega arith
 held_few o n = of_entries (effect_of o) n

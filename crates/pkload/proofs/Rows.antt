@@ -141,10 +141,43 @@ a_deep_value : counts
     ≡ (0, 1, 1, 1)
 a_deep_value = refl
 
--- an answer weighs 1, whatever it was called with, and its hash isn't known
+-- an answer costs what a tuple of the operands would, 1 + (1 + 2), but its hash isn't known
 an_answer : counts
-    (as_key (global ∷ bare op.EmptyTuple ∷ bare op.Tuple1 ∷ bare op.Reduce ∷ [])) ≡ (0, 1, 1, 0)
+    (as_key (global ∷ bare op.EmptyTuple ∷ bare op.Tuple1 ∷ bare op.Reduce ∷ [])) ≡ (3, 4, 4, 0)
 an_answer = refl
+
+-- a named tuple in another
+nested_answers : counts
+    (as_key
+    (global ∷ global ∷ bare op.EmptyTuple ∷ bare op.NewObj ∷ bare op.Tuple1 ∷ bare op.NewObj ∷ []))
+    ≡ (4, 6, 6, 0)
+nested_answers = refl
+
+with_keywords : counts
+    (as_key (global ∷ bare op.EmptyTuple ∷ bare op.EmptyDict ∷ bare op.NewObjEx ∷ []))
+    ≡ (2, 4, 4, 0)
+with_keywords = refl
+
+an_object_of_a_slice : counts (as_key (bare op.Mark ∷ global ∷ int 1 ∷ bare op.Obj ∷ []))
+    ≡ (1, 3, 3, 0)
+an_object_of_a_slice = refl
+
+an_instance : counts
+    (as_key
+    (bare op.Mark ∷ int 1 ∷ instruction op.Inst (Pair (109 ∷ []) (102 ∷ [])) ∷ []))
+    ≡ (1, 2, 2, 0)
+an_instance = refl
+
+-- bytes of 128 weigh 3
+a_read_only_buffer : counts
+    (as_key
+    (instruction op.ShortBinBytes (Counted (replicate 128 97)) ∷ bare op.ReadonlyBuffer ∷ []))
+    ≡ (1, 4, 4, 0)
+a_read_only_buffer = refl
+
+-- a name that was imported weighs one, and so does an object that a line names
+a_name : counts (as_key (global ∷ [])) ≡ (0, 1, 1, 0)
+a_name = refl
 
 -- ---- memory
 
@@ -235,6 +268,15 @@ the_run_of_doubled : tally_of (run doubled_key (Go 0 Foreign ∷ []) start)
     ≡ tally_in (all_billed doubled_key no_bill)
 the_run_of_doubled = refl
 
+-- a call that answers the name itself: the object costs what the answer does from then on
+abbrev called_key : List Instruction
+called_key = as_key (global ∷ bare op.EmptyTuple ∷ bare op.Reduce ∷ [])
+
+the_run_of_an_earlier_answer : tally_of
+    (run called_key (Go 1 Foreign ∷ Go 1 Foreign ∷ Go 0 Foreign ∷ []) start)
+    ≡ tally_in (all_billed called_key no_bill)
+the_run_of_an_earlier_answer = refl
+
 -- a key that can't be hashed raises, and was counted
 a_raising_key : tally_of (run doubled_key (Raise ∷ []) start)
     ≡ tally_in (all_billed doubled_key no_bill)
@@ -244,17 +286,17 @@ a_raising_key = refl
 abbrev returned : List Instruction
 returned =
     as_key
-    (bare op.EmptyTuple ∷ bare op.Tuple1 ∷ bare op.Memoize ∷ bare op.Pop ∷ global
-    ∷ bare op.EmptyTuple ∷ bare op.Reduce ∷ [])
+    (bare op.EmptyTuple ∷ bare op.Tuple1 ∷ bare op.Tuple1 ∷ bare op.Tuple1 ∷ bare op.Memoize
+    ∷ bare op.Pop ∷ global ∷ bare op.EmptyTuple ∷ bare op.Reduce ∷ [])
 
-the_bill_of_returned : counts returned ≡ (0, 1, 1, 0)
+the_bill_of_returned : counts returned ≡ (2, 3, 3, 0)
 the_bill_of_returned = refl
 
 the_run_of_returned : (tally_of
-    (run returned (Go 9 Foreign ∷ Go 2 Foreign ∷ Go 0 Foreign ∷ []) start)).weight ≡ 2
+    (run returned (Go 9 Foreign ∷ Go 4 Foreign ∷ Go 0 Foreign ∷ []) start)).weight ≡ 4
 the_run_of_returned = refl
 
--- an old string that isn't decoded may be answered by an earlier object that weighs less
+-- an old string that isn't decoded may be answered by an earlier object, which costs as much then
 abbrev old_key : List Instruction
 old_key = as_key (instruction op.BinString (Counted (replicate 64 97)) ∷ [])
 
@@ -262,7 +304,7 @@ the_bill_of_an_old_key : counts old_key ≡ (0, 2, 2, 0)
 the_bill_of_an_old_key = refl
 
 the_run_of_an_old_key : (tally_of (run old_key (Go 0 Foreign ∷ Go 9 Foreign ∷ []) start)).weight
-    ≡ 1
+    ≡ 2
 the_run_of_an_old_key = refl
 
 -- an earlier object that an import answers is imported from then on

@@ -34,9 +34,8 @@ use Rattle.pkstack.specs.Shape.{put, top}
 use Rattle.pkload.proofs.Accounts.{along_end, next_is_new, nothing_counted, since_end}
 use Rattle.pkmachine.specs.AlikeLaws.{Alike-map, AlikeTaken, AlikeTop, Pointwise-append, SameResult}
 use Rattle.pkmachine.specs.AlikeLaws.{front_alike, moved_alike, operands_alike, top_alike}
-use Rattle.pkload.proofs.Weights.{again_count, again_some, answers_light, made_some}
-use Rattle.pkload.proofs.Weights.{old_string_answers, some_more}
-use Rattle.pkload.proofs.Readings.{AreSome, IsLightAnswer, IsLightGiven, IsLightIn, Reading}
+use Rattle.pkload.proofs.Weights.{again_count, old_string_answers}
+use Rattle.pkload.proofs.Readings.{Reading}
 use Rattle.pkload.specs.Bill.{Bill, billed, billed_by, heft_given, move_billed, operation_billed}
 use Rattle.pkload.specs.Bill.{stop_billed}
 use Rattle.pkload.specs.Heft.{Heft, argument_size, heft_of}
@@ -55,7 +54,6 @@ module _ (r : Reading) (n : ℕ) where
     pub shape : Alike (Weighs s) b.shape s.shape
     pub tally : r.Counts (tally_since n s.events) b.tally
     pub count : length (account_of s.events).hefts ≡ length s.objects
-    pub some : AreSome (account_of s.events).hefts
     pub behind : n ≤ length s.events
 
   abbrev pub StepBilled : Bill → Stepped → Type 0
@@ -113,9 +111,9 @@ module _ (r : Reading) (n : ℕ) where
     billed_then : (gives : Gives) (d : Option ℕ) (objects : List Object) (now : List Heft)
         → hefts_with i u.operands d hefts ≡ now
         → Alike (r.Weighs now) (after gives i t b).shape (state_then d objects).shape
-        → length now ≡ length objects → AreSome now
+        → length now ≡ length objects
         → Billed (after gives i t b) (state_then d objects)
-    billed_then gives d objects now is shape count some =
+    billed_then gives d objects now is shape count =
         let same = hefts_then d objects ∙ is in
         record {
           shape = subst
@@ -123,7 +121,6 @@ module _ (r : Reading) (n : ℕ) where
               (sym same) shape;
           tally = tally_then d;
           count = ap length same ∙ count;
-          some = subst AreSome (sym same) some;
           behind = omega (arith, h.behind, length-append s.events (Did i u.operands d ∷ []));
         }
 
@@ -158,22 +155,20 @@ module _ (r : Reading) (n : ℕ) where
           length-append hefts (another ∷ []),
           length-append s.objects (o ∷ []),
         ))
-        (some_more hefts another h.some (made_some i.op (argument_size i.arg)
-        (map (heft_at hefts) u.operands)))
 
     -- an operation that answers an earlier object
-    earlier_result : (number : ℕ) (c : ObjectClass) → IsLightAnswer i.op
-        → r.May i s (Go number c) → ltb number (length s.objects) ≡ true
+    earlier_result : (number : ℕ) (c : ObjectClass) → r.May i s (Go number c)
+        → ltb number (length s.objects) ≡ true
         → Billed (after Answers i t b) (state_then (Some number) s.objects)
-    earlier_result number c light w e =
-        let k = r.again hefts i t.operands s number c w h.count
-        (ltb-true number (length s.objects) e) h.some light in
-        let another = heft_of i (map (heft_at hefts) u.operands) in
-        billed_then Answers (Some number) s.objects (answered_again i number hefts)
-        (ap (λ q. cond q (answered_again i number hefts) (hefts ++ another ∷ []))
-        (ap (ltb number) h.count ∙ e))
-        (pushed (answered_again i number hefts) k.kept (heft_of i t.operands) number k.is)
-        (again_count i number hefts ∙ h.count) (again_some i number hefts h.some)
+    earlier_result number c w e =
+        let k = r.again hefts i t.operands u.operands s number c w a.operands h.count
+        (ltb-true number (length s.objects) e) in
+        let answer = heft_of i (map (heft_at hefts) u.operands) in
+        let now = answered_again answer number hefts in
+        billed_then Answers (Some number) s.objects now
+        (ap (λ q. cond q now (hefts ++ answer ∷ [])) (ap (ltb number) h.count ∙ e))
+        (pushed now k.kept (heft_of i t.operands) number k.is)
+        (again_count answer number hefts ∙ h.count)
 
     -- an operation that leaves its receiver
     leaves : (wanted : Wanted) → Billed (after (Leaves wanted) i t b) (state_then None s.objects)
@@ -183,39 +178,38 @@ module _ (r : Reading) (n : ℕ) where
               (front u.operands) t.below u.below
               (front_alike (r.Weighs hefts) t.operands u.operands a.operands) a.below;
           memo = h.shape.memo;
-        }) h.count h.some
+        }) h.count
 
-    by_number : (q : Bool) (number : ℕ) (c : ObjectClass) → IsLightAnswer i.op
-        → r.May i s (Go number c) → ltb number (length s.objects) ≡ q
+    by_number : (q : Bool) (number : ℕ) (c : ObjectClass) → r.May i s (Go number c)
+        → ltb number (length s.objects) ≡ q
         → StepBilled (after Answers i t b) (WentOn (let x = cond {A = Option ℕ × List Object} q
         (Some number, s.objects) (Some (length s.objects), with_answer c s.objects) in
         state_then x.0 x.1))
-    by_number true number c light w e = earlier_result number c light w e
-    by_number false number c light w e = new_result _
+    by_number true number c w e = earlier_result number c w e
+    by_number false number c w e = new_result _
 
-    went_on : (gives : Gives) (number : ℕ) (c : ObjectClass) → IsLightGiven gives i.op
+    went_on : (gives : Gives) (number : ℕ) (c : ObjectClass)
         → MayIfAnswer gives i s number c
         → StepBilled (after gives i t b) (gone_on gives i u number c s)
-    went_on (Makes k) number c light w = new_result _
-    went_on MakesIntOrBool number c light w = new_result _
-    went_on MakesText number c light w = new_result _
-    went_on (MayMake k) number c light w = new_result _
-    went_on (Leaves k) number c light w = leaves k
-    went_on Answers number c light w =
-        by_number (ltb number (length s.objects)) number c light w refl
+    went_on (Makes k) number c w = new_result _
+    went_on MakesIntOrBool number c w = new_result _
+    went_on MakesText number c w = new_result _
+    went_on (MayMake k) number c w = new_result _
+    went_on (Leaves k) number c w = leaves k
+    went_on Answers number c w =
+        by_number (ltb number (length s.objects)) number c w refl
 
-    comes : (gives : Gives) (o : Outcome) → IsLightGiven gives i.op
-        → If (asks gives) (r.May i s o)
+    comes : (gives : Gives) (o : Outcome) → If (asks gives) (r.May i s o)
         → StepBilled (after gives i t b) (come_of (asks gives) gives i u o s)
-    comes (Makes k) o light w = went_on (Makes k) 0 Foreign tt tt
-    comes MakesIntOrBool o light w = went_on MakesIntOrBool 0 Foreign tt tt
-    comes MakesText o light w = went_on MakesText 0 Foreign tt tt
-    comes (MayMake k) Raise light w = tally_then None
-    comes (MayMake k) (Go number c) light w = went_on (MayMake k) number c tt tt
-    comes (Leaves k) Raise light w = tally_then None
-    comes (Leaves k) (Go number c) light w = went_on (Leaves k) number c tt tt
-    comes Answers Raise light w = tally_then None
-    comes Answers (Go number c) light w = went_on Answers number c light w
+    comes (Makes k) o w = went_on (Makes k) 0 Foreign tt
+    comes MakesIntOrBool o w = went_on MakesIntOrBool 0 Foreign tt
+    comes MakesText o w = went_on MakesText 0 Foreign tt
+    comes (MayMake k) Raise w = tally_then None
+    comes (MayMake k) (Go number c) w = went_on (MayMake k) number c tt
+    comes (Leaves k) Raise w = tally_then None
+    comes (Leaves k) (Go number c) w = went_on (Leaves k) number c tt
+    comes Answers Raise w = tally_then None
+    comes Answers (Go number c) w = went_on Answers number c w
 
   -- an import counts nothing
   account_imports : (s : State) (m k : List ℕ)
@@ -229,41 +223,38 @@ module _ (r : Reading) (n : ℕ) where
     tally = subst (λ run. r.Counts run b.tally) (sym (since_end n s.events (Import m k) h.behind))
         h.tally;
     count = subst (λ x. length x.hefts ≡ length s.objects) (account_imports s m k) h.count;
-    some = subst (λ x. AreSome x.hefts) (account_imports s m k) h.some;
     behind = omega (arith, h.behind, length-append s.events (Import m k ∷ []));
   }
 
   operates : (nm : Named) (gives : Gives) (i : Instruction) (t : Taken Heft) (u : Taken ℕ)
-      (b : Bill) (s : State) (o : Outcome) → IsLightGiven gives i.op → Billed b s
+      (b : Bill) (s : State) (o : Outcome) → Billed b s
       → AlikeTaken (Weighs s) t u → If (asks gives) (r.May i s o)
       → StepBilled (after gives i t b) (operated nm gives i u o s)
-  operates NoImport gives i t u b s o light h a w = comes i t u b s h a gives o light w
-  operates (Pair m k) gives i t u b s o light h a w =
+  operates NoImport gives i t u b s o h a w = comes i t u b s h a gives o w
+  operates (Pair m k) gives i t u b s o h a w =
       comes i t u b (with_event (Import m k) s) (imports b s m k h)
-      (subst (λ x. AlikeTaken (r.Weighs x.hefts) t u) (account_imports s m k) a) gives o light
+      (subst (λ x. AlikeTaken (r.Weighs x.hefts) t u) (account_imports s m k) a) gives o
       (same_may (asks gives) w)
     where
       same_may : (q : Bool) → If q (r.May i s o) → If q (r.May i (with_event (Import m k) s) o)
       same_may true w = r.behind i s (Import m k) o w
       same_may false w = w
-  operates NotTexts gives i t u b s o light h a w = tally_then i t u b s h a None
+  operates NotTexts gives i t u b s o h a w = tally_then i t u b s h a None
 
   operate_billed : (names : Names) (gives : Gives) (i : Instruction) (b : Bill) (s : State)
       (o : Outcome) (x : Result (Taken Heft) Breach) (y : Result (Taken ℕ) Breach)
-      → IsLightGiven gives i.op → Billed b s
-      → SameResult (AlikeTaken (Weighs s)) x y
-      → If (asks gives) (r.May i s o)
+      → Billed b s → SameResult (AlikeTaken (Weighs s)) x y → If (asks gives) (r.May i s o)
       → IfBilled (operation_billed gives i b x) (operate_step names gives i o s y)
-  operate_billed names gives i b s o (Ok t) (Ok u) light h a w =
-      operates (named names i (map (class_at s.objects) u.operands)) gives i t u b s o light h a w
-  operate_billed names gives i b s o (Err e) y light h a w = tt
-  operate_billed names gives i b s o (Ok t) (Err e) light h a w = absurd a
+  operate_billed names gives i b s o (Ok t) (Ok u) h a w =
+      operates (named names i (map (class_at s.objects) u.operands)) gives i t u b s o h a w
+  operate_billed names gives i b s o (Err e) y h a w = tt
+  operate_billed names gives i b s o (Ok t) (Err e) h a w = absurd a
 
   shape_billed : (m : Move) (k : ℕ) (b : Bill) (s : State) (x : Result (Shape Heft) Breach)
       (y : Result (Shape ℕ) Breach) → Billed b s → SameResult (Alike (Weighs s)) x y
       → IfBilled (move_billed m k b x) (move_step s y)
   shape_billed m k b s (Ok p) (Ok q) h a =
-      record { shape = a; tally = h.tally; count = h.count; some = h.some; behind = h.behind }
+      record { shape = a; tally = h.tally; count = h.count; behind = h.behind }
   shape_billed m k b s (Err e) y h a = tt
   shape_billed m k b s (Ok p) (Err e) h a = absurd a
 
@@ -275,7 +266,6 @@ module _ (r : Reading) (n : ℕ) where
       shape = record { entries = a.below; memo = h.shape.memo };
       tally = h.tally;
       count = h.count;
-      some = h.some;
       behind = h.behind;
     },
     refl,
@@ -290,20 +280,20 @@ module _ (r : Reading) (n : ℕ) where
       ∙ nothing_counted i.op (tally_since n s.events))) h.tally
 
   performed_billed : (e : Effect) (i : Instruction) (b : Bill) (s : State) (o : Outcome)
-      → IsLightIn e i.op → Billed b s → If (effect_asks e) (r.May i s o)
+      → Billed b s → If (effect_asks e) (r.May i s o)
       → IfBilled (billed_by e i b) (perform e i s o)
-  performed_billed (Operates takes names gives) i b s o light h w =
+  performed_billed (Operates takes names gives) i b s o h w =
       operate_billed names gives i b s o (operands takes b.shape.entries)
-      (operands takes s.shape.entries) light h
+      (operands takes s.shape.entries) h
       (operands_alike (Weighs s) takes b.shape.entries s.shape.entries h.shape.entries) w
-  performed_billed (Moves m) i b s o light h w =
+  performed_billed (Moves m) i b s o h w =
       shape_billed m (number_kept m (memo_number i) b.shape) b s
       (moved m (memo_number i) b.shape) (moved m (memo_number i) s.shape) h
       (moved_alike (Weighs s) m (memo_number i) b.shape s.shape h.shape)
-  performed_billed Stops i b s o light h w =
+  performed_billed Stops i b s o h w =
       result_billed b s (top b.shape.entries) (top s.shape.entries) h
       (top_alike (Weighs s) b.shape.entries s.shape.entries h.shape.entries)
-  performed_billed Raises i b s o light h w = raises_billed i b s h
+  performed_billed Raises i b s o h w = raises_billed i b s h
 
   -- ---- the decoding of old strings
 
@@ -319,7 +309,7 @@ module _ (r : Reading) (n : ℕ) where
 
     ascii_billed : (plain : Bool)
         → IsBilledAsOld (cond plain (Operates (Objects 0) NoName MakesText) Raises)
-    ascii_billed true w = performed_billed (Operates (Objects 0) NoName MakesText) i b s o tt h w
+    ascii_billed true w = performed_billed (Operates (Objects 0) NoName MakesText) i b s o h w
     ascii_billed false w = subst
         (λ said. r.Counts (tally_since n (s.events ++ Did i [] None ∷ [])) said)
         (sym (nothing_counted i.op b.tally)) (raises_billed i b s h)
@@ -329,15 +319,15 @@ module _ (r : Reading) (n : ℕ) where
     old_billed e true q f w =
         subst (λ x. IfBilled (billed_by x i b) (perform e i s o)) (sym (old_string_answers i.op q))
         (f w)
-    old_billed e false q f w = performed_billed (effect_of i.op) i b s o (answers_light i.op) h w
+    old_billed e false q f w = performed_billed (effect_of i.op) i b s o h w
 
     by_setting : (setting : OldStrings) → IsBilledAs (effect_as setting i)
-    by_setting Unknown w = performed_billed (effect_of i.op) i b s o (answers_light i.op) h w
+    by_setting Unknown w = performed_billed (effect_of i.op) i b s o h w
     by_setting Ascii w =
         old_billed (ascii_string (unwrap_or (old_bytes i) [])) (is_old_string i.op) refl
         (ascii_billed (list_all is_ascii (unwrap_or (old_bytes i) []))) w
     by_setting Bytes w = old_billed (pushes class.Bytes) (is_old_string i.op) refl
-        (λ v. performed_billed (pushes class.Bytes) i b s o tt h v) w
+        (λ v. performed_billed (pushes class.Bytes) i b s o h v) w
 
   -- a step from a state with this bill leads to one with the next bill
   pub step_billed : (setting : OldStrings) (i : Instruction) (b : Bill) (s : State) (o : Outcome)

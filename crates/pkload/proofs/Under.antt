@@ -8,8 +8,9 @@ use Rattle.pkops.specs.declared.Op.TheVariants as op
 use Rattle.pkmachine.specs.Covers.{Pointwise}
 use Rattle.pkload.proofs.Few.{most_held}
 use Rattle.pkload.proofs.Flat.{AreKnown, AreTied, plain_deepest, plain_weights}
-use Rattle.pkload.specs.Heft.{Heft, deepest_of, heft_made, holds_operands, makes_long, makes_string}
-use Rattle.pkload.specs.Heft.{makes_tuple, most_depth, most_weight, payload_weight, weights_of}
+use Rattle.pkload.specs.Heft.{Heft, asks_operands, deepest_of, heft_made, holds_operands}
+use Rattle.pkload.specs.Heft.{makes_long, makes_string, most_depth, most_weight, payload_weight}
+use Rattle.pkload.specs.Heft.{weights_of}
 use Rattle.pkload.specs.declared.ceiling.Ceiling.{Ceiling}
 use Rattle.pkload.specs.Private.Ceiling.{heaviest, held, most_counted, plain_weight, pushed}
 use Rattle.pkload.specs.Private.Ceiling.{raised, repeated, tied}
@@ -134,13 +135,13 @@ raised_rises op.AddItems size at c h = tops_rise 0 false c h
 raised_rises op.List size at c h = tops_rise 0 false c h
 raised_rises op.Dict size at c h = tops_rise 0 false c h
 raised_rises op.StackGlobal size at c h = tops_rise 0 false c h
-raised_rises op.Reduce size at c h = tops_rise 0 false c h
-raised_rises op.NewObj size at c h = tops_rise 0 false c h
-raised_rises op.NewObjEx size at c h = tops_rise 0 false c h
-raised_rises op.Obj size at c h = tops_rise 0 false c h
-raised_rises op.Inst size at c h = tops_rise 0 false c h
-raised_rises op.BinPersid size at c h = tops_rise 0 false c h
-raised_rises op.ReadonlyBuffer size at c h = tops_rise 0 false c h
+raised_rises op.Reduce size at c h = tied_rises false 2 c h
+raised_rises op.NewObj size at c h = tied_rises false 2 c h
+raised_rises op.NewObjEx size at c h = tied_rises false 3 c h
+raised_rises op.Obj size at c h = tied_rises false at c h
+raised_rises op.Inst size at c h = tied_rises false at c h
+raised_rises op.BinPersid size at c h = tied_rises false 1 c h
+raised_rises op.ReadonlyBuffer size at c h = tied_rises false 1 c h
 raised_rises op.Pop size at c h = tops_rise 0 false c h
 raised_rises op.PopMark size at c h = tops_rise 0 false c h
 raised_rises op.Ext1 size at c h = tops_rise 0 false c h
@@ -184,14 +185,14 @@ count_under c hs count h few =
     let more = mul-le (length hs) (heaviest c) count (heaviest c) few (omega arith) in
     omega (arith, all, more)
 
--- a tuple is under the ceiling of one with at least as many items
+-- a tuple or an answer is under the ceiling of one with at least as many items
 tuple_under : (o : Op) (small count : ℕ) (is_flat : Bool) (hs : List Heft) (c : Ceiling) (g : Heft)
     → payload_weight o small ≡ 0 → AreUnder c hs → (is_flat ≡ false → length hs ≤ count)
     → AreKnown is_flat count (plain_weight c) hs
     → IsUnder (tied is_flat count c) (heft_made o small hs) g
 tuple_under o small count true hs c g none h few known = record {
   weight = weight (holds_operands o) (payload_weight o small) none;
-  depth = depth (makes_tuple o);
+  depth = depth (asks_operands o);
 }
   where
     all : weights_of hs ≤ count * plain_weight c
@@ -209,7 +210,7 @@ tuple_under o small count true hs c g none h few known = record {
     depth false = omega arith
 tuple_under o small count false hs c g none h few known = record {
   weight = weight (holds_operands o) (payload_weight o small) none;
-  depth = depth (makes_tuple o);
+  depth = depth (asks_operands o);
 }
   where
     weight : (q : Bool) (p : ℕ) → p ≡ 0
@@ -234,11 +235,11 @@ known_by false flat at weight hs h = tt
 
 -- an object that holds no operands is under the ceiling of its payload
 pushed_under : (o : Op) (small size : ℕ) (hs : List Heft) (c : Ceiling) (g : Heft)
-    → holds_operands o ≡ false → makes_tuple o ≡ false → small ≤ size
+    → holds_operands o ≡ false → asks_operands o ≡ false → small ≤ size
     → IsUnder (pushed (payload_weight o size) c) (heft_made o small hs) g
 pushed_under o small size hs c g holds ties less = record {
   weight = weight (makes_long o) (makes_string o) (holds_operands o) holds;
-  depth = depth (makes_tuple o) ties;
+  depth = depth (asks_operands o) ties;
 }
   where
     -- the weight of a payload of an int, of a text, or of neither
@@ -317,19 +318,19 @@ object_under op.Dict small size at hs c g less h few known =
 object_under op.StackGlobal small size at hs c g less h few known =
     record { weight = omega arith; depth = omega arith }
 object_under op.Reduce small size at hs c g less h few known =
-    record { weight = omega arith; depth = omega arith }
+    tuple_under op.Reduce small 2 false hs c g refl h (λ e. few) known
 object_under op.NewObj small size at hs c g less h few known =
-    record { weight = omega arith; depth = omega arith }
+    tuple_under op.NewObj small 2 false hs c g refl h (λ e. few) known
 object_under op.NewObjEx small size at hs c g less h few known =
-    record { weight = omega arith; depth = omega arith }
+    tuple_under op.NewObjEx small 3 false hs c g refl h (λ e. few) known
 object_under op.Obj small size at hs c g less h few known =
-    record { weight = omega arith; depth = omega arith }
+    tuple_under op.Obj small at false hs c g refl h (λ e. few) known
 object_under op.Inst small size at hs c g less h few known =
-    record { weight = omega arith; depth = omega arith }
+    tuple_under op.Inst small at false hs c g refl h (λ e. few) known
 object_under op.BinPersid small size at hs c g less h few known =
-    record { weight = omega arith; depth = omega arith }
+    tuple_under op.BinPersid small 1 false hs c g refl h (λ e. few) known
 object_under op.ReadonlyBuffer small size at hs c g less h few known =
-    record { weight = omega arith; depth = omega arith }
+    tuple_under op.ReadonlyBuffer small 1 false hs c g refl h (λ e. few) known
 object_under op.Pop small size at hs c g less h few known =
     record { weight = omega arith; depth = omega arith }
 object_under op.PopMark small size at hs c g less h few known =

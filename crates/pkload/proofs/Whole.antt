@@ -103,7 +103,6 @@ module _ (r : Reading) where
     shape = record { entries = tt; memo = h.shape.memo };
     tally = subst (λ run. r.Counts run no_tally) (sym (none_since t.events)) r.none;
     count = h.count;
-    some = h.some;
     behind = omega arith;
   }
 
@@ -141,7 +140,6 @@ module _ (r : Reading) where
     shape = record { entries = tt; memo = tt };
     tally = r.none;
     count = refl;
-    some = tt;
     behind = omega arith;
   }
 

@@ -103,9 +103,8 @@ pub record ExceedsIn (loading : Loading) (policy : Policy) (limits : Bounds) (to
   pub bill : Bill
   pub adds : billed reached.last reached.earlier ≡ Ok bill
   pub exceeds : Exceeds excess tolls bill.tally bill.memory
-  -- each run that gets to it exceeds the limit that is named, whatever is answered: an earlier
-  -- object in place of a new one only adds. Old strings alone must be decoded to new objects: they
-  -- weigh by their bytes, and an earlier object may weigh less
+  -- each run that gets to it and decodes old strings to new objects exceeds the limit that is
+  -- named, whatever else is answered: an earlier object in place of a new one only adds
   pub each : InEachDecodedRun loading.old_strings (begins loading.memo before)
       reached.instructions (GetsAbove loading.old_strings reached.last excess tolls bill.memory)
   -- each run that gets past it and whose answers are new objects exceeds none that is tried earlier

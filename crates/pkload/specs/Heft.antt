@@ -1,5 +1,6 @@
 -- What an object costs as a key of a dict or an item of a set. Tuples, frozensets, texts, bytes and
--- ints never change, so this is known when they are made.
+-- ints never change, so this is known when they are made. What a call answers may hold its operands,
+-- as a named tuple does, so it costs what a tuple of them would.
 use Rattle.std.specs.Prelude.{ℕ, ◌+◌, ◌/◌, min, max, Bool, true, false, if◌then◌else◌, List, []}
 use Rattle.std.specs.Prelude.{◌∷◌, length}
 use Rattle.pkops.specs.declared.Op.{Op}
@@ -61,18 +62,24 @@ imports_object op.Global = true
 imports_object op.StackGlobal = true
 imports_object _ = false
 
--- opcodes that answer something else: a call's result, a persistent object, or a buffer
+-- opcodes that answer something about their operands: a call's result, the object of a persistent
+-- id, or a buffer that can't be written
+abbrev pub answers_operands : Op → Bool
+answers_operands op.Reduce = true
+answers_operands op.Inst = true
+answers_operands op.Obj = true
+answers_operands op.NewObj = true
+answers_operands op.NewObjEx = true
+answers_operands op.BinPersid = true
+answers_operands op.ReadonlyBuffer = true
+answers_operands _ = false
+
+-- opcodes that answer something else than a name: what was said, the object of a persistent id in a
+-- line, or a buffer
 abbrev pub answers_other : Op → Bool
-answers_other op.Reduce = true
-answers_other op.Inst = true
-answers_other op.Obj = true
-answers_other op.NewObj = true
-answers_other op.NewObjEx = true
 answers_other op.PersId = true
-answers_other op.BinPersid = true
 answers_other op.NextBuffer = true
-answers_other op.ReadonlyBuffer = true
-answers_other _ = false
+answers_other o = answers_operands o
 
 -- the opcode's object has a salted hash, or it isn't known what hashes it
 abbrev pub makes_salted : Op → Bool
@@ -101,19 +108,23 @@ abbrev pub deepest_of : List Heft → ℕ
 deepest_of [] = 0
 deepest_of (heft ∷ hefts) = max heft.depth (deepest_of hefts)
 
--- the opcode's object holds its operands for as long as it lives, and its hash looks at them
+-- the hash of the opcode's object may ask each of its operands for its own: that of a tuple does
+abbrev pub asks_operands : Op → Bool
+asks_operands o = if makes_tuple o then true else answers_operands o
+
+-- the opcode's object may hold its operands for as long as it lives, and its hash look at them
 abbrev pub holds_operands : Op → Bool
 holds_operands op.FrozenSet = true
-holds_operands o = makes_tuple o
+holds_operands o = asks_operands o
 
 -- what the object of an opcode costs, given the size of its argument and its operands. A tuple is
--- one level deeper than its items. A frozenset weighs what its items do, but isn't deep: it keeps
--- their hashes. Whatever else is made of operands is compared by identity, so it weighs one
+-- one level deeper than its items, and so is an answer. A frozenset weighs what its items do, but
+-- isn't deep: it keeps their hashes. A list or dict is compared by identity, so it weighs one
 abbrev pub heft_made : Op → ℕ → List Heft → Heft
 heft_made o size operands = record {
   weight = min most_weight (1 + (payload_weight o size
       + (if holds_operands o then weights_of operands else 0)));
-  depth = if makes_tuple o then min most_depth (1 + deepest_of operands) else 0;
+  depth = if asks_operands o then min most_depth (1 + deepest_of operands) else 0;
   salted = makes_salted o;
   imported = imports_object o;
 }

@@ -1,9 +1,9 @@
 -- What the objects of a run cost, read off its events.
-use Rattle.std.specs.Prelude.{ℕ, if◌then◌else◌, ltb, List, [], ◌∷◌, ◌++◌, drop, length, map, set}
-use Rattle.std.specs.Prelude.{take, Option, Some, None, slice_get, false, true, unwrap_or}
+use Rattle.std.specs.Prelude.{ℕ, if◌then◌else◌, ltb, List, [], ◌∷◌, ◌++◌, drop, length, map, max}
+use Rattle.std.specs.Prelude.{set, take, Option, Some, None, slice_get, false, unwrap_or, ◌||◌, ◌&&◌}
 use Rattle.pkops.specs.Spelling.{Instruction}
 use Rattle.pkmachine.specs.Runs.{Event, Import, Did}
-use Rattle.pkload.specs.Heft.{Heft, heft_of, imports_object}
+use Rattle.pkload.specs.Heft.{Heft, heft_of}
 use Rattle.pkload.specs.declared.tally.Tally.{Tally}
 use Rattle.pkload.specs.Tally.{no_tally, with_operation}
 
@@ -20,22 +20,32 @@ no_heft = record { weight = 0; depth = 0; salted = false; imported = false }
 abbrev pub heft_at : List Heft → ℕ → Heft
 heft_at hefts number = unwrap_or (slice_get hefts number) no_heft
 
--- the costs after an instruction answered an earlier object, which is now imported if an import
--- answered it
-abbrev pub answered_again : Instruction → ℕ → List Heft → List Heft
-answered_again i number hefts =
-    if imports_object i.op
-    then set hefts number (record (heft_at hefts number) { imported = true })
-    else hefts
+-- an earlier object that was answered again costs at least what the answer does, since it may hold
+-- the operands now. It is imported if an import answered it
+abbrev pub heavier : Heft → Heft → Heft
+heavier earlier answer = record {
+  weight = max earlier.weight answer.weight;
+  depth = max earlier.depth answer.depth;
+  salted = earlier.salted && answer.salted;
+  imported = earlier.imported || answer.imported;
+}
 
--- the costs after an instruction with these operands and this result: one more if the result is a
--- new object
+-- the costs after the object with this number was answered again
+abbrev pub answered_again : Heft → ℕ → List Heft → List Heft
+answered_again answer number hefts = set hefts number (heavier (heft_at hefts number) answer)
+
+-- the costs after the object with this number was answered: one more if it is new
+abbrev pub answered : Heft → ℕ → List Heft → List Heft
+answered answer number hefts =
+    if ltb number (length hefts)
+    then answered_again answer number hefts
+    else hefts ++ answer ∷ []
+
+-- the costs after an instruction with these operands and this result
 abbrev pub hefts_with : Instruction → List ℕ → Option ℕ → List Heft → List Heft
 hefts_with i operands None hefts = hefts
 hefts_with i operands (Some result) hefts =
-    if ltb result (length hefts)
-    then answered_again i result hefts
-    else hefts ++ heft_of i (map (heft_at hefts) operands) ∷ []
+    answered (heft_of i (map (heft_at hefts) operands)) result hefts
 
 -- the account after one more event
 abbrev pub account_with : Account → Event → Account

@@ -11,17 +11,17 @@ use pkcheck::Audience;
 use pkops::{Inst, Op};
 
 /// What bounds the cost of loading a pickle from above. Of the stack only the objects on top are
-/// known that are neither tuples nor frozensets, and of the memo nothing: any other object of a
-/// tuple may be the heaviest and the deepest that there is.
+/// known that hold no others, as tuples, frozensets and answers may, and of the memo nothing: any
+/// other object of a tuple or a call may be the heaviest and the deepest that there is.
 #[derive(Clone, Copy)]
 pub struct Ceiling {
-    /// No tuple or frozenset weighs more.
+    /// No tuple, frozenset or answer about operands weighs more.
     pub tied: u64,
     /// No other object weighs more than one and so much.
     pub plain: u64,
     /// No object is deeper.
     pub depth: u64,
-    /// So many entries on top of the stack are objects that are neither tuples nor frozensets.
+    /// So many entries on top of the stack are such other objects.
     pub flat: u64,
     /// Whether a mark lies directly below these.
     pub marked: bool,
@@ -53,7 +53,7 @@ impl Ceiling {
         }
     }
 
-    /// No object but tuples and frozensets weighs more.
+    /// No object that holds no others weighs more.
     fn plain_weight(&self) -> u64
         ensures { result ≡ plain_weight self.now }
     {
@@ -75,7 +75,7 @@ impl Ceiling {
         self.marked = false;
     }
 
-    /// Pushes an object that is no tuple or frozenset, and weighs one and so much more.
+    /// Pushes an object that holds no others, and weighs one and so much more.
     fn push(&mut self, more: u64)
         ensures { self.new ≡ pushed more self.old }
     {
@@ -102,8 +102,8 @@ impl Ceiling {
         self.tied = self.tied.max(whole.min(1_048_575));
     }
 
-    /// Puts at most so many objects into a tuple. `is_flat` says that all of them are known to be
-    /// no tuples.
+    /// Puts at most so many objects into a tuple, or an answer. `is_flat` says that all of them are
+    /// known to hold no others.
     fn tie(&mut self, is_flat: bool, count: u64)
         ensures { self.new ≡ tied is_flat count self.old }
     {
@@ -164,6 +164,10 @@ impl Ceiling {
             Op::FrozenSet => self.freeze(at),
             Op::Build => self.build(),
             Op::Dup => self.repeat(),
+            Op::Reduce | Op::NewObj => self.tie(false, 2),
+            Op::NewObjEx => self.tie(false, 3),
+            Op::Obj | Op::Inst => self.tie(false, at),
+            Op::BinPersid | Op::ReadonlyBuffer => self.tie(false, 1),
             _ => {}
         }
     }
@@ -185,6 +189,14 @@ impl Ceiling {
                 self.exceed(op, at);
                 return true;
             }
+            Op::Reduce | Op::NewObj | Op::NewObjEx | Op::Obj | Op::Inst => {
+                self.exceed(op, at);
+                return true;
+            }
+            Op::BinPersid | Op::ReadonlyBuffer => {
+                self.exceed(op, at);
+                return true;
+            }
             Op::EmptyTuple => self.tie(true, 0),
             Op::Memoize | Op::BinPut | Op::LongBinPut | Op::Put => {}
             Op::Proto | Op::Frame => {}
@@ -192,8 +204,6 @@ impl Ceiling {
             Op::BinGet | Op::LongBinGet | Op::Get => self.repeat(),
             Op::Append | Op::Appends | Op::SetItem | Op::SetItems => self.blind(),
             Op::AddItems | Op::List | Op::Dict | Op::StackGlobal => self.blind(),
-            Op::Reduce | Op::NewObj | Op::NewObjEx | Op::Obj => self.blind(),
-            Op::Inst | Op::BinPersid | Op::ReadonlyBuffer => self.blind(),
             Op::Pop | Op::PopMark | Op::Stop => self.blind(),
             Op::Ext1 | Op::Ext2 | Op::Ext4 => self.blind(),
             Op::Int | Op::Long | Op::Long1 | Op::Long4 => self.push(size / 8),

@@ -5,7 +5,7 @@ ghost use Rattle.std.specs.Prelude.{◌≡◌, IfErr, IfOk, OnErr, OnOk, map, su
 ghost use Rattle.pkstack.specs.Shape.{is_even};
 ghost use Rattle.pkload.specs.Keys.{every_other};
 ghost use Rattle.pkload.specs.Private.Billing.{AreFrozen, ArePairsReplaced, HasKeys, HasPairs};
-ghost use Rattle.pkload.specs.Private.Gathered.{IsTied, is_light};
+ghost use Rattle.pkload.specs.Private.Gathered.{IsAnswerAbout, IsTied, is_light};
 ghost use Rattle.pkload.specs.Private.Lost.{IsTallyTooGreat, IsTooGreat, LacksKeys, LacksPairs};
 ghost use Rattle.pkload.specs.Private.Packed.{unpacked};
 ghost use Rattle.pkload.specs.Tally.{with_keys};
@@ -139,6 +139,14 @@ pub fn tied_all(codes: &[u32]) -> PackedHeft
         return tied(codes.len().min(1_048_575) as u32, 0);
     }
     tied_slowly(codes)
+}
+
+/// What an answer about these objects costs.
+pub fn answered_all(codes: &[u32]) -> PackedHeft
+    ensures { IsAnswerAbout (map unpacked codes.now) result }
+{
+    let tuple = tied_all(codes);
+    PackedHeft::new(tuple.weight(), tuple.depth(), true, false)
 }
 
 /// What a tuple of any objects costs.

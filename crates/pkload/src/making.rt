@@ -1,6 +1,6 @@
 //! What new objects cost.
 
-ghost use Rattle.std.specs.Prelude.{◌≡◌, ◌+◌, ◌/◌, ◌≤◌, false, min};
+ghost use Rattle.std.specs.Prelude.{◌≡◌, ◌+◌, ◌/◌, ◌≤◌, false, min, true};
 ghost use Rattle.pkload.specs.Private.Billing.{frozen_heft, string_heft};
 
 use crate::packed::PackedHeft;
@@ -40,6 +40,22 @@ pub fn tied(held: u32, deepest: u32) -> PackedHeft
     let weight = (1 + held).min(1_048_575);
     let depth = (1 + deepest).min(1_023);
     PackedHeft::new(weight, depth, false, false)
+}
+
+/// What an answer costs whose operands together weigh this much, and the deepest of them is this
+/// deep.
+pub fn answered(held: u32, deepest: u32) -> PackedHeft
+    requires held { held ≤ 4_194_304 }
+    requires deepest { deepest ≤ 1_023 }
+    ensures { result ≡ record {
+      weight = min 1_048_575 (1 + held);
+      depth = min 1_023 (1 + deepest);
+      salted = true;
+      imported = false;
+    } }
+{
+    let tuple = tied(held, deepest);
+    PackedHeft::new(tuple.weight(), tuple.depth(), true, false)
 }
 
 /// What a frozenset costs whose items together weigh this much.

@@ -1,5 +1,5 @@
 -- What bounds the cost of loading a pickle from above. It follows neither the whole stack nor the
--- memo, only which objects on top of the stack are no tuples.
+-- memo, only which objects on top of the stack hold no others.
 use Rattle.std.proofs.Common.{◌≡◌, ◌+◌, ◌*◌, ◌%◌, ◌^◌, ◌<◌, ◌≤◌, ℕ, max, min, Bool, false, true}
 use Rattle.std.proofs.Common.{List, [], ◌∷◌, ◌++◌, length, leb, ltb, refl, ap, ◌∙◌}
 use Rattle.std.specs.Prelude.{if◌then◌else◌, Result, Ok, Err}
@@ -32,7 +32,7 @@ lowest = record {
   builds = false;
 }
 
--- no object but tuples and frozensets weighs more
+-- no object weighs more but tuples, frozensets and answers that may hold others
 abbrev pub plain_weight : Ceiling → ℕ
 plain_weight c = min most_weight (1 + c.plain)
 
@@ -44,7 +44,7 @@ heaviest c = max c.tied (plain_weight c)
 abbrev pub blind : Ceiling → Ceiling
 blind c = record c { flat = 0; marked = false }
 
--- an object is pushed that is no tuple or frozenset, and weighs one and so much more
+-- an object is pushed that holds no others, and weighs one and so much more
 abbrev pub pushed : ℕ → Ceiling → Ceiling
 pushed more c = record c { plain = max c.plain more; flat = (c.flat + 1) % 2 ^ 64 }
 
@@ -59,8 +59,8 @@ abbrev pub held : (count weight : ℕ) → Ceiling → Ceiling
 held count weight c =
     record (blind c) { tied = max c.tied (min most_weight (1 + count * weight)) }
 
--- they are put into a tuple. Either all of them are known to be no tuples, or they may be the
--- heaviest and the deepest that there are
+-- they are put into a tuple, or an answer. Either all of them are known to hold no others, or they
+-- may be the heaviest and the deepest that there are
 abbrev pub tied : (is_flat : Bool) (count : ℕ) → Ceiling → Ceiling
 tied is_flat count c =
     record (held count (if is_flat then plain_weight c else heaviest c) c) {
@@ -90,6 +90,14 @@ raised op.Tuple2 size at c = tied (leb 2 c.flat) 2 c
 raised op.Tuple3 size at c = tied (leb 3 c.flat) 3 c
 raised op.Tuple size at c = tied c.marked (if c.marked then c.flat else at) c
 raised op.FrozenSet size at c = repeated (held at (heaviest c) c)
+-- what answers something about its operands, which it may hold
+raised op.Reduce size at c = tied false 2 c
+raised op.NewObj size at c = tied false 2 c
+raised op.NewObjEx size at c = tied false 3 c
+raised op.Obj size at c = tied false at c
+raised op.Inst size at c = tied false at c
+raised op.BinPersid size at c = tied false 1 c
+raised op.ReadonlyBuffer size at c = tied false 1 c
 -- what takes objects away
 raised op.Build size at c = record (blind c) { builds = true }
 raised op.Append size at c = blind c
@@ -100,13 +108,6 @@ raised op.AddItems size at c = blind c
 raised op.List size at c = blind c
 raised op.Dict size at c = blind c
 raised op.StackGlobal size at c = blind c
-raised op.Reduce size at c = blind c
-raised op.NewObj size at c = blind c
-raised op.NewObjEx size at c = blind c
-raised op.Obj size at c = blind c
-raised op.Inst size at c = blind c
-raised op.BinPersid size at c = blind c
-raised op.ReadonlyBuffer size at c = blind c
 raised op.Pop size at c = blind c
 raised op.PopMark size at c = blind c
 raised op.Ext1 size at c = blind c
@@ -124,6 +125,13 @@ may_exceed op.Tuple2 = true
 may_exceed op.Tuple3 = true
 may_exceed op.Tuple = true
 may_exceed op.FrozenSet = true
+may_exceed op.Reduce = true
+may_exceed op.NewObj = true
+may_exceed op.NewObjEx = true
+may_exceed op.Obj = true
+may_exceed op.Inst = true
+may_exceed op.BinPersid = true
+may_exceed op.ReadonlyBuffer = true
 may_exceed op.Build = true
 may_exceed op.Dup = true
 may_exceed _ = false

@@ -1,5 +1,5 @@
 -- What is gathered of objects.
-use Rattle.std.specs.Prelude.{◌≡◌, ◌+◌, ◌||◌, ℕ, Bool, List, false, max, min, nat_eq}
+use Rattle.std.specs.Prelude.{◌≡◌, ◌+◌, ◌||◌, ℕ, Bool, List, false, max, min, nat_eq, true}
 use Rattle.pkload.specs.Heft.{Heft, deepest_of, most_depth, most_weight, weights_of}
 use Rattle.pkload.specs.declared.tally.Tally.{Tally}
 
@@ -21,5 +21,14 @@ IsTied hefts heft = heft ≡ record {
   weight = min most_weight (1 + weights_of hefts);
   depth = min most_depth (1 + deepest_of hefts);
   salted = false;
+  imported = false;
+}
+
+-- an answer about these objects costs this
+abbrev pub IsAnswerAbout : List Heft → Heft → Type 0
+IsAnswerAbout hefts heft = heft ≡ record {
+  weight = min most_weight (1 + weights_of hefts);
+  depth = min most_depth (1 + deepest_of hefts);
+  salted = true;
   imported = false;
 }

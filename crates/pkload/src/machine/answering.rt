@@ -1,6 +1,6 @@
-//! Operations whose answer costs the same, whatever they take.
+//! Operations that answer: an answer costs what it may hold, and a name costs one.
 
-ghost use Rattle.std.specs.Prelude.{◌≡◌, ◌+◌, ◌<◌, [], IfOk, Ok, OnErr, OnOk, false, true};
+ghost use Rattle.std.specs.Prelude.{◌≡◌, ◌+◌, [], IfOk, Ok, OnErr, OnOk, false, true};
 ghost use Rattle.pkstack.specs.Shape.{items};
 ghost use Rattle.pkload.specs.Private.Billing.{IsAnswered, IsQuiet, action_of, op_billed};
 ghost use Rattle.pkload.specs.Private.Lost.{LacksSum};
@@ -8,7 +8,9 @@ ghost use Rattle.pkload.specs.Unkept.{IsLost};
 
 use super::Machine;
 use crate::action::Action;
+use crate::gathering::answered_all;
 use crate::halt::{Halt, plus};
+use crate::making::answered;
 use crate::packed::PackedHeft;
 use pkops::Op;
 
@@ -25,34 +27,101 @@ impl Machine {
         match op {
             Op::List => self.list_slice(),
             Op::Dict => self.dict_slice(),
-            Op::StackGlobal => self.answer(2, PackedHeft::new(1, 0, true, true), 16),
-            Op::Reduce | Op::NewObj => self.answer(2, PackedHeft::new(1, 0, true, false), 16),
-            Op::NewObjEx => self.answer(3, PackedHeft::new(1, 0, true, false), 16),
-            Op::BinPersid => self.answer(1, PackedHeft::new(1, 0, true, false), 16),
-            Op::ReadonlyBuffer => self.answer(1, PackedHeft::new(1, 0, true, false), 496),
+            Op::StackGlobal => self.name(),
+            Op::Reduce | Op::NewObj => self.answer_two(),
+            Op::NewObjEx => self.answer_three(),
+            Op::BinPersid => self.answer_one(16),
+            Op::ReadonlyBuffer => self.answer_one(496),
             Op::Inst => self.answer_slice(false),
             Op::Obj => self.answer_slice(true),
             _ => Err(Halt::Lost),
         }
     }
 
-    /// Puts an object that takes this much memory in place of so many. Returns false.
+    /// STACK_GLOBAL. Returns false, as do the next ones.
     #[inline(always)]
     #[tactic(auto, using(crate::proofs::Losses::nothing_found))]
-    fn answer(&mut self, count: usize, heft: PackedHeft, more: u64) -> Result<bool, Halt>
-        requires { 0 < count }
-        ensures answered { OnOk result (IsAnswered (items count self.old.shape.entries []) heft
-            more self.old self.new) }
+    fn name(&mut self) -> Result<bool, Halt>
+        ensures answered { OnOk result (IsAnswered (items 2 self.old.shape.entries [])
+            (record { weight = 1; depth = 0; salted = true; imported = true }) 16
+            self.old self.new) }
         ensures quiet { OnOk result (IsQuiet self.old self.new) }
-        ensures lost { OnErr result (LacksSum (items count self.old.shape.entries [])
-            (self.old.memory + more)) }
+        ensures lost { OnErr result (LacksSum (items 2 self.old.shape.entries [])
+            (self.old.memory + 16)) }
     {
-        self.stack.replace_objects(count, heft)?;
-        self.memory = plus(self.memory, more)?;
+        self.stack
+            .replace_objects(2, PackedHeft::new(1, 0, true, true))?;
+        self.memory = plus(self.memory, 16)?;
         Ok(false)
     }
 
-    /// INST, or OBJ, which takes one object at least. Returns false.
+    /// BINPERSID, or READONLY_BUFFER, whose answer takes more memory.
+    #[inline(never)]
+    fn answer_one(&mut self, more: u64) -> Result<bool, Halt>
+        ensures persid { more ≡ 16 → OnOk result (op_billed Op.BinPersid self.old ≡ Ok self.new) }
+        ensures buffer { more ≡ 496
+            → OnOk result (op_billed Op.ReadonlyBuffer self.old ≡ Ok self.new) }
+        ensures quiet { OnOk result (IsQuiet self.old self.new) }
+        ensures persid_lost { more ≡ 16
+            → OnErr result (IsLost (op_billed Op.BinPersid self.old) self.old) }
+        ensures buffer_lost { more ≡ 496
+            → OnErr result (IsLost (op_billed Op.ReadonlyBuffer self.old) self.old) }
+    {
+        let Some(operand) = self.stack.top() else {
+            return Err(Halt::Lost);
+        };
+        self.memory = plus(self.memory, more)?;
+        self.stack
+            .replace(answered(operand.weight(), operand.depth()))?;
+        Ok(false)
+    }
+
+    /// REDUCE, or NEWOBJ.
+    #[inline(never)]
+    fn answer_two(&mut self) -> Result<bool, Halt>
+        ensures reduce { OnOk result (op_billed Op.Reduce self.old ≡ Ok self.new) }
+        ensures newobj { OnOk result (op_billed Op.NewObj self.old ≡ Ok self.new) }
+        ensures quiet { OnOk result (IsQuiet self.old self.new) }
+        ensures reduce_lost { OnErr result (IsLost (op_billed Op.Reduce self.old) self.old) }
+        ensures newobj_lost { OnErr result (IsLost (op_billed Op.NewObj self.old) self.old) }
+    {
+        let Some(arguments) = self.stack.pop_object() else {
+            return Err(Halt::Lost);
+        };
+        let Some(called) = self.stack.top() else {
+            return Err(Halt::Lost);
+        };
+        self.memory = plus(self.memory, 16)?;
+        let deepest = called.depth().max(arguments.depth());
+        let held = called.weight() + arguments.weight();
+        self.stack.replace(answered(held, deepest))?;
+        Ok(false)
+    }
+
+    /// NEWOBJ_EX.
+    #[inline(never)]
+    fn answer_three(&mut self) -> Result<bool, Halt>
+        ensures billed { OnOk result (op_billed Op.NewObjEx self.old ≡ Ok self.new) }
+        ensures quiet { OnOk result (IsQuiet self.old self.new) }
+        ensures lost { OnErr result (IsLost (op_billed Op.NewObjEx self.old) self.old) }
+    {
+        let Some(keywords) = self.stack.pop_object() else {
+            return Err(Halt::Lost);
+        };
+        let Some(arguments) = self.stack.pop_object() else {
+            return Err(Halt::Lost);
+        };
+        let Some(class) = self.stack.top() else {
+            return Err(Halt::Lost);
+        };
+        self.memory = plus(self.memory, 16)?;
+        let deepest = class.depth().max(arguments.depth()).max(keywords.depth());
+        let held = class.weight() + arguments.weight() + keywords.weight();
+        self.stack.replace(answered(held, deepest))?;
+        Ok(false)
+    }
+
+    /// INST, or OBJ, which takes one object at least.
     fn answer_slice(&mut self, wants_some: bool) -> Result<bool, Halt>
         ensures inst { OnOk result (op_billed Op.Inst self.old ≡ Ok self.new) }
         ensures obj { wants_some ≡ true → OnOk result (op_billed Op.Obj self.old ≡ Ok self.new) }
@@ -62,9 +131,8 @@ impl Machine {
         ensures obj_lost { wants_some ≡ true
             → OnErr result (IsLost (op_billed Op.Obj self.old) self.old) }
     {
-        let count = self
-            .stack
-            .replace_slice(PackedHeft::new(1, 0, true, false))?;
+        let heft = answered_all(self.stack.objects());
+        let count = self.stack.replace_slice(heft)?;
         if wants_some && count == 0 {
             return Err(Halt::Lost);
         }
