@@ -1,5 +1,5 @@
 /* Finds pickles by where their instructions end: one, or many values by one call. */
-#include "walk.h"
+#include "finding.h"
 
 #define LEAST 16 /* so many bytes of a walk that finds nothing are counted at the least */
 
@@ -34,45 +34,43 @@ PyObject *walked(PyObject *Py_UNUSED(module), PyObject *args) {
     return Py_BuildValue("nN", (Py_ssize_t)at, PyBool_FromLong(is_stopped));
 }
 
-PyObject *whole(PyObject *Py_UNUSED(module), PyObject *values) {
-    Py_ssize_t count = 0, size;
+PyObject *whole(PyObject *Py_UNUSED(module), PyObject *args) {
+    PyObject *data;
+    struct parts p = {0};
+    Py_ssize_t count = 0;
     int is_stopped = 1;
-    for (; is_stopped && count < PyList_Size(values); count++) {
-        char *bytes;
-        if (PyBytes_AsStringAndSize(PyList_GetItem(values, count), &bytes, &size) < 0)
-            return NULL;
-        size_t end = passed((const uint8_t *)bytes, (size_t)size, 0, &is_stopped);
-        is_stopped &= end == (size_t)size;
+    if (!PyArg_ParseTuple(args, "SO!O!", &data, &PyList_Type, &p.begins, &PyList_Type, &p.ends))
+        return NULL;
+    p.length = (size_t)PyBytes_Size(data);
+    while (is_stopped && go_on(&p)) {
+        size_t end = passed((const uint8_t *)PyBytes_AsString(data), p.end, p.begin, &is_stopped);
+        is_stopped = is_stopped && end == p.end;
+        count += is_stopped;
     }
-    return PyErr_Occurred() ? NULL : PyLong_FromSsize_t(count - !is_stopped);
+    return PyErr_Occurred() ? NULL : PyLong_FromSsize_t(count);
 }
 
 PyObject *wholes(PyObject *Py_UNUSED(module), PyObject *args) {
-    PyObject *data, *places, *found;
+    PyObject *data, *places, *begins = PyList_New(0), *ends = PyList_New(0);
     Py_ssize_t end, most, left;
-    if (!PyArg_ParseTuple(args, "SO!nnn", &data, &PyList_Type, &places, &end, &most, &left)
-        || (found = PyList_New(0)) == NULL)
-        return NULL;
-    const uint8_t *bytes = (const uint8_t *)PyBytes_AsString(data);
-    size_t length = (size_t)PyBytes_Size(data);
-    int is_stopped, is_wrong = 0;
-    for (Py_ssize_t k = 0; k < PyList_Size(places) && left >= 0 && !is_wrong; k++) {
+    int is_stopped, is_wrong = begins == NULL || ends == NULL
+        || !PyArg_ParseTuple(args, "SO!nnn", &data, &PyList_Type, &places, &end, &most, &left);
+    const uint8_t *bytes = is_wrong ? NULL : (const uint8_t *)PyBytes_AsString(data);
+    size_t length = is_wrong ? 0 : (size_t)PyBytes_Size(data);
+    for (Py_ssize_t k = 0; !is_wrong && k < PyList_Size(places) && left >= 0; k++) {
         size_t at = PyLong_AsSize_t(PyList_GetItem(places, k));
-        if (PyErr_Occurred() || at >= length || (Py_ssize_t)at < end || bytes[at] != PROTO)
+        if (at >= length || (Py_ssize_t)at < end || bytes[at] != PROTO) {
+            is_wrong = PyErr_Occurred() != NULL;
             continue;
+        }
         size_t behind = passed(bytes, length, at, &is_stopped);
         if (!is_stopped || (Py_ssize_t)(behind - at) > most) {
             left -= LEAST + (Py_ssize_t)(behind - at);
             continue;
         }
         end = (Py_ssize_t)behind;
-        if (bytes[at + 1] < FIRST || bytes[at + 1] > LAST)
-            continue;
-        PyObject *part = Py_BuildValue("nn", (Py_ssize_t)at, end);
-        is_wrong = part == NULL || PyList_Append(found, part) < 0;
-        Py_XDECREF(part);
+        if (bytes[at + 1] >= FIRST && bytes[at + 1] <= LAST)
+            is_wrong = !add_place(begins, at) || !add_place(ends, behind);
     }
-    if (is_wrong || PyErr_Occurred())
-        Py_CLEAR(found);
-    return found;
+    return lists_of(begins, ends, NULL, is_wrong);
 }

@@ -21,13 +21,35 @@ static inline void *zeros(size_t size) {
    STOP, and whether the last is STOP. */
 PyObject *walked(PyObject *module, PyObject *args);
 
-/* How many of the first items of a list are bytes whose instructions end with the only STOP. */
-PyObject *whole(PyObject *module, PyObject *values);
+/* Parts of bytes are given by two lists: where each begins and where it ends, in their order.
+   `whole`: how many of the first have instructions that end with the only STOP. `joined` copies
+   them into one. `blanked` takes bytes, the place of the first one, and parts, in which it puts
+   zeros. */
+PyObject *whole(PyObject *module, PyObject *args);
+PyObject *joined(PyObject *module, PyObject *args);
+PyObject *blanked(PyObject *module, PyObject *args);
 
 /* Takes bytes, a list of places in them, which ascend, where to begin, the most bytes of a value,
-   and how many to walk through for what isn't one. Returns the begin and end of each value with
-   PROTO of protocol 2 to 5 and STOP, in front of one another. */
+   and how many to walk through for what isn't one. Returns two lists: the begin and the end of each
+   value with PROTO of protocol 2 to 5 and STOP, in front of one another. */
 PyObject *wholes(PyObject *module, PyObject *args);
+
+/* Takes bytes, patterns, and parts to pass over. A pattern is a bit of 64, and has a word for each
+   of its bytes: by the value of that byte, and one for a place behind the last byte. The bit is set
+   where the byte may be, and from the end of the pattern on everywhere. Returns a list of places
+   for each sixteen of the patterns. */
+PyObject *begun(PyObject *module, PyObject *args);
+
+/* Takes bytes, a table that says of each byte whether it is a letter, the fewest letters of a run,
+   and parts to pass over. Returns where the runs begin and end, in two lists. */
+PyObject *runs(PyObject *module, PyObject *args);
+
+/* Takes a page of SQLite, whose size is a power of two; a table that says of each byte whether it
+   may stand, by 1, in a value of fewer than 8 bytes that imports nothing, and by 2 in front; where
+   the places of cells are, and how many; the size from which on a record isn't short; and whether a
+   number stands in front of each. Returns where the values begin and end that have PROTO, and the
+   places of cells that are to be read otherwise. */
+PyObject *cells(PyObject *module, PyObject *args);
 
 /* Whether one of the texts in a tuple, bytes that aren't empty, stands in the bytes. */
 PyObject *holds(PyObject *module, PyObject *args);

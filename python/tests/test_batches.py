@@ -132,9 +132,9 @@ class Batches(unittest.TestCase):
                 folder, looks = self.made(name, PLAIN[ODD]), []
                 look = Values.quiet_of
 
-                def counted(self, values, look=look, looks=looks):
-                    looks.append(look(self, values)[0])
-                    return look(self, values)
+                def counted(self, *parts, look=look, looks=looks):
+                    looks.append(look(self, *parts)[0])
+                    return look(self, *parts)
 
                 with mock.patch.object(Values, "quiet_of", counted):
                     self.assertTrue(reports(folder, LISTED))

@@ -195,10 +195,10 @@ class Module(unittest.TestCase):
         self.assertEqual(python(INTERPRETERS).split(), ["isolated", "refused", "legacy", "loaded"])
 
     def test_it_is_as_short_as_it_was_promised(self):
-        promised = {"_storklocker.c": 375, "pairs.c": 90, "loads.c": 280, "audit.c": 100}
+        promised = {"_storklocker.c": 380, "pairs.c": 90, "loads.c": 280, "audit.c": 100}
         promised.update({"walk.c": 225, "uses.c": 400, "cutting.c": 215, "arena.c": 70})
         promised.update({"usual.c": 132, "telling.c": 125, "judging.c": 400, "holding.c": 40})
-        promised.update({"naming.c": 60, "memo.c": 60, "values.c": 80})
+        promised.update({"naming.c": 60, "memo.c": 60, "values.c": 80, "finding.c": 240})
         for name, most in promised.items():
             lines = (PYTHON / name).read_text().splitlines()
             self.assertLessEqual(len(lines), most)

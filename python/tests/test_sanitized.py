@@ -66,6 +66,14 @@ import argparse, collections, pickle
 JUDGED = pickle.dumps([collections.OrderedDict(a=1), argparse.Namespace(a=1)], 4)
 JUDGING = storklocker.Guard(storklocker.AllowList([collections.OrderedDict, argparse.Namespace]))
 CALLS["judged"] = lambda: JUDGING.loads(JUDGED)
+CALLS["found"] = lambda: [
+    _storklocker.begun(b"\x80\4N.", bytes(8 * 257), [1], [2]),
+    _storklocker.runs(b"abc", bytes(range(256)), 2, [], []),
+    _storklocker.blanked(b"abc", 0, [1], [2]),
+    _storklocker.joined(b"abc", [0, 2], [1, 3]),
+    _storklocker.wholes(b"\x80\4N.", [0], 0, 9, 9),
+    _storklocker.cells(b"\0\x04\0\0\2\2\0\0", bytes(256), 0, 1, 9, False),
+]
 assert CALLS["judged"]() == CALLS["judged"]() == [{"a": 1}, argparse.Namespace(a=1)]
 try:
     from _testcapi import set_nomemory, remove_mem_hooks

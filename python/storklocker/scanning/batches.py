@@ -2,22 +2,26 @@
 
 from __future__ import annotations
 
+import operator
 from typing import Callable, Iterator, List, Sequence, Tuple, TypeVar
 
 from .source import BLOCK, Source
 
-_MOST, _FEW = 256, 4
-"""The most items of a batch, and the fewest that are tried: a try that fails costs them all."""
+SIZES = 4, 256
+"""The fewest items of a batch that are tried, where a try that fails costs them all, and the most.
+"""
 _SPAN = 1 << 20
 """The most bytes of a file that are read for a batch."""
 _T = TypeVar("_T")
 
 
 class Batches:
-    """Splits items into batches: the more of the last ones were taken, the more are tried."""
+    """Splits items into batches: the more of the last ones were taken, the more are tried, between
+    the fewest and the most.
+    """
 
-    def __init__(self) -> None:
-        self._size = _FEW
+    def __init__(self, fewest: int, most: int) -> None:
+        self._size, self._fewest, self._most = fewest, fewest, most
 
     def left_of(
         self, items: Sequence[_T], taken_of: Callable[[Sequence[_T]], int]
@@ -32,20 +36,22 @@ class Batches:
             count = taken_of(those)
             at += count
             if count == len(those):
-                self._size = min(2 * self._size, _MOST)
+                self._size = min(2 * self._size, self._most)
             else:
-                self._size = max(2 * count, _FEW)
+                self._size = min(max(2 * count, self._fewest), self._most)
                 yield items[at]
                 at += 1
 
 
-def parts_of(source: Source, parts: List[Tuple[int, int]]) -> List[bytes]:
-    """The bytes of parts, each an offset and a size, as far as the source has them; none if one is
-    a large one, or they are far from one another.
+def parts_of(
+    source: Source, begins: List[int], ends: List[int]
+) -> Tuple[bytes, List[int], List[int]]:
+    """Parts of a source, as the bytes of all and where in these each begins and ends; none if one
+    is a large one, or leaves the source, or they are far from one another.
     """
-    base = min(start for start, _ in parts)
-    end = max(start + size for start, size in parts)
-    if end - base > _SPAN or max(size for _, size in parts) > BLOCK:
-        return []
-    data = source.read(base, end - base)
-    return [data[start - base : start - base + size] for start, size in parts]
+    base, last = min(begins), max(ends)
+    is_large = max(map(operator.sub, ends, begins)) > BLOCK
+    if last - base > _SPAN or is_large or last > source.size:
+        return b"", [], []
+    data = source.read(base, last - base)
+    return data, [at - base for at in begins], [at - base for at in ends]

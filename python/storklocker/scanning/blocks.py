@@ -7,17 +7,21 @@ them.
 from __future__ import annotations
 
 import bisect
-import itertools
+import functools
 import re
-from typing import (
-    TYPE_CHECKING, Deque, Dict, Iterable, Iterator, List, Optional, Sequence, Set, Tuple
-)
+from functools import partial
+from typing import TYPE_CHECKING, Dict, Iterable, Iterator, List, Optional, Sequence, Set, Tuple
 
-from .._storklocker import wholes
+from .._storklocker import begun, blanked, wholes
 from .budget import Budget
 from .dangers import is_harmful, is_suspect, suspect_heads
+from .patterns import LETTER, masks_of
 from .source import Source
-from .trails import Trails, texts_in
+from .trails import TEXT_FRONTS, Trails, texts_at
+from .value_letters import runs_in
+from .value_packing import (
+    ENDLESS_FRONTS, STREAM_FRONTS, packed_in, spelled_in, streams_begun
+)
 from .values import Values
 
 if TYPE_CHECKING:
@@ -30,24 +34,17 @@ _SHOWN = re.compile(
 PROTO, _EMPTY = re.compile(rb"\x80(?=[\0-\x05])"), re.compile(rb"\((?=[dl]p?[0-9]*\n)")
 """PROTO, and the front of a dict or a list of protocol 0."""
 _IMPORTS = (
-    (
-        re.compile(rb"[ci](?=%b\n%b\n)" % (_WORD, _WORD)),
-        re.compile(rb"\n(?=%b\n)" % _WORD),
-        _WORD_SIZE + 1,
-        _WORD_SIZE + 1,
-    ),
+    (re.compile(rb"[ci](?=%b\n%b\n)" % (_WORD, _WORD)), _WORD_SIZE + 1, _WORD_SIZE + 1),
     (
         re.compile(rb"\x8c(?=.%b\x94?\x8c.%b\x94?\x93)" % (_WORD, _WORD), re.DOTALL),
-        re.compile(rb"\x93"),
         2 * (_WORD_SIZE + 3),
         0,
     ),
 )
-"""An import, which may begin anywhere in a word; what each has behind its first word or at its end,
-which few bytes are, while each letter of a text may be such a beginning; and how many bytes it has
-in front of that and behind it.
+"""An import, which may begin anywhere in a word; and how many bytes it has in front of its second
+line or STACK_GLOBAL, and behind its first byte: few bytes are these, while each letter of a text
+may be the beginning of an import.
 """
-_CODE = 0x80
 _NULS = tuple(re.compile(code + rb"(?=([A-Za-z_]\w{0,30})[.\0])") for code in (b"c", b"i"))
 _WITH_NUL, _NAME = re.compile(rb"(%b)\0" % _WORD), re.compile(rb"%b\n" % _WORD)
 """An import whose module Python finds by what stands in front of a NUL: its first word, all of it,
@@ -63,14 +60,28 @@ _STEP = 1 << 16
 """So many places of a block are its own: the bytes behind them show what begins there."""
 _WALKED = 1 << 18
 """So many bytes of a block are walked through for what isn't a whole value."""
-_BEFORE, _AFTER = re.compile(rb"[\x8cX\x8dUT]"), 64
-"""What pushes a text whose length may lie in the value behind it; and more bytes than such a
-length and the first word take.
-"""
-_REACH = 9
-"""So many bytes are such an instruction and its length."""
 _Part = Tuple[int, int]
+_Parts = Tuple[List[int], List[int]]
+"""Where parts begin, and where they end."""
+_STACK_GLOBAL = b"\x93"
 _NONE = (1 << 99, 1 << 99)
+
+
+@functools.lru_cache(maxsize=None)
+def _front_masks() -> bytes:
+    """What finds PROTO, the front of a dict or a list, the second line of an import, and
+    STACK_GLOBAL.
+    """
+    protocols = bytes(range(6))
+    return masks_of(
+        [(b"\x80", protocols)], [(b"(", b"dl")], [(b"\n", LETTER)], [(_STACK_GLOBAL,)]
+    )
+
+
+@functools.lru_cache(maxsize=None)
+def _other_masks() -> bytes:
+    """What finds texts, streams, and the size of an endless one."""
+    return masks_of(TEXT_FRONTS, STREAM_FRONTS, ENDLESS_FRONTS)
 
 
 class Block:
@@ -78,8 +89,6 @@ class Block:
     are those in the source.
 
     plain: where plain values begin that are told later, and where each ends.
-    shown: the bytes without what is in these.
-    gap: the most bytes between two of these.
     end: behind what was found so far.
     """
 
@@ -89,43 +98,51 @@ class Block:
         self.start, self.data, self.values = start, data, values
         self._is_hiding = is_hiding
         self._harmless: Dict["Names", bool] = {}
-        found = [it.start() for it in PROTO.finditer(data)]
-        found += [it.start() for it in _EMPTY.finditer(data)]
-        found += _imports_shown(data)
-        found += _imports_with_nul(data)
-        self._begun = sorted(at for at in found if at < _STEP)
+        found, empty, lines, globals_ = begun(data, _front_masks(), [], [])
+        found += [at for at in empty if _EMPTY.match(data, at)]
+        lines = [at for at in lines if _NAME.match(data, at + 1)]
+        found += _imports_shown(data, (lines, globals_))
+        found += _imports_with_nul(data, lines)
+        found.sort()
+        self._begun = found[: bisect.bisect_left(found, _STEP)]
         self.plain: Dict[int, int] = {}
-        self._groups: List[Tuple[Sequence[_Part], int]] = []
+        self._parts: _Parts = ([], [])
+        self._groups: List[Tuple[List[int], int]] = []
         self._taken: Set[int] = set()
         self._quiet = self._passed_over = 0
-        self.shown, self.gap = data, len(data)
+        self._shown: Optional[Tuple[List[int], ...]] = None
 
     def look_ahead(self, known: Iterable[_Part]) -> None:
         """Finds the plain values, but for those in front of the end or in parts that are known."""
-        found = self._whole(known, self.end - self.start)
-        for _ in self.values.batches.left_of(found, self._taken_of):
+        begins, ends = self._whole(known, self.end - self.start)
+        taken_of = partial(self._taken_of, begins, ends)
+        for _ in self.values.batches.left_of(range(len(begins)), taken_of):
             pass  # it is looked at when the search gets to it
 
-    def _whole(self, known: Iterable[_Part], end: int) -> List[_Part]:
+    def _whole(self, known: Iterable[_Part], end: int) -> _Parts:
         """The small values with STOP, in front of one another."""
         found = wholes(self.data, self._begun, max(end, 0), FIRST, _WALKED)
-        parts, free = iter(known), []
+        parts, free = iter(known), ([], [])  # type: Iterator[_Part], _Parts
         part = next(parts, None)
         if part is None:
             return found
-        for at, behind in found:
+        for at, behind in zip(*found):
             while part[1] - self.start <= at:
                 part = next(parts, _NONE)
             if behind <= part[0] - self.start:
-                free.append((at, behind))
+                free[0].append(at)
+                free[1].append(behind)
         return free
 
-    def _taken_of(self, those: Sequence[_Part]) -> int:
-        count, imports = self.values.quiet_of([self.data[at:end] for at, end in those])
+    def _taken_of(self, begins: List[int], ends: List[int], those: Sequence[int]) -> int:
+        first, last = those[0], those[-1] + 1
+        count, imports = self.values.quiet_of(self.data, begins[first:last], ends[first:last])
         if count:
-            its = [(self.start + at, self.start + end) for at, end in those[:count]]
+            self._parts[0].extend(begins[first : first + count])
+            self._parts[1].extend(ends[first : first + count])
+            its = [self.start + at for at in begins[first : first + count]]
             self._groups.append((its, imports))
-            self.plain.update(its)
+            self.plain.update(zip(its, [self.start + at for at in ends[first : first + count]]))
         return count
 
     def take(self, at: int) -> None:
@@ -135,13 +152,17 @@ class Block:
 
     def count(self) -> None:
         """Counts the plain values that were taken."""
+        if len(self._taken) == len(self.plain):
+            size = sum(self._parts[1]) - sum(self._parts[0])
+            self.values.count(len(self.plain), size, sum(imports for _, imports in self._groups))
+            return
         for those, imports in self._groups:
-            its = [part for part in those if part[0] in self._taken]
+            its = [at for at in those if at in self._taken]
             if len(its) == len(those):
-                self.values.count(len(its), sum(end - at for at, end in its), imports)
+                self.values.count(len(its), sum(self.plain[at] - at for at in its), imports)
                 continue
-            for at, end in its:
-                self.values.taken(self.data[at - self.start : end - self.start])
+            for at in its:
+                self.values.taken(self.data[at - self.start : self.plain[at] - self.start])
 
     def places(
         self, trails: Trails, budget: Budget, is_free: bool
@@ -153,7 +174,7 @@ class Block:
             trail.
         """
         is_all = trails.is_any
-        left = [] if is_all or not is_free else sorted(self.plain)
+        left = [] if is_all or not is_free else list(self.plain)
         found = self._places(is_all, bool(left))
         while True:
             budget.spend(6 * (len(found) + len(left)))
@@ -194,44 +215,49 @@ class Block:
         """The places of the block: with texts that are in plain values, and without the places of
         these values.
         """
-        start, plain = self.start, self.plain if are_passed else {}
-        if self.plain and self.shown is self.data:
-            self.shown = self._outside()
-        texts = texts_in(self.data if is_all else self.shown)
-        places = [(start + at, False) for at in self._begun if start + at not in plain]
-        places += [(start + at, True) for at in texts if at < _STEP]
+        start, plain = self.start, set(self._parts[0]) if are_passed else ()
+        texts = begun(self.data, _other_masks(), [], [])[0] if is_all else self._outside()[0]
+        places = [(start + at, False) for at in self._begun if at not in plain]
+        places += [(start + at, True) for at in texts_at(self.data, texts) if at < _STEP]
         places.sort()
         return places
 
-    def _outside(self) -> bytes:
-        """The block without what is in plain values, as far as a text in front doesn't need it."""
-        made, before = bytearray(self.data), 0
-        self.gap = 0
-        for start, end in sorted(self.plain.items()):
-            at, end = start - self.start, end - self.start
-            self.gap = max(self.gap, at - before)
-            if _BEFORE.search(self.data, max(before, at - _REACH), at):
-                at = min(at + _AFTER, end)
-            made[at:end] = _NOTHING[: end - at]
-            before = end
-        self.gap = max(self.gap, min(len(made), _STEP) - before)
-        return bytes(made)
+    def _outside(self) -> Tuple[List[int], ...]:
+        """Where texts and streams may begin, but in plain values."""
+        if self._shown is None:
+            self._shown = begun(self.data, _other_masks(), *self._parts)
+        return self._shown
 
+    @property
+    def gap(self) -> int:
+        """The most bytes between two plain values."""
+        begins, ends = self._parts
+        last = min(len(self.data), _STEP) if begins else len(self.data)
+        return max(at - end for at, end in zip([*begins, last], [0, *ends]))
 
-_NOTHING = bytes([_CODE]) * FIRST
-"""No part of a text, as the first byte of a value is none."""
+    def packed(self, source: Source, budget: Budget) -> Iterator[Tuple[int, Source]]:
+        """What may be packed and begins in the block, but in plain values: where that is, and what
+        it unpacks to.
+        """
+        _, streams, endless, _ = self._outside()
+        places = streams_begun(self.data, streams, endless, _STEP)
+        yield from packed_in(source, self.start, self.data, [*places], budget)
+        spelled = runs_in(self.data, _STEP, self._parts)
+        yield from spelled_in(source, self.start, self.data, spelled, budget)
 
 
 def blocks(
-    source: Source, budget: Budget, hidden: List[_Part], values: Values
+    source: Source, budget: Budget, hidden: _Parts, values: Values
 ) -> Iterator[Block]:
     """The blocks of a source, with zeros for parts that are hidden."""
-    left = Deque(hidden)
+    begins, ends = hidden
     for start in range(0, source.size, _STEP):
-        data = _hidden(source.read(start, _STEP + LONGEST), start, left)
+        data = source.hold(start, _STEP + LONGEST)
         budget.spend(len(data) // _SEARCHED_AT)
-        is_hiding = bool(left) and left[0][0] < start + len(data)
-        yield Block(start, data, is_hiding, values)
+        first, last = bisect.bisect(ends, start), bisect.bisect_left(begins, start + len(data))
+        if first < last:
+            data = blanked(data, start, begins[first:last], ends[first:last])
+        yield Block(start, data, first < last, values)
 
 
 def shown_in(data: bytes, at: int) -> Optional["Names"]:
@@ -245,13 +271,13 @@ def shown_in(data: bytes, at: int) -> Optional["Names"]:
     return (module, own) if len(module) == size[0] and len(own) == behind[0] else None
 
 
-def _imports_shown(block: bytes) -> Set[int]:
-    """Where imports stand in a block that show what they import."""
+def _imports_shown(block: bytes, ends: Tuple[List[int], List[int]]) -> Set[int]:
+    """Where imports stand in a block that show what they import, by what stands in them."""
     found: Set[int] = set()
-    for begun, ends, before, behind in _IMPORTS:
-        parts = [(max(0, it.start() - before), it.end() + behind) for it in ends.finditer(block)]
+    for (begun_so, before, behind), places in zip(_IMPORTS, ends):
+        parts = [(max(0, at - before), at + 1 + behind) for at in places]
         for start, end in joined_parts(parts):
-            found.update(it.start() for it in begun.finditer(block, start, end))
+            found.update(it.start() for it in begun_so.finditer(block, start, end))
     return found
 
 
@@ -273,27 +299,15 @@ def joined_parts(parts: Sequence[_Part]) -> List[_Part]:
     return found
 
 
-def _hidden(block: bytes, start: int, parts: Deque[_Part]) -> bytes:
-    """The block that begins at a place, with zeros for parts. Drops those in front of it."""
-    while parts and parts[0][1] <= start:
-        parts.popleft()
-    if not parts or parts[0][0] >= start + len(block):
-        return block
-    made = bytearray(block)
-    for begin, end in itertools.takewhile(lambda it: it[0] < start + len(block), parts):
-        begin, end = max(begin - start, 0), min(end - start, len(block))
-        made[begin:end] = bytes(end - begin)
-    return bytes(made)
-
-
-def _imports_with_nul(block: bytes) -> Iterator[int]:
+def _imports_with_nul(block: bytes, ends: List[int]) -> Iterator[int]:
+    """Where imports stand whose module has a NUL, by the ends of lines behind which a name is."""
     heads = suspect_heads()
-    for begun in _NULS:
-        line = 0
-        for front in begun.finditer(block):
-            at = front.end()
-            if at >= line:
-                line = block.find(b"\n", at) + 1 or len(block)
-            module = _WITH_NUL.match(block, at) if front.group(1) in heads else None
-            if module and _NAME.match(block, line) and is_suspect(module.group(1).decode()):
-                yield front.start()
+    for end in ends:
+        line = block.rfind(b"\n", 0, end) + 1
+        if block.find(b"\0", line, end) < 0:
+            continue
+        for begun_so in _NULS:
+            for front in begun_so.finditer(block, line, end):
+                module = _WITH_NUL.match(block, front.end()) if front.group(1) in heads else None
+                if module and is_suspect(module.group(1).decode()):
+                    yield front.start()

@@ -4,13 +4,12 @@ from __future__ import annotations
 
 import functools
 import io
-import itertools
 from typing import TYPE_CHECKING, List, NamedTuple, Optional, Set, Tuple, Union
 
 from .._checking import check_row
 from .._lists import AllowList, settings_of, within
 from .._pairs import records
-from .._storklocker import imports, whole
+from .._storklocker import imports, joined, whole
 from .costs import with_costs
 from .dangers import import_findings
 from .joblib_files import WRAPPER_NAMES
@@ -85,24 +84,26 @@ class Lone:
             return 0, None
         return verdict.taken, told
 
-    def quiet_of(self, values: List[bytes], listed: AllowList) -> Tuple[int, int]:
-        """How many of the first of these values are each a pickle and nothing else, of which no
-        more is to be told than that it imports what is listed, as `told_of_value` finds it, by few
+    def quiet_of(
+        self, data: bytes, begins: List[int], ends: List[int], listed: AllowList
+    ) -> Tuple[int, int]:
+        """How many of the first of these parts are each a pickle and nothing else, of which no more
+        is to be told than that it imports what is listed, as `told_of_value` finds it, by few
         calls; and how many imports these make.
         """
-        count = 0 if self._is_limited else whole(values)
-        data, ends = b"".join(values), [*itertools.accumulate(map(len, values[:count]))]
+        count = 0 if self._is_limited else whole(data, begins, ends)
         has_looked = not len(listed)
-        while ends:
-            found = check_row(data[: ends[-1]], listed, limits=self._limits)
-            count = min(found.pickles, len(ends) - (not found))
+        while count:
+            row = joined(data, begins[:count], ends[:count])
+            found, most = check_row(row, listed, limits=self._limits), count
+            count = min(found.pickles, most - (not found))
             if not len(listed):  # (so that those that are accepted import nothing)
                 return count, 0
             if found and not has_looked:
-                count, has_looked = self._first_found(values[:count]), True
-            if found and count == len(ends):
+                its = [data[at:end] for at, end in zip(begins[:count], ends)]
+                count, has_looked = self._first_found(its), True
+            if found and count == most:
                 return count, found.imports
-            del ends[count:]
         return 0, 0
 
     def _first_found(self, values: List[bytes]) -> int:

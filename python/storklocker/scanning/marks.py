@@ -73,6 +73,7 @@ HOLDING: Dict[str, bytes] = {"npy": NPY, "HDF5": HDF5, "zip": _ZIP}
 
 _HELD = tuple(HOLDING.values())
 _ENDINGS = (VALUES, PART, METADATA)
+_ENDING = re.compile("(?:%s)(?:\n|$)" % "|".join(map(re.escape, _ENDINGS)))
 
 
 def is_named(path: str) -> bool:
@@ -85,13 +86,28 @@ def is_unmarked(data: bytes) -> bool:
     return not (holds(data, _HELD) or beginning(data[:1])[1].match(data))
 
 
-def unmarked_of(values: Sequence[bytes]) -> int:
-    """How many of the first of these files, which begin with PROTO, have no mark of readers."""
-    mark, has_any = beginning(b"\x80")[1].match, holds(b"".join(values), _HELD)
-    for number, data in enumerate(values):
-        if mark(data) or has_any and holds(data, _HELD):
+def unmarked_of(data: bytes, begins: Sequence[int], ends: Sequence[int]) -> int:
+    """How many of the first of these parts, files that begin with PROTO, have no mark of readers.
+    """
+    mark, has_any = beginning(b"\x80")[1].match, holds(data, _HELD)
+    for number, (at, end) in enumerate(zip(begins, ends)):
+        if mark(data, at, end) or has_any and holds(data[at:end], _HELD):
             return number
-    return len(values)
+    return len(begins)
+
+
+def plainly_named(names: Sequence[str], most: int) -> int:
+    """How many of the first of these have so many characters at the most, but some, and no name for
+    which all readers are to be asked.
+    """
+    lengths = [*map(len, names)]
+    if names and 0 < min(lengths) and max(lengths) <= most:
+        if _ENDING.search("\n".join(names).lower()) is None:
+            return len(names)
+    for number, name in enumerate(names):
+        if is_named(name) or not 0 < len(name) <= most:
+            return number
+    return len(names)
 
 
 def is_plain(path: str, data: bytes) -> bool:

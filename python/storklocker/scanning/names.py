@@ -68,6 +68,8 @@ class Imports(NamedTuple):
     names: Dict[Names, None]
     is_complete: bool = True
     """Whether these are all; otherwise they would take more bytes than are taken."""
+    size: int = 0
+    """The bytes of all imports, each as often as it is made."""
 
 
 def imports_within(data: bytes, allow: AllowList, limits: Limits = WIDE) -> Imports:
@@ -79,7 +81,7 @@ def imports_within(data: bytes, allow: AllowList, limits: Limits = WIDE) -> Impo
     if wanted > size:
         verdict, wanted, room = _imports(data, allow, settings, wanted)
     its = records(room[:wanted]) if wanted > _FEW else _few_of(room[:wanted])
-    return Imports(verdict, dict.fromkeys(named_today(its, data)))
+    return Imports(verdict, dict.fromkeys(named_today(its, data)), size=wanted)
 
 
 def verdict_on(data: bytes) -> Verdict:

@@ -61,8 +61,11 @@ def shelf_reading(place: Place) -> Found:
 
 def _taken_of(place: Place, plain: Values, those: Sequence[_Item]) -> int:
     """How many of the first of these are plain values, which are told later."""
-    found = parts_of(place.source, [part for part, _ in those]) if plain.is_begun else []
-    return plain.taken_of([key or "''" for _, key in those], found) if found else 0
+    if not plain.is_begun:
+        return 0
+    begins, ends = [at for (at, _), _ in those], [at + size for (at, size), _ in those]
+    found = parts_of(place.source, begins, ends)
+    return plain.taken_of([key or "''" for _, key in those], *found) if found[1] else 0
 
 
 def _values(beside: Source, place: Place) -> Optional[_Values]:

@@ -29,6 +29,7 @@ class Source:
         self._file, self._start, self.size = file, start, size
         self._number = number or next(_numbers)
         self._front = front
+        self._held, self._held_at = b"", 0
 
     def place(self, at: int) -> Tuple[int, int]:
         """A place of the file that it is a part of: the number of that file, and the offset."""
@@ -41,8 +42,16 @@ class Source:
             return b""
         if at + count <= len(self._front):
             return self._front[at : at + count]
+        start = at - self._held_at
+        if 0 <= start <= len(self._held) - count:
+            return self._held[start : start + count]
         self._file.seek(self._start + at)
         return self._file.read(count)
+
+    def hold(self, at: int, count: int) -> bytes:
+        """The bytes from a place on, which are at hand for later reads."""
+        self._held, self._held_at = self.read(at, count), at
+        return self._held
 
     def fill(self, at: int, room: memoryview) -> bool:
         """Fills a buffer with the bytes from a place on; False if there are fewer."""

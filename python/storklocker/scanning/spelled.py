@@ -28,6 +28,10 @@ def _lengths() -> Dict[int, int]:
 LENGTHS = _lengths()
 
 
+_FEW = 1 << 10
+"""So many bytes are read first, because most walks end soon."""
+
+
 class Stop(Exception):
     """Every reader stops."""
 
@@ -43,14 +47,14 @@ class Spelled:
 
     def __init__(self, source: Source, at: int) -> None:
         self.source, self.at = source, at
-        self._data, self._base = b"", at
+        self._data, self._base, self._size = b"", at, _FEW
 
     def take(self, count: int) -> bytes:
         """The next bytes, or fewer at the end."""
         start = self.at - self._base
         if not 0 <= start <= len(self._data) - count:
-            self._data, self._base = self.source.read(self.at, max(BLOCK, count)), self.at
-            start = 0
+            self._data, self._base = self.source.read(self.at, max(self._size, count)), self.at
+            self._size, start = min(4 * self._size, BLOCK), 0
         self.at += count
         return self._data[start : start + count]
 

@@ -62,19 +62,30 @@ def sqlite_reading(place: Place) -> Found:
     for record in pages.records():
         known += yield from _read(place, record, pages.encoding, told)
     yield from values.told()
+    begins, ends = cells.known()
     if place.source.front().startswith(DATABASE):
-        yield from _made(place, pages.schema, told.seen)
-    known = sorted(known + cells.known)
-    yield from searched(place, KIND, known, {at for at, _ in known}, pages.end_of)
+        yield from _made(place, pages.schema, told.seen, (begins, ends))
+    # (what is hidden is the same if the ends are put in order by themselves)
+    begins += [at for at, _ in known]
+    ends += [end for _, end in known]
+    hidden = sorted(begins), sorted(ends)
+    yield from searched(place, KIND, end_of=pages.end_of, hidden=hidden)
     return True
 
 
-def _made(place: Place, schema: List[str], seen: Set[int]) -> Found:
-    """The values that SQL makes, but for those that were told."""
+def _made(
+    place: Place, schema: List[str], seen: Set[int], known: Tuple[List[int], List[int]]
+) -> Found:
+    """The values that SQL makes, but for those that were told: by hashes, and in parts."""
+    are_all_seen = False
     for number, made in enumerate(made_values(place.source, schema, place.budget)):
         if made.fault:
             yield place.unread(KIND, "differing-readings", made.fault)
-        elif len(made.data) >= LEAST and hash(made.data) not in seen:
+            continue
+        if not are_all_seen:
+            are_all_seen = True
+            seen.update(hash(place.source.read(at, end - at)) for at, end in zip(*known))
+        if len(made.data) >= LEAST and hash(made.data) not in seen:
             path = f"{place.path}!{made.name[:LONGEST]} {number}"
             yield from _loaded(path, in_memory(io.BytesIO(made.data)), place.budget, None)
     return True

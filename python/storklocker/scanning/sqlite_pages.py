@@ -127,8 +127,8 @@ class Pages:
         self._size = self._kept = 0
         self._places: Optional[Dict[int, int]] = None
         self._starts: List[int] = []
-        self.left: Optional[Callable[[bytes, int, List[int], bool], List[int]]] = None
-        """Gives the cells of a page that are to be read one by one."""
+        self.left: Optional[Callable[[bytes, int, int, int, bool], Optional[List[int]]]] = None
+        """Gives the cells of a page that are to be read one by one, if not all are."""
         self.schema: List[str] = []
         """The rows of the table of tables that were read so far, as texts."""
         self.encoding, front = "", source.read(0, _BEGIN)
@@ -216,20 +216,23 @@ class Pages:
                 continue
             _, is_inner, has_records = _TREES[page[begin]]
             left += [_four(page, begin + 8)] * is_inner
-            cells = self._cells(page, begin)
+            places, left_to_read = self._places_of(page, begin), None
             if self.left is not None and not (is_inner or is_whole or self.encoding):
-                cells = self.left(page, at, cells, page[begin] == _TABLE)
-            for cell in cells:
+                left_to_read = self.left(page, at, *places, page[begin] == _TABLE)
+            for cell in self._cells(page, *places) if left_to_read is None else left_to_read:
                 if is_inner:
                     left.append(_four(page, cell))
                 if has_records:
                     yield from self._record(page, at, cell + 4 * is_inner, page[begin] == _TABLE)
 
-    def _cells(self, page: bytes, begin: int) -> List[int]:
-        """Where the cells of a page are."""
+    def _places_of(self, page: bytes, begin: int) -> Tuple[int, int]:
+        """Where the places of the cells of a page are, and how many."""
         at, count = begin + _TREES[page[begin]][0], struct.unpack_from(">H", page, begin + 3)[0]
-        if count > (self._size - 8) // 6 or at + 2 * count > self._size:
-            return []
+        is_possible = count <= (self._size - 8) // 6 and at + 2 * count <= self._size
+        return at, count if is_possible else 0
+
+    def _cells(self, page: bytes, at: int, count: int) -> List[int]:
+        """Where the cells of a page are."""
         found = struct.unpack_from(f">{count}H", page, at)
         return [cell & self._size - 1 for cell in dict.fromkeys(found)]
 

@@ -30,7 +30,6 @@ from .readings import Found, Piece, Place, Reading, is_text
 from .source import BLOCK, Source, in_memory
 from .spelled import LENGTHS
 from .trails import Trail, Trails
-from .value_packing import packed_in
 from .values import Values
 
 if TYPE_CHECKING:
@@ -41,6 +40,10 @@ _APART, _LEAST = "HDF5", 16
 _NEAR = 64
 """How many bytes in front of a trail are tried as the beginning of its pickle."""
 _MOST, _FOOTER = 1 << 20, 1 << 20
+_RECORD = 8
+"""So many bytes of imports are listed in one step."""
+_FEW, _TOGETHER = 64, 1 << 12
+"""The fewest and the most values of a block that are looked at together."""
 _GDBM = tuple(
     struct.pack(f"{order}I", number)
     for number in (0x13579ACD, 0x13579ACE, 0x13579ACF, 0x13579AD0, 0x13579AD1)
@@ -79,16 +82,21 @@ def searched(
     known: Sequence[Tuple[int, int]] = (),
     told: Container[int] = (),
     end_of: Optional[Callable[[int], int]] = None,
+    hidden: Tuple[List[int], List[int]] = ([], []),
 ) -> Found:
     """The pickles that begin anywhere, but in parts that are known, each from an offset to another,
     in their order; of these, what imports something harmful, but for pickles that were told, into
     which it isn't looked.
 
     end_of: where the page ends that has a place, if what follows a page is another matter.
+    hidden: where parts begin and end, in their order, into which it isn't looked either.
     """
     source, end = place.source, 0
-    trails, values, left = Trails(source, place.budget), Values(place, kind), Deque(known)
-    hidden = joined_parts([part for part in known if part[0] in told])
+    trails, left = Trails(source, place.budget), Deque(known)
+    values = Values(place, kind, (_FEW, _TOGETHER))
+    if told:
+        those = joined_parts([part for part in known if part[0] in told])
+        hidden = [at for at, _ in those], [behind for _, behind in those]
     for block in blocks(source, place.budget, hidden, values):
         block.end = end
         if values.is_begun:
@@ -115,7 +123,7 @@ def searched(
 def _packed(place: Place, kind: str, block: Block) -> Found:
     """The values that are packed, each as a whole, and begin in a block."""
     source, budget = place.source, place.budget
-    for at, made in packed_in(source, block.start, block.shown, block.size, budget):
+    for at, made in block.packed(source, budget):
         if not made.size or not is_value(made, budget):
             continue
         if made.size > BLOCK or block.values.taken(made.front()) != made.size:
@@ -250,17 +258,17 @@ def imports_at(source: Source, at: int, budget: Budget) -> _Imports:
         data = source.read(at, size)
         found = imports_within(data, NOTHING)
         looked_at = max(found.verdict.taken, found.verdict.at)
-        budget.spend(STEP + looked_at // LOOKED_AT)
+        budget.spend(STEP + looked_at // LOOKED_AT + found.size // _RECORD)
         is_cut = found.verdict.reason is Reason.Truncated and len(data) == size < _MOST
         is_enough = bool(found.names) and data[:1] == b"\x80"
         is_enough |= any(map(is_harmful_pair, found.names))
         if found.verdict or is_enough and is_cut or not found.is_complete:
-            return _Imports(*found, at + found.verdict.taken)
+            return _Imports(*found[:3], at + found.verdict.taken)
         if not is_cut:
             break
         size *= 16
     if found.verdict.reason in ALL_STOP:
-        return _Imports(*found, 0)
+        return _Imports(*found[:3], 0)
     beyond = reached(source, at, at + found.verdict.at, found.verdict.reason, budget)
     names = {**found.names, **beyond.names}
     end = beyond.end if beyond.is_ended else 0

@@ -190,8 +190,9 @@ def _taken_of(place: Place, values: Values, those: Sequence[Plain]) -> int:
     """How many of the first of these are plain values, which are told later."""
     if not (values.is_begun and place.budget.has_members(len(those))):
         return 0
-    found = parts_of(place.source, [(it.at, it.size) for it in those])
-    count = values.taken_of([it.name for it in those], found) if found else 0
+    begins, ends = [it.at for it in those], [it.at + it.size for it in those]
+    found = parts_of(place.source, begins, ends)
+    count = values.taken_of([it.name for it in those], *found) if found[1] else 0
     place.budget.spend_members(count)
     return count
 

@@ -10,30 +10,53 @@ from __future__ import annotations
 
 import heapq
 import re
-from typing import Dict, Iterator, List, NamedTuple, Optional, Set, Tuple
+from typing import (
+    Dict, Iterable, Iterator, List, NamedTuple, Optional, Pattern, Sequence, Set, Tuple
+)
 
 from .budget import Budget
 from .dangers import is_harmful, is_suspect, suspect_heads
+from .patterns import ANY, LETTER, NUL, Front, class_of
 from .source import BLOCK, Source
 from .spelled import LENGTHS, SIZES, is_number
 
 _WORD, _LINE = rb"([A-Za-z_]\w{0,30})(\.)?", rb"(\w{0,30})(?:%b|([.\\\0]))"
-_TEXTS = tuple(
-    (re.compile(begun, re.DOTALL), width)
-    for begun, width in (
-        (rb"\x8c(?=.%b)" % _WORD, 1),
-        (rb"X(?=...[\0-\x3f]%b)" % _WORD, 4),
-        (rb"\x8d(?=....\0{4}%b)" % _WORD, 8),
-        (rb"U(?=.%b)" % _WORD, 1),
-        (rb"T(?=...[\0-\x3f]%b)" % _WORD, 4),
-        (rb"V(?=%b)" % _LINE % rb"\n", 0),
-        (rb"S(?=[ \t]*'%b)" % _LINE % rb"'", 0),
-        (rb'S(?=[ \t]*"%b)' % _LINE % rb'"', 0),
-    )
-)
-"""The instructions that push a text: its first word, and what shows that more follows; and the
-width of the text's length, if it has one.
+
+
+def _counted(code: bytes, length: Sequence[bytes]) -> bytes:
+    """A regular expression of an instruction, its length, and the first word."""
+    return b"%b(?=%b%b)" % (code, b"".join(map(class_of, length)), _WORD)
+
+
+_FEW = bytes(range(0x40))
+_COUNTED: Dict[bytes, Tuple[bytes, ...]] = {
+    b"\x8c": (ANY,),
+    b"X": (ANY, ANY, ANY, _FEW),
+    b"\x8d": (ANY,) * 4 + (NUL,) * 4,
+    b"U": (ANY,),
+    b"T": (ANY, ANY, ANY, _FEW),
+}
+"""The instructions that push a text, and the bytes of its length."""
+_TEXTS: Dict[int, Tuple[Tuple[Pattern[bytes], int], ...]] = {
+    **{
+        ord(code): ((re.compile(_counted(code, length), re.DOTALL), len(length)),)
+        for code, length in _COUNTED.items()
+    },
+    ord("V"): ((re.compile(rb"V(?=%b)" % _LINE % rb"\n"), 0),),
+    ord("S"): (
+        (re.compile(rb"S(?=[ \t]*'%b)" % _LINE % rb"'"), 0),
+        (re.compile(rb'S(?=[ \t]*"%b)' % _LINE % rb'"'), 0),
+    ),
+}
+"""What pushes a text: its first word, and what shows that more follows; and the width of the text's
+length, if it has one.
 """
+TEXT_FRONTS: Tuple[Front, ...] = (
+    *((code, *length, LETTER) for code, length in _COUNTED.items()),
+    (b"V", LETTER + b"0123456789.\\\0"),
+    (b"S", b" \t'\""),
+)
+"""How these begin."""
 _LONGEST = 1 << 10
 """The most bytes of a name with its escapes."""
 _MOST = 100
@@ -62,17 +85,22 @@ def _plain() -> bytes:
 _PLAIN = re.compile(b"(?:%b)+" % _plain(), re.DOTALL)
 
 
-def texts_in(block: bytes) -> Iterator[int]:
-    """Where a text is pushed, perhaps, that begins as the name of something harmful does."""
+def texts_at(block: bytes, places: Iterable[int]) -> Iterator[int]:
+    """At which of these places a text is pushed, perhaps, that begins as the name of something
+    harmful does.
+    """
     heads = suspect_heads()
-    for begun, width in _TEXTS:
-        for found in begun.finditer(block):
+    for at in places:
+        for begun, width in _TEXTS[block[at]]:
+            found = begun.match(block, at)
+            if found is None:
+                continue
             word, more = found.groups()
             if width:
-                at = found.end()
-                word = word[: int.from_bytes(block[at : at + width], "little")]
+                end = found.end()
+                word = word[: int.from_bytes(block[end : end + width], "little")]
             if more or word in heads:
-                yield found.start()
+                yield at
 
 
 class _Text(NamedTuple):

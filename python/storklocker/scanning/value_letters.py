@@ -11,6 +11,8 @@ import re
 import urllib.parse
 from typing import Callable, Dict, FrozenSet, Iterator, List, Pattern, Tuple
 
+from .._storklocker import runs
+
 _LETTERS = b"ABCDEFGHIJKLMNOPQRSTUVWXYZabcdefghijklmnopqrstuvwxyz0123456789+/"
 _ANY, _STRAY = rb"[A-Za-z0-9+/_-]", rb"[^A-Za-z0-9+/]*"
 _STANDARD = bytes.maketrans(b"-_", b"+/")
@@ -63,7 +65,6 @@ _SIGNED = re.compile(rb"[0-9a-f]{32,128}:")
 _OF_DIGITS = rb"(?:[MNOYZ][2DGTWjmz]%b{2}){9}" % _ANY
 """Digits of Base16, in Base64."""
 _LETTER, _FRONT = re.compile(rb"[A-Za-z0-9+/]"), re.compile(_fronts(_STRAY))
-_RUN = re.compile(rb"%b{16,}={0,2}" % _ANY)
 _RUN_FRONT = re.compile(rb"%b|%b|80(?:0[0-5])%b" % (_fronts(b""), _OF_DIGITS, _DIGIT * 9))
 """Base64 that stands in a text, or digits of PROTO and more."""
 _FRONTS = (*_PROTOCOLS, *_STREAMS, b"c", b"(")
@@ -116,8 +117,9 @@ _ESCAPES: Tuple[Tuple[Pattern[bytes], _Read], ...] = (
 """Ways in which some bytes are escaped: how the first are, and what reads them."""
 _ESCAPING = re.compile(rb".{0,16}?[=%]", re.DOTALL)
 _LONG = re.compile(rb"%b{16}" % _ANY)
-_SHORTEST = b"A" * 16
-_AS_LETTERS = bytes(_SHORTEST[0] if re.match(_ANY, bytes([it])) else 0 for it in range(256))
+_LEAST = 16
+_IS_LETTER = bytes(re.match(_ANY, bytes([it])) is not None for it in range(256))
+"""The fewest letters of a run; and of each byte, whether it is one."""
 _WHOLE = re.compile(rb"[A-Za-z0-9+/_\r\n-]{8,}={0,2}\s*")
 """Nothing but Base64, in which Base64 may be packed again."""
 _NO_TEXT, _SOON = re.compile(rb"[\0-\x08\x0e-\x1f\x7f]"), 256
@@ -149,14 +151,19 @@ def may_hold(data: bytes, at: int, end: int) -> bool:
     return any(True for _ in runs_in(data[at:end]))
 
 
-def runs_in(data: bytes, end: int = 1 << 62) -> Iterator[Tuple[int, bytes]]:
-    """The letters that may spell a pickle and begin in front of an end, and where they begin."""
-    first = data.translate(_AS_LETTERS).find(_SHORTEST, 0, end + len(_SHORTEST))
-    for it in _RUN.finditer(data, first) if first >= 0 else ():  # (a pattern takes far longer)
-        if it.start() >= end:
+def runs_in(
+    data: bytes, end: int = 1 << 62, passed: Tuple[List[int], List[int]] = ([], [])
+) -> Iterator[Tuple[int, bytes]]:
+    """The letters that may spell a pickle and begin in front of an end, and where they begin.
+
+    passed: where the parts begin and end that are passed over.
+    """
+    for at, behind in zip(*runs(data, _IS_LETTER, _LEAST, *passed)):
+        if at >= end:
             break
-        if _RUN_FRONT.match(data, it.start()):
-            yield it.start(), it.group()
+        if _RUN_FRONT.match(data, at):
+            padded = data[behind : behind + 2]
+            yield at, data[at : behind + len(padded) - len(padded.lstrip(b"="))]
 
 
 def is_whole(data: bytes) -> bool:

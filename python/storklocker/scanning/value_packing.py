@@ -6,18 +6,19 @@ import binascii
 import io
 import re
 import zlib
-from typing import Any, Callable, Iterator, Optional, Tuple
+from typing import Any, Callable, Iterable, Iterator, Optional, Sequence, Tuple
 
 from .budget import LOOKED_AT, STEP, Budget
 from .names import NOTHING, imports_within
 from .packed import UNREAD, streams_at, unpack
+from .patterns import ANY, NUL, Front, fronts_of
 from .reaching import READERS_STOP
 from .readings import is_text
 from .rows import CLAIM
 from .source import Source, in_memory
 from .spelled import LENGTHS
 from .value_letters import (
-    ZLIB_FRONTS, is_whole, may_begin, may_hold, of_letters, of_others, runs_in
+    ZLIB_FRONTS, is_whole, may_begin, may_hold, of_letters, of_others
 )
 
 _STREAM = re.compile(
@@ -29,31 +30,28 @@ _STREAM = re.compile(
 """How a value begins that is packed: by gzip, bzip2, xz, LZMA as it is alone, Blosc, what isn't
 read here, or zlib.
 """
-_IMPORTS = re.compile(rb"[\n\x80\x82-\x84\x93]")
-_IMPORTING = re.compile(_IMPORTS.pattern + rb"|[A-Za-z0-9+/_-]{16}")
+IMPORTS = re.compile(rb"[\n\x80\x82-\x84\x93]")
+_IMPORTING = re.compile(IMPORTS.pattern + rb"|[A-Za-z0-9+/_-]{16}")
 """A byte that each pickle has which imports something, or letters that may spell it in a text."""
 _BY_LINES = (b"c", b"i", b"")
 """Instructions of which readers take more than the checker."""
 _Stream = Tuple[str, Callable[[], Any], int]
-_ANYWHERE = tuple(
-    re.compile(begun, re.DOTALL)
-    for begun in (
-        *(b"%b[%b]" % (re.escape(first), re.escape(b"".join(it[1:] for it in ZLIB_FRONTS
-                                                             if it[:1] == first)))
-          for first in sorted({it[:1] for it in ZLIB_FRONTS})),
-        rb"\x1f\x8b\x08",
-        rb"BZh[1-9]1AY&SY",
-        rb"\xfd7zXZ\0",
-        rb"\]\0\0.{2}.{4}[\0-\x3f]\0{3}",
-    )
+STREAM_FRONTS: Tuple[Front, ...] = (
+    *(
+        (first, b"".join(it[1:] for it in ZLIB_FRONTS if it[:1] == first))
+        for first in sorted({it[:1] for it in ZLIB_FRONTS})
+    ),
+    fronts_of(b"\x1f\x8b\x08"),
+    (*fronts_of(b"BZh"), b"123456789", *fronts_of(b"1AY&SY")),
+    fronts_of(b"\xfd7zXZ\0"),
+    (*fronts_of(b"]\0\0"), *(ANY,) * 6, bytes(range(0x40)), *(NUL,) * 3),
 )
-"""How streams begin that are looked for anywhere: a pattern each, because the search for a first
-byte is fast.
-"""
-_ENDLESS, _SIZE, _BEFORE, _PROPERTIES = re.compile(rb"\xff{8,12}(?=\0)"), 8, 5, 0xE0
-"""The size of LZMA alone that isn't known, behind which a zero stands; how many bytes that has, and
-what is in front of it; and the greatest first byte.
-"""
+"""How streams begin that are looked for anywhere."""
+_ORDER = {byte: number for number, front in enumerate(STREAM_FRONTS) for byte in front[0]}
+ENDLESS_FRONTS: Tuple[Front, ...] = ((b"\xff",) * 8 + (NUL,),)
+"""The size of LZMA alone that isn't known, behind which a zero stands."""
+_BEFORE, _PROPERTIES = 5, 0xE0
+"""How many bytes are in front of that; and the greatest first byte."""
 _LZMA = 60
 """The steps of a try to unpack that: a decompressor is made."""
 _RAW = re.compile(
@@ -97,9 +95,9 @@ def _may_go_on(data: bytes) -> bool:
     """Whether what a value is decoded to may be packed again, or a reader gets to an import."""
     if _STREAM.match(data) or is_whole(data):
         return True
-    if not _IMPORTS.search(data):
+    if not IMPORTS.search(data):
         return False
-    verdict, names, _ = imports_within(data, NOTHING)
+    verdict, names, *_ = imports_within(data, NOTHING)
     is_end = verdict.reason in READERS_STOP and data[verdict.at : verdict.at + 1] not in _BY_LINES
     return bool(names) or not is_end
 
@@ -117,12 +115,12 @@ def unpacked(source: Source, budget: Budget, depth: int = _DEPTH) -> Iterator[So
 
 
 def packed_in(
-    source: Source, start: int, block: bytes, end: int, budget: Budget
+    source: Source, start: int, block: bytes, places: Sequence[int], budget: Budget
 ) -> Iterator[Tuple[int, Source]]:
-    """What may be unpacked of what begins in a block of a store, in front of an end: where that is,
-    and what it unpacks to.
+    """What may be unpacked of streams at some places of a block of a store: where that is, and what
+    it unpacks to.
     """
-    for at in _begun_in(block, end):
+    for at in places:
         budget.spend(3)
         if _is_begun(block[at : at + _TRIED]):
             budget.spend()
@@ -130,7 +128,17 @@ def packed_in(
                 budget.spend(_LZMA if first[0] == "lzma" else 1)
                 part = source.part(start + at, source.size)
                 yield from ((at, it) for it in _deeper(part, first, budget))
-    for at, run in runs_in(block, end):
+
+
+def spelled_in(
+    source: Source,
+    start: int,
+    block: bytes,
+    runs: Iterable[Tuple[int, bytes]],
+    budget: Budget,
+) -> Iterator[Tuple[int, Source]]:
+    """The same of letters at some places of a block, as `runs_in` gives them."""
+    for at, run in runs:
         budget.spend(STEP + len(run) // LOOKED_AT)
         if any(map(_may_go_on, of_letters(run, True))):
             more = block[at + len(run) : at + len(run) + 1] in _GOING_ON
@@ -139,14 +147,14 @@ def packed_in(
             yield from ((at, it) for it in unpacked(in_memory(io.BytesIO(text)), budget))
 
 
-def _begun_in(block: bytes, end: int) -> Iterator[int]:
-    """Where streams may begin in front of an end. Of LZMA alone that is told by the size."""
-    for begun in _ANYWHERE:
-        for found in begun.finditer(block, 0, end + _HEADER):
-            if found.start() < end:
-                yield found.start()
-    for found in _ENDLESS.finditer(block, 0, end + _HEADER):
-        size = found.end() - _SIZE
+def streams_begun(
+    block: bytes, places: Sequence[int], endless: Sequence[int], end: int
+) -> Iterator[int]:
+    """Where streams may begin in front of an end, in the order of their formats, if they do at one
+    of these places, or have a size that isn't known. Of LZMA alone that is told by the size.
+    """
+    yield from sorted((at for at in places if at < end), key=lambda at: _ORDER[block[at]])
+    for size in endless:
         if 0 <= size - _BEFORE < end and _is_alone(block[size - _BEFORE : size]):
             yield size - _BEFORE
 

@@ -2,14 +2,15 @@
 
 from __future__ import annotations
 
-from typing import Dict, Iterator, List, Optional, Tuple
+import itertools
+from typing import Dict, Iterator, List, Optional, Sequence, Tuple
 
 from .._lists import AllowList
 from .._pairs import bytes_of_pair
-from .batches import Batches
+from .batches import SIZES, Batches
 from .budget import LOOKED_AT, STEP
 from .lone import Told
-from .marks import is_named, unmarked_of
+from .marks import plainly_named, unmarked_of
 from .readings import Found, Place, Together, examine
 from .report import LONGEST
 from .rows import CLAIM
@@ -27,13 +28,13 @@ class Values:
     last: int
     """The length of the last one that is told later."""
 
-    def __init__(self, place: Place, kind: str) -> None:
+    def __init__(self, place: Place, kind: str, sizes: Tuple[int, int] = SIZES) -> None:
         self._place, self._kind, self._budget = place, kind, place.budget
         self._lone = place.budget.lone
         self._seen = self._count = self._size = self._imports = self.last = 0
         self._told: Dict[int, Told] = {}
         self._listed: Optional[AllowList] = None
-        self.batches = Batches()
+        self.batches = Batches(*sizes)
         """Those in which values are looked at."""
 
     @property
@@ -41,8 +42,8 @@ class Values:
         """Whether some are told later, so that more may be by one call."""
         return self._count > 0
 
-    def quiet_of(self, values: List[bytes]) -> Tuple[int, int]:
-        """How many of the first of these are plain pickles with imports that others had, and
+    def quiet_of(self, data: bytes, begins: List[int], ends: List[int]) -> Tuple[int, int]:
+        """How many of the first of these parts are plain pickles with imports that others had, and
         nothing else; and how many imports these make.
         """
         if self._lone is None or not self._count or len(self._told) > _MOST:
@@ -51,10 +52,9 @@ class Values:
             pairs = {pair for told in self._told.values() for pair in told.imports}
             names = [bytes_of_pair((module or "", name or "")) for module, name in pairs]
             self._listed = AllowList._of(names, None, None)
-        size = sum(map(len, values))
-        self._budget.spend(STEP // 2 * len(values) + size // LOOKED_AT)
-        found = self._lone.quiet_of(values, self._listed)
-        self._budget.spend(self._lone.spent())
+        self._budget.spend(STEP // 2 + (sum(ends) - sum(begins)) // LOOKED_AT)
+        found = self._lone.quiet_of(data, begins, ends, self._listed)
+        self._budget.spend(STEP // 2 * found[0] + self._lone.spent())
         return found
 
     def count(self, number: int, size: int, imports: int) -> None:
@@ -64,31 +64,31 @@ class Values:
         self._count += number
         self._size += size
 
-    def are_taken(self, values: List[bytes]) -> bool:
-        """Whether all of these are plain pickles with imports that others had, and nothing else.
-        They are told later.
+    def are_taken(self, data: bytes, begins: List[int], ends: List[int]) -> bool:
+        """Whether all of these parts are plain pickles with imports that others had, and nothing
+        else. They are told later.
         """
-        count, imports = self.quiet_of(values)
-        if count < len(values):
+        count, imports = self.quiet_of(data, begins, ends)
+        if count < len(begins):
             return False
-        self.count(count, sum(map(len, values)), imports)
+        self.count(count, sum(ends) - sum(begins), imports)
         return True
 
-    def taken_of(self, names: List[str], values: List[bytes]) -> int:
-        """How many of the first of these, in members with these names, are plain pickles, and
+    def taken_of(
+        self, names: Sequence[str], data: bytes, begins: List[int], ends: List[int]
+    ) -> int:
+        """How many of the first of these parts, in members with these names, are plain pickles, and
         nothing else, of which no other reader has to be asked. They are told later.
         """
         if not self._count:
             return 0
-        are_alone = zip(map(is_named, names), names, map(CLAIM.match, values))
-        most = next(
-            (number for number, (is_named_so, name, claim) in enumerate(are_alone)
-             if is_named_so or not claim or not 0 < len(name) <= LONGEST),
-            len(values),
-        )
-        most = unmarked_of(values[:most])
-        count, imports = self.quiet_of(values[:most]) if most else (0, 0)
-        self.count(count, sum(map(len, values[:count])), imports)
+        most = plainly_named(names, LONGEST)
+        claims = map(CLAIM.match, itertools.repeat(data), begins[:most], ends)
+        most = next((number for number, claim in enumerate(claims) if not claim), most)
+        most = unmarked_of(data, begins[:most], ends[:most])
+        begins, ends = begins[:most], ends[:most]
+        count, imports = self.quiet_of(data, begins, ends) if most else (0, 0)
+        self.count(count, sum(ends[:count]) - sum(begins[:count]), imports)
         return count
 
     def taken(self, data: bytes) -> int:

@@ -2,6 +2,7 @@
 
 from __future__ import annotations
 
+import itertools
 import re
 import zlib
 from collections import Counter
@@ -134,16 +135,19 @@ def _taken_of(place: Place, values: Values, those: Sequence[Entry]) -> int:
     if not (values.is_begun and place.budget.has_members(len(those))):
         return 0
     names, held, unpacked = [], [], []  # type: List[str], List[bytes], List[int]
-    found = parts_of(place.source, [(it.at, FRONT + len(it.name) + it.packed) for it in those])
-    for entry, data in zip(those, found):
-        name, content = entry.text, _plain_content(entry, data)
+    begins = [it.at for it in those]
+    ends = [min(it.at + FRONT + len(it.name) + it.packed, place.source.size) for it in those]
+    data, begins, ends = parts_of(place.source, begins, ends)
+    for entry, at, end in zip(those, begins, ends):
+        name, content = entry.text, _plain_content(entry, data[at:end])
         if not CLAIM.match(content) or _STORAGE.fullmatch(name):
             break
         names.append(name)
         held.append(content)
         unpacked.append(len(content) if entry.method == _DEFLATED else 0)
     place.budget.spend(sum(unpacked) // LOOKED_AT)
-    count = values.taken_of(names, held) if held else 0
+    behind = [*itertools.accumulate(map(len, held), initial=0)]
+    count = values.taken_of(names, b"".join(held), behind[:-1], behind[1:]) if held else 0
     place.budget.spend_members(count)
     place.budget.spend_bytes(sum(unpacked[:count]))
     return count
