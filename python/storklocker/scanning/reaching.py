@@ -25,7 +25,7 @@ READERS_STOP = frozenset(
 mark, and a line without a line feed.
 """
 
-_EACH = 2
+_EACH = 4
 """The steps of an instruction that is followed."""
 
 ALL_STOP = (Reason.UnknownOpcode, Reason.UnsupportedProtocol)
