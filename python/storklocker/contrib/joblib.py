@@ -33,7 +33,7 @@ _FIRST = 1 << 16
 def load_joblib(file: File, guard: Guard, *, mmap_mode: Optional[str] = None) -> Any:
     """The object of a file that `joblib.dump` wrote, or of a plain pickle.
 
-    file: its name, its bytes, or an open file, which is left right behind what was loaded.
+    file: its name, its bytes, or an open file, which is left right after what was loaded.
     guard: checks the pickle, whose arrays are cut out, and those of arrays of objects. Each has at
         most the guard's `max_bytes`; so has what a packed file (zlib, gzip, bzip2, xz, LZMA; LZ4 if
         its module is there) unpacks to.

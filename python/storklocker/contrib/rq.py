@@ -78,7 +78,7 @@ def _spawns(member: object) -> bool:
 
 
 def _job_class(guard: Guard) -> Type[Any]:
-    """RQ's class of jobs behind the guard, whoever makes one and with whichever serializer."""
+    """RQ's class of jobs under the guard, whoever makes one and with whichever serializer."""
     from rq.job import Job
     from rq.utils import import_attribute
 
