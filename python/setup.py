@@ -32,7 +32,8 @@ def words():
         return ["--archive", named]
     found = [it for it in (SHIPPED, BUILT, MADE) if it.exists()]
     if found and sys.platform in ("darwin", "win32"):
-        raise SystemExit(f"storklocker: it isn't built for {platform.system()} yet, only for Linux.")
+        system = platform.system()
+        raise SystemExit(f"storklocker: it isn't built for {system} yet, only for Linux.")
     if found:
         print(f"storklocker: the checker is {found[0].name}", file=sys.stderr)
         return ["--archive", str(found[0])]

@@ -72,9 +72,10 @@ class Limits(Named):
 
     A check with such limits takes a tenth to a half longer. It takes twice as long or more if
     memory is limited, if more than about ten tuples hold other tuples or earlier objects, if there
-    are more than about fifteen calls, or if there is a BUILD under `build="made"`. `Limits(levels=None, weight=None, work=None)` turns these
-    limits off. Pass it once, to the list or to the guard: if one of the two is at its default, the
-    other applies; otherwise the smaller does.
+    are more than about fifteen calls, or if there is a BUILD under `build="made"`.
+    `Limits(levels=None, weight=None, work=None)` turns these limits off. Pass it once, to the list
+    or to the guard: if one of the two is at its default, the other applies; otherwise the smaller
+    does.
 
     levels: levels of tuples and results in a key, since each takes C stack to hash; default 1,000,
         greatest 1,022.

@@ -73,7 +73,8 @@ class AnswersAsKeys(unittest.TestCase):
             self.assertEqual(Visited.times, 2**times, "the control: each pair asks both")
         self.assertTrue(storklocker.check(doubled(10), NAMED))
         self.assert_refused(doubled(26), Reason.HeavyKeys)
-        self.assertTrue(storklocker.check(doubled(26), NAMED, limits=Limits(weight=None, work=None)))
+        unlimited = Limits(weight=None, work=None)
+        self.assertTrue(storklocker.check(doubled(26), NAMED, limits=unlimited))
 
     def test_named_tuples_in_each_other(self):
         self.assert_refused(deep(1_000), Reason.DeepKey)
