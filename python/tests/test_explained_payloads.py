@@ -30,7 +30,7 @@ MARSHALLED = {
         "PnILAAAAAQAAAHMSAAAA8AMBAQHbAAnaACDZAAGAJYUIcgkAAAA="
     ),
 }
-MOST = 60_000
+MOST = 200_000
 
 
 def said(data):

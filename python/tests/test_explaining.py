@@ -16,6 +16,7 @@ import test_scanning
 from common import ROOT, needs, python
 from storklocker.explaining.writing import ROOM
 
+SCHEMA = ROOT / "docs" / "explain.schema.json"
 SEEDED, HONEST = 2000, 1000
 SHAPES = {
     "doubled": (b"K\x01" + b"2\x86" * 50_000 + b".", 20_000),
@@ -210,11 +211,11 @@ class Explaining(unittest.TestCase):
         self.assertEqual((status, out.count("joblib, without its arrays")), (0, 2))
         self.assertIn("= system('touch M')", out)
 
-    @needs("module:jsonschema")
+    @needs("module:jsonschema", str(SCHEMA))
     def test_schema(self):
         import jsonschema
 
-        schema = json.loads((ROOT / "docs/explain.schema.json").read_text("utf-8"))
+        schema = json.loads(SCHEMA.read_text("utf-8"))
         for data in (pickle.dumps(Point()), b"cos\nsystem\n(K\x01tR.", b"\x80\x04]"):
             out = self.run_command("explain", self.put("x", data), "--format", "json")[1]
             jsonschema.validate(json.loads(out), schema)

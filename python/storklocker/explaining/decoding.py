@@ -14,7 +14,10 @@ from typing import Any, Callable, Dict, List, NamedTuple
 
 LARGEST = 1 << 22
 """The most bytes that something is unpacked or joined to."""
-_PARTS = 100_000
+_PARTS, _WORD, _SLOW, _ROOM = 100_000, 256, 1 << 18, 1 << 27
+"""The most parts of a list, the most characters of a word that is looked for, the most bytes that
+Python itself decodes, and the most memory of a decoder.
+"""
 _CODINGS = frozenset(
     "utf8 utf16 utf16le utf16be utf32 latin1 iso88591 ascii rot13 hex hexcodec base64 base64codec"
     " unicodeescape rawunicodeescape utf7 utf8sig cp1252 cp437".split()
@@ -93,6 +96,17 @@ def _short(data: Any) -> Any:
     return data
 
 
+def _slow(decode: Callable[..., bytes]) -> Callable[..., bytes]:
+    """A decoder in Python, for what is short."""
+
+    def decoded(data: Any, *words: Any) -> bytes:
+        if len(data) > _SLOW:
+            raise Unknown
+        return decode(data, *words)
+
+    return decoded
+
+
 def _added(one: Any, other: Any) -> Any:
     return _small(one + other)
 
@@ -104,13 +118,15 @@ def _item(held: Any, key: Any) -> Any:
 _INFLATED = _unpacked(lambda: zlib.decompressobj(31))
 DECODERS: Dict[str, Callable[..., Any]] = {
     "base64.b64decode": base64.b64decode, "base64.standard_b64decode": base64.standard_b64decode,
-    "base64.urlsafe_b64decode": base64.urlsafe_b64decode, "base64.b32decode": base64.b32decode,
-    "base64.b16decode": base64.b16decode, "base64.b85decode": base64.b85decode,
-    "base64.a85decode": base64.a85decode, "base64.decodebytes": base64.decodebytes,
-    "binascii.unhexlify": binascii.unhexlify, "binascii.a2b_hex": binascii.unhexlify,
-    "binascii.a2b_base64": binascii.a2b_base64, "zlib.decompress": _zlib,
-    "gzip.decompress": _INFLATED, "bz2.decompress": _unpacked(bz2.BZ2Decompressor),
-    "lzma.decompress": _unpacked(lzma.LZMADecompressor), "codecs.decode": _decode,
+    "base64.urlsafe_b64decode": base64.urlsafe_b64decode,
+    "base64.b32decode": _slow(base64.b32decode), "base64.b16decode": base64.b16decode,
+    "base64.b85decode": _slow(base64.b85decode), "base64.a85decode": _slow(base64.a85decode),
+    "base64.decodebytes": base64.decodebytes, "binascii.unhexlify": binascii.unhexlify,
+    "binascii.a2b_hex": binascii.unhexlify, "binascii.a2b_base64": binascii.a2b_base64,
+    "zlib.decompress": _zlib, "gzip.decompress": _INFLATED,
+    "bz2.decompress": _unpacked(bz2.BZ2Decompressor),
+    "lzma.decompress": _unpacked(lambda: lzma.LZMADecompressor(memlimit=_ROOM)),
+    "codecs.decode": _decode,
     "codecs.encode": _encode, "codecs.escape_decode": codecs.escape_decode,
     "codecs.latin_1_encode": codecs.latin_1_encode, "codecs.utf_8_decode": codecs.utf_8_decode,
     "builtins.str": _text, "builtins.bytes": _bytes, "builtins.bytearray": _bytes,
@@ -153,6 +169,9 @@ def of_method(held: Any, name: str, words: List[Any]) -> Any:
     """What a method of something plain answers."""
     if type(held) not in (str, bytes, list, tuple, dict):
         raise Unknown
+    is_any = name in ("join", "__add__", "fromhex", "translate")
+    if not is_any and any(len(it) > _WORD for it in words if type(it) in (str, bytes)):
+        raise Unknown  # (to look for it may take long)
     if name in _TEXT:
         return getattr(held, name)(*words)
     if name not in _METHODS:

@@ -4,6 +4,7 @@ pickles, code. Nothing is run; what isn't plain stays shut.
 
 from __future__ import annotations
 
+import itertools
 from typing import Any, Callable, Dict, Iterable, Iterator, List, NamedTuple, Optional, Tuple
 
 from ..scanning.dangers import judged
@@ -22,7 +23,7 @@ from .pickles import Followed
 
 DEPTH = 8
 """How deep payloads are opened."""
-_LINES, _WIDTH, _SHOWN = 40, 400, 160
+_LINES, _WIDTH, _SHOWN, _HASHED = 40, 400, 160, 1000
 _CALLS = (CALL, NEW, INSTANCE)
 _CHANGES = (APPEND, EXTEND, SETITEM, ADD, SETSTATE)
 LOADERS = frozenset(
@@ -126,10 +127,10 @@ class Opener:
         self._at = it.at
         try:
             function, words = self._called(it)
-            found = list(self._opened(it, function, words))
-        except (Unknown, RecursionError):
+            found = list(itertools.islice(self._opened(it, function, words), _LINES + 1))
+        except Exception:  # (Unknown, or whatever hostile values raise)
             return []
-        return found[:_LINES] + ([f"... {len(found) - _LINES:,} more"] if found[_LINES:] else [])
+        return found if len(found) <= _LINES else [*found[:_LINES], "... and more"]
 
     def _opened(self, it: Node, function: Any, words: List[Any]) -> Iterator[str]:
         name = function.name if type(function) is Named else ""
@@ -248,6 +249,8 @@ class Opener:
             if change.at < self._at:
                 items += change.items[1:]
         values = [self._maybe(part) for part in items]
+        if it.kind not in (LIST, TUPLE) and len(values) > _HASHED:
+            raise Unknown  # (hostile keys collide)
         if it.kind == DICT:
             return dict(zip(values[::2], values[1::2]))
         if it.kind == LIST:

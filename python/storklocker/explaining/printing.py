@@ -76,6 +76,8 @@ class Part(NamedTuple):
             yield "# dangerous statements:"
         for line in self.worst:
             yield from line.written(paint, _INDENT)
+        if len(self.worst) == BAD_LINES:
+            yield f"{_INDENT}and perhaps more, among all statements"
         lines = iter(self.lines)
         first = next(lines, None)
         if first is None:
