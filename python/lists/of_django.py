@@ -5,6 +5,7 @@ import io
 
 import django
 from django.conf import settings
+from storklocker.judge.derived import is_derived
 
 VERSIONS = f"Django {django.__version__}"
 
@@ -71,9 +72,21 @@ def _values():
     yield from (mark_safe("<b>"), QueryDict("a=1&a=2"))
     yield from (MultiValueDict({"a": [1]}), Message(10, "a"))
     yield ImmutableList([1])
-    for name in ("ObjectDoesNotExist", "PermissionDenied", "ValidationError", "FieldError",
-                 "SuspiciousOperation", "MultipleObjectsReturned", "ImproperlyConfigured"):
-        yield getattr(exceptions, name)("why")
+    yield exceptions.ValidationError("why")
+
+
+def _errors():
+    """Exceptions without code of their own."""
+    from django import http
+    from django.core import exceptions, paginator, signing
+    from django.db import utils
+
+    yield http.Http404("why")
+    for module in (exceptions, paginator, signing, utils):
+        for kind in vars(module).values():
+            is_one = isinstance(kind, type) and issubclass(kind, Exception)
+            if is_one and kind.__module__ == module.__name__ and is_derived(kind):
+                yield kind("why")
 
 
 def objects():
@@ -82,3 +95,4 @@ def objects():
     yield from _models()
     yield from _responses()
     yield from _values()
+    yield from _errors()
