@@ -35,8 +35,8 @@ if TYPE_CHECKING:
     from .._pairs import Names
     from .members import Members
 
-_PIECE = 15 * STEP
-"""The steps of what is told of a piece."""
+_VALUE = 15 * STEP
+"""The steps of what is told of a value by itself: most are told together."""
 _SHORT = LONGEST
 """The most bytes of all names of a pickle whose texts are kept."""
 _IMPORTS = re.compile(rb"([ci][^\n]*\n[^\n]*\n)*")
@@ -209,7 +209,7 @@ def _reports_at(place: Place, question: Question) -> Iterator[Report]:
         elif isinstance(it, Unread):
             yield unreadable(it.path, it.kind, it.finding, place.path)
         else:
-            budget.spend(_PIECE)
+            budget.spend(_VALUE if it.most else 0)
             row = row_of(it, question.allow, budget, question.as_program)
             if row is None:
                 continue
