@@ -93,13 +93,17 @@ def agrees(daemon, folder):
 
 
 def scans(daemon, path, data):
-    """The same of `scan` and `imports`."""
+    """The same of `scan`, `imports` and `explain`."""
     status, lines = command("scan", daemon, path, "--format", "json", "--no-config")
     code, said = daemon.checked(data, "/scan")
     assert (code, said) == (422 if status else 200, json.loads("".join(lines))), data[:99]
     status, lines = command("imports", None, path)
     code, said = daemon.checked(data, "/imports")
     assert (code, said["lines"]) == (422 if status else 200, lines), data[:99]
+    status, lines = command("explain", None, path, "--format", "json")
+    code, said = daemon.checked(data, "/explain")
+    wanted = json.loads(lines[0].replace(f'"path": "{path}"', '"path": "-"'))
+    assert (code, said) == (422 if status else 200, wanted), data[:99]
 
 
 def command(name, daemon, path, *words):

@@ -6,7 +6,7 @@
     workers      the processes that read what strangers send: those of `scanning.isolated`
     bodies       the bytes of a request, which are held outside of this process's heap
     desk         one way from bytes to an answer, which both protocols take
-    exporting    the JSON of a plain pickle, by the program
+    exporting    what commands print, in a process of their own
     connections  how many there are, and how long each may wait
     over_http    the server for HTTP, by aiohttp
     over_clamd   the server for clamd's protocol

@@ -88,13 +88,13 @@ class Desk:
             self._count(answer)
         return answer
 
-    async def exported(self, pieces: AsyncIterator[bytes], ends: float) -> Exported:
-        """The JSON of the bytes in these pieces, of which no more are taken once an import is
-        there. Raises also what the exporter does.
+    async def exported(self, kind: str, pieces: AsyncIterator[bytes], ends: float) -> Exported:
+        """What a command prints of the bytes in these pieces. Where a plain pickle is wanted, no
+        more of them are taken once an import is there. Raises also what the exporter does.
         """
         with Body(self.room) as body:
-            await self._gathered(PLAIN, "", pieces, body, ends)
-            return await self._exporter.exported(str(body.path), ends)
+            await self._gathered(PLAIN if kind == "json" else IMPORTS, "", pieces, body, ends)
+            return await self._exporter.exported(kind, str(body.path), ends)
 
     async def _gathered(
         self, kind: str, listed: str, pieces: AsyncIterator[bytes], body: Body, ends: float

@@ -71,6 +71,7 @@ class Api:
             "scan": self._judge,
             "imports": self._judge,
             "json": self._export,
+            "explain": self._explain,
             "lists": self._lists,
             "metrics": self._metrics,
             "healthz": self._health,
@@ -158,11 +159,17 @@ class Api:
 
     async def _export(self, request: web.Request) -> web.Response:
         ends = self._desk.ends()
-        done = await self._desk.exported(_pieces(request, ends), ends)
+        done = await self._desk.exported("json", _pieces(request, ends), ends)
         if done.status != exporting.YES:
             why = done.said.decode("ascii", "backslashreplace").rstrip("\n")
             return _fault(routes.NO, why)
         return web.Response(body=done.said, content_type="application/json")
+
+    async def _explain(self, request: web.Request) -> web.Response:
+        ends = self._desk.ends()
+        done = await self._desk.exported("explain", _pieces(request, ends), ends)
+        status = routes.OK if done.status == exporting.YES else routes.NO
+        return web.Response(body=done.said, status=status, content_type="application/json")
 
     async def _lists(self, request: web.Request) -> web.Response:
         allows, etags = self._desk.lists
