@@ -129,7 +129,7 @@ PyObject *begun(PyObject *Py_UNUSED(module), PyObject *args) {
 PyObject *runs(PyObject *Py_UNUSED(module), PyObject *args) {
     PyObject *data, *letters, *begins = PyList_New(0), *ends = PyList_New(0);
     struct parts p = {0};
-    Py_ssize_t least;
+    Py_ssize_t least = 0;
     int is_wrong = begins == NULL || ends == NULL
         || !PyArg_ParseTuple(args, "SSnO!O!", &data, &letters, &least, &PyList_Type, &p.begins,
                              &PyList_Type, &p.ends);
@@ -207,7 +207,7 @@ static int add_values(const uint8_t *page, size_t at, size_t end, const char *qu
 
 PyObject *cells(PyObject *Py_UNUSED(module), PyObject *args) {
     PyObject *data, *table, *begins = PyList_New(0), *ends = PyList_New(0), *left = PyList_New(0);
-    Py_ssize_t first, count, most;
+    Py_ssize_t first = 0, count = 0, most = 0;
     int is_of_table, is_wrong = begins == NULL || ends == NULL || left == NULL
         || !PyArg_ParseTuple(args, "SSnnnp", &data, &table, &first, &count, &most, &is_of_table);
     const uint8_t *page = is_wrong ? NULL : (const uint8_t *)PyBytes_AsString(data);

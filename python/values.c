@@ -52,7 +52,7 @@ PyObject *whole(PyObject *Py_UNUSED(module), PyObject *args) {
 
 PyObject *wholes(PyObject *Py_UNUSED(module), PyObject *args) {
     PyObject *data, *places, *begins = PyList_New(0), *ends = PyList_New(0);
-    Py_ssize_t end, most, left;
+    Py_ssize_t end = 0, most = 0, left = 0;
     int is_stopped, is_wrong = begins == NULL || ends == NULL
         || !PyArg_ParseTuple(args, "SO!nnn", &data, &PyList_Type, &places, &end, &most, &left);
     const uint8_t *bytes = is_wrong ? NULL : (const uint8_t *)PyBytes_AsString(data);
