@@ -1,6 +1,6 @@
 -- What an object costs as a key of a dict or an item of a set. Tuples, frozensets, texts, bytes and
--- ints never change, so this is known when they are made. What a call answers may hold its operands,
--- as a named tuple does, so it costs what a tuple of them would.
+-- ints never change, so this is known when they are made. What a call answers may hold its
+-- operands, as a named tuple does, so it costs what a tuple of them would.
 use Rattle.std.specs.Prelude.{ℕ, ◌+◌, ◌/◌, min, max, Bool, true, false, if◌then◌else◌, List, []}
 use Rattle.std.specs.Prelude.{◌∷◌, length}
 use Rattle.pkops.specs.declared.Op.{Op}

@@ -1,6 +1,7 @@
 -- What the objects of a run cost, read off its events.
 use Rattle.std.specs.Prelude.{ℕ, if◌then◌else◌, ltb, List, [], ◌∷◌, ◌++◌, drop, length, map, max}
-use Rattle.std.specs.Prelude.{set, take, Option, Some, None, slice_get, false, unwrap_or, ◌||◌, ◌&&◌}
+use Rattle.std.specs.Prelude.{set, take, Option, Some, None, slice_get, false, unwrap_or, ◌||◌}
+use Rattle.std.specs.Prelude.{◌&&◌}
 use Rattle.pkops.specs.Spelling.{Instruction}
 use Rattle.pkmachine.specs.Runs.{Event, Import, Did}
 use Rattle.pkload.specs.Heft.{Heft, heft_of}
