@@ -20,7 +20,8 @@ import zlib
 
 from storklocker.scanning import lenient
 from storklocker.scanning.judging import Question, reports_of
-from storklocker.scanning.lenient import UNKNOWN, followed_from
+from storklocker.scanning.lenient import UNKNOWN
+from storklocker.scanning.reaching import followed_from
 from storklocker.scanning.severity import DANGER, UNREADABLE
 from storklocker.scanning.source import in_memory
 

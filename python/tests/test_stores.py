@@ -5,6 +5,7 @@ import colorsys
 import contextlib
 import datetime
 import importlib
+import io
 import pathlib
 import pickle
 import shelve
@@ -20,7 +21,8 @@ from storklocker import AllowList, Reason
 from test_readings import EVIL, RUNS, reports
 
 GOOD = [pickle.dumps([1, "text", {"a": 2.5}], protocol) for protocol in (2, 4)]
-SHELVES = ("dbm.gnu", "dbm.ndbm", "dbm.sqlite3")
+SHELVES = {"dbm.gnu": "GDBM", "dbm.ndbm": "Berkeley DB", "dbm.sqlite3": "SQLite"}
+"""Modules of `dbm`, and the format of their files."""
 
 
 def reads_on():
@@ -98,6 +100,34 @@ class Stores(unittest.TestCase):
         cut = pickle.dumps(["text" * 9, "other" * 9], 4)[:40]
         self.check(self.sqlite(*GOOD, cut), "SQLite", False)
 
+    def test_frames_that_hide_an_import(self):
+        """The reader of files in C imports what no line shows, from a pickle without a PROTO."""
+
+        class Named(pickle.Unpickler):
+            def find_class(self, module, name):
+                found.append((module, name))
+                return str
+
+        def frame(size):
+            return b"\x95" + size.to_bytes(8, "little")
+
+        for value in (
+            b"(0" + frame(5) + b"cos\n system\n.",
+            b"N" + frame(6) + b"0cos\n system\n.",
+            b"N" + frame(4) + b"0\x8c\x02aos\x8c\x06system\x93.",
+            b"N" + frame(4) + b"0\x8c\x02aos" + frame(2) + b"\x8c\x06system\x93.",
+        ):
+            found = []
+            with contextlib.suppress(pickle.UnpicklingError):
+                Named(io.BytesIO(value)).load()
+            self.assertEqual(found[:1], [("os", "system")], "the control")
+            for name, module in shelf_modules().items():
+                with contextlib.closing(module.open(str(self.folder / "shelf"), "c")) as file:
+                    file[b"key"], file[b"other"] = value, GOOD[1]
+                self.check(self.files()[0], SHELVES[name], True)
+                for it in self.folder.iterdir():
+                    it.unlink()
+
     def test_shelves(self):
         for name, module in shelf_modules().items():
             for value, is_evil in (([1, 2], False), (print, True)):
@@ -107,8 +137,7 @@ class Stores(unittest.TestCase):
                 with shelve.open(path) as shelf:
                     self.assertEqual(shelf["a"], value)  # it is read, so loaded
                 (data,) = self.files()
-                kinds = {"dbm.gnu": "GDBM", "dbm.ndbm": "Berkeley DB", "dbm.sqlite3": "SQLite"}
-                self.check(data, kinds[name], is_evil)
+                self.check(data, SHELVES[name], is_evil)
                 for path in self.folder.iterdir():
                     path.unlink()
 

@@ -183,7 +183,7 @@ def _fronts(tests: Any) -> List[bytes]:
 def fault(module: Path) -> str:
     """Where they differ, or nothing. The page may stop later than all readers do."""
     from storklocker.scanning.called import why_of
-    from storklocker.scanning.lenient import followed_from
+    from storklocker.scanning.reaching import followed_from
     from storklocker.scanning.names import named_today, pair_of
     from storklocker.scanning.source import in_memory
 

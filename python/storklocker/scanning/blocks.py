@@ -15,7 +15,7 @@ from typing import TYPE_CHECKING, Dict, Iterable, Iterator, List, Optional, Sequ
 from .._storklocker import begun, blanked, wholes
 from .budget import Budget
 from .dangers import is_harmful, is_suspect, suspect_heads
-from .patterns import LETTER, masks_of
+from .patterns import ANY, LETTER, NUL, masks_of
 from .source import Source
 from .trails import TEXT_FRONTS, Trails, texts_at
 from .value_letters import runs_in
@@ -64,17 +64,21 @@ _Part = Tuple[int, int]
 _Parts = Tuple[List[int], List[int]]
 """Where parts begin, and where they end."""
 _STACK_GLOBAL = b"\x93"
+FRAME = b"\x95"
+_FRAME = (FRAME, *[ANY] * 4, *[NUL] * 4)
+_PROTO_4 = re.compile(rb"\x80[\4\5]\x95")
+"""A frame is no front where PROTO is in front of it."""
 _NONE = (1 << 99, 1 << 99)
 
 
 @functools.lru_cache(maxsize=None)
 def _front_masks() -> bytes:
-    """What finds PROTO, the front of a dict or a list, the second line of an import, and
+    """What finds PROTO and FRAME, the front of a dict or a list, the second line of an import, and
     STACK_GLOBAL.
     """
     protocols = bytes(range(6))
     return masks_of(
-        [(b"\x80", protocols)], [(b"(", b"dl")], [(b"\n", LETTER)], [(_STACK_GLOBAL,)]
+        [(b"\x80", protocols), _FRAME], [(b"(", b"dl")], [(b"\n", LETTER)], [(_STACK_GLOBAL,)]
     )
 
 
@@ -99,6 +103,7 @@ class Block:
         self._is_hiding = is_hiding
         self._harmless: Dict["Names", bool] = {}
         found, empty, lines, globals_ = begun(data, _front_masks(), [], [])
+        found = [at for at in found if data[at] == 128 or not _PROTO_4.match(data, max(at - 2, 0))]
         found += [at for at in empty if _EMPTY.match(data, at)]
         lines = [at for at in lines if _NAME.match(data, at + 1)]
         found += _imports_shown(data, (lines, globals_))

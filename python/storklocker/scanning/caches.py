@@ -8,7 +8,7 @@ from typing import TYPE_CHECKING, Iterable
 from .._reasons import Reason
 from .blocks import is_harmful_pair
 from .budget import Budget
-from .lenient import followed_from
+from .reaching import followed_from
 from .marks import TIME
 from .names import NOTHING, WIDEST, imports_within, named_today, verdict_at
 from .readings import Found, Place

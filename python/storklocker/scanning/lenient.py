@@ -59,17 +59,6 @@ class Followed(NamedTuple):
         return bool(self.names) or is_whole or not self.is_complete
 
 
-def followed_from(source: Source, at: int, is_open: bool = False) -> Followed:
-    """Follows the pickle that begins at a place; or, if it is open, one that began in front of it.
-    """
-    walk = Walk(source, at, is_open)
-    is_ended, is_complete = walk.through()
-    is_complete &= not walk.is_misread
-    return Followed(
-        walk.names, is_ended, walk.at, is_complete, walk.steps, walk.has_numbered, walk.is_misread
-    )
-
-
 class Walk(Spelled):
     """Follows a pickle. Who looks for more in it derives a class, with other `acts`."""
 

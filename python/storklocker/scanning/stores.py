@@ -19,13 +19,13 @@ from typing import (
 from .._answers import Verdict
 from .._reasons import Reason
 from .blocks import (
-    FIRST, LONGEST, PROTO, Block, blocks, is_harmful_pair, joined_parts, shown_in
+    FIRST, FRAME, LONGEST, PROTO, Block, blocks, is_harmful_pair, joined_parts, shown_in
 )
 from .budget import LOOKED_AT, STEP, Budget
 from .dangers import may_be_imported, may_be_there
 from .marks import HDF5, LMDB
 from .names import NOTHING, imports_within, verdict_on
-from .reaching import ALL_STOP, reached
+from .reaching import ALL_STOP, reached, reached_within
 from .readings import Found, Piece, Place, Reading, is_text
 from .source import BLOCK, Source, in_memory
 from .spelled import LENGTHS
@@ -252,7 +252,11 @@ class _Imports(NamedTuple):
 
 
 def imports_at(source: Source, at: int, budget: Budget) -> _Imports:
-    """What a pickle there imports; or some of it, if that has PROTO in front or does harm."""
+    """What a pickle there imports; or some of it, if that has PROTO in front or does harm. Of one
+    that began in front of a frame there, what does harm.
+    """
+    if source.read(at, 1) == FRAME:
+        return _framed_at(source, at, budget)
     size = FIRST
     while True:
         data = source.read(at, size)
@@ -273,6 +277,13 @@ def imports_at(source: Source, at: int, budget: Budget) -> _Imports:
     names = {**found.names, **beyond.names}
     end = beyond.end if beyond.is_ended else 0
     return _Imports(found.verdict, names, beyond.is_complete, end)
+
+
+def _framed_at(source: Source, at: int, budget: Budget) -> _Imports:
+    found = reached_within(source, at, budget)
+    budget.spend()
+    harmful = dict.fromkeys(filter(is_harmful_pair, found.names))
+    return _Imports(verdict_on(b""), harmful, True, 0)
 
 
 def is_in_words(source: Source) -> bool:
