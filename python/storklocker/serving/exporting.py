@@ -26,7 +26,7 @@ class Command(NamedTuple):
 
 _EXPLAIN = (sys.executable, "-m", "storklocker", "explain", "--format", "json", "-")
 COMMANDS: Dict[str, Command] = {
-    "json": Command((PROGRAM, "json", "/proc/self/fd/0"), (YES, NO)),
+    "json": Command((str(PROGRAM), "json", "/proc/self/fd/0"), (YES, NO)),
     "explain": Command(_EXPLAIN, (YES, NO, FAULT)),
 }
 """Each by what is asked for it."""
