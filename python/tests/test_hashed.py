@@ -11,7 +11,7 @@ import pickle
 import unittest
 import uuid
 
-from storklocker import AllowList, Guard, Misused, lists
+from storklocker import AllowList, Guard, Misused, Refused, lists
 
 LEVELS, MANY = 10, 60
 VALUES = (
@@ -75,7 +75,7 @@ class Hashed(unittest.TestCase):
         Counted.seen = 0
         try:
             load(data)
-        except Misused:
+        except (Misused, Refused):
             raise
         except Exception:  # (the class refuses what it has hashed or shown)
             pass
@@ -89,7 +89,7 @@ class Hashed(unittest.TestCase):
         guard = Guard(ALLOW)
         for data in attacks(MANY):
             for _ in range(3):  # (a guard learns how to load a pickle)
-                self.assertRaises(Misused, self.seen_by, guard.loads, data)
+                self.assertRaises((Misused, Refused), self.seen_by, guard.loads, data)
                 self.assertEqual(Counted.seen, 0)
 
     def test_honest_ones_load(self):
