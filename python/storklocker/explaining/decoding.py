@@ -6,11 +6,11 @@ from __future__ import annotations
 
 import base64
 import binascii
-import bz2
 import codecs
-import lzma
 import zlib
 from typing import Any, Callable, Dict, List, NamedTuple
+
+from ..scanning.packed import bzip2
 
 LARGEST = 1 << 22
 """The most bytes that something is unpacked or joined to."""
@@ -47,6 +47,12 @@ def _unpacked(make: Callable[[], Any]) -> Callable[..., Any]:
         return _small(make().decompress(data, LARGEST + 1))
 
     return unpack
+
+
+def _lzma() -> Any:
+    import lzma  # (some Pythons lack it)
+
+    return lzma.LZMADecompressor(memlimit=_ROOM)
 
 
 def _zlib(data: bytes, bits: int = 15, *_: Any) -> Any:
@@ -124,8 +130,7 @@ DECODERS: Dict[str, Callable[..., Any]] = {
     "base64.decodebytes": base64.decodebytes, "binascii.unhexlify": binascii.unhexlify,
     "binascii.a2b_hex": binascii.unhexlify, "binascii.a2b_base64": binascii.a2b_base64,
     "zlib.decompress": _zlib, "gzip.decompress": _INFLATED,
-    "bz2.decompress": _unpacked(bz2.BZ2Decompressor),
-    "lzma.decompress": _unpacked(lambda: lzma.LZMADecompressor(memlimit=_ROOM)),
+    "bz2.decompress": _unpacked(bzip2), "lzma.decompress": _unpacked(_lzma),
     "codecs.decode": _decode,
     "codecs.encode": _encode, "codecs.escape_decode": codecs.escape_decode,
     "codecs.latin_1_encode": codecs.latin_1_encode, "codecs.utf_8_decode": codecs.utf_8_decode,
