@@ -193,17 +193,23 @@ def _is_plain(source: Source, at: int, values: Values) -> bool:
 
 def _is_harm(source: Source, at: int, budget: Budget) -> bool:
     """Whether a pickle there imports something that is known to do harm; where an import stands,
-    whether that does. (Each other one has a place of its own.)
+    whether that does. (Each other one has a place of its own.) A frame may not be its first.
     """
-    shown = shown_in(source.read(at, LONGEST), 0)
+    data = source.read(at, LONGEST)
+    shown = shown_in(data, 0)
     budget.spend()
     found = imports_at(source, at, budget).names if shown is None else [shown]
-    return any(map(is_harmful_pair, found))
+    if any(map(is_harmful_pair, found)):
+        return True
+    return data[:1] == FRAME and any(map(is_harmful_pair, reached_within(source, at, budget).names))
 
 
 def _is_found(source: Source, at: int, budget: Budget) -> bool:
     """Whether a pickle begins at a place to which a search comes."""
-    shown = shown_in(source.read(at, LONGEST), 0)
+    data = source.read(at, LONGEST)
+    shown = shown_in(data, 0)
+    if data[:1] == FRAME:
+        return _is_harm(source, at, budget)
     if shown is None:
         return is_pickle(source, at, budget)
     verdict = verdict_on(source.read(at, FIRST))
@@ -252,11 +258,7 @@ class _Imports(NamedTuple):
 
 
 def imports_at(source: Source, at: int, budget: Budget) -> _Imports:
-    """What a pickle there imports; or some of it, if that has PROTO in front or does harm. Of one
-    that began in front of a frame there, what does harm.
-    """
-    if source.read(at, 1) == FRAME:
-        return _framed_at(source, at, budget)
+    """What a pickle there imports; or some of it, if that has PROTO in front or does harm."""
     size = FIRST
     while True:
         data = source.read(at, size)
@@ -277,13 +279,6 @@ def imports_at(source: Source, at: int, budget: Budget) -> _Imports:
     names = {**found.names, **beyond.names}
     end = beyond.end if beyond.is_ended else 0
     return _Imports(found.verdict, names, beyond.is_complete, end)
-
-
-def _framed_at(source: Source, at: int, budget: Budget) -> _Imports:
-    found = reached_within(source, at, budget)
-    budget.spend()
-    harmful = dict.fromkeys(filter(is_harmful_pair, found.names))
-    return _Imports(verdict_on(b""), harmful, True, 0)
 
 
 def is_in_words(source: Source) -> bool:
