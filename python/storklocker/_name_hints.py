@@ -10,23 +10,24 @@ _LONGEST = 64
 
 def hint_of(pair: Tuple[str, str]) -> str:
     """Why not to list a dangerous name, or how to list another one. Empty for a name that is none,
-    which a stranger may have chosen to be printed.
+    or for a long one that no ready-made list has: a stranger may have chosen it to be printed.
     """
     module, name = pair
     words = [*module.split("."), *name.split(".")]
-    is_name = all(word.isascii() and word.isidentifier() for word in words)
-    if not is_name or len(module) + len(name) > _LONGEST:
+    if not all(word.isascii() and word.isidentifier() for word in words):
         return ""
-    from ._purposes import known_of
+    from ._purposes import known_of, said_of
     from .scanning.dangers import danger_of  # (reading its table takes a while)
 
+    said = said_of(pair)
+    if not said and len(module) + len(name) > _LONGEST:
+        return ""
     danger = danger_of(pair)
     if danger:
-        return f"{danger} Don't list it"
+        return f"{danger} Don't list it" + (f": a substitute {said}" if said else "")
     named = f"{module}:{name}" if "." in name else f"{module}.{name}"
-    known = known_of(pair)
-    more = f"{known}; " if known else ""
-    return f"{more}to permit it: storklocker list add LIST {named}"
+    known = f"{known_of(pair)}; " if said else ""
+    return f"{known}to permit it: storklocker list add LIST {named}"
 
 
 def origin_of(context: Any) -> str:

@@ -33,16 +33,23 @@ def _purposes() -> Dict[str, str]:
 
 def purpose_of(pair: Pair) -> str:
     """What a name of a ready-made list is for, such as `makes time zones`; empty if none has it."""
-    if pair not in _held():
+    own = _today(pair)
+    if own not in _held():
         return ""
-    words, rows = ".".join(pair).split("."), _purposes()
+    words, rows = ".".join(own).split("."), _purposes()
     fronts = (".".join(words[:count]) for count in range(len(words), 0, -1))
     return next((rows[front] for front in fronts if front in rows), "")
 
 
+def _today(pair: Pair) -> Pair:
+    """The name that a list has today, where protocols 0 to 2 write another."""
+    own = _names.renamed(pair)
+    return own if own in _held() else pair
+
+
 def lists_with(pair: Pair) -> List[str]:
     """The ready-made lists that have a name, as a command takes them."""
-    return _held().get(pair, [])
+    return _held().get(_today(pair), [])
 
 
 @functools.lru_cache(maxsize=64)
@@ -55,8 +62,14 @@ def _version_of(package: str, word: str) -> str:
 
 def known_of(pair: Pair) -> str:
     """What is known of a name that isn't on a list; empty if no ready-made list has it."""
+    said = said_of(pair)
+    return f"{'.'.join(_today(pair))} isn't on the list. It {said}" if said else ""
+
+
+def said_of(pair: Pair) -> str:
+    """What a name is for, and which ready-made lists have it; empty if none has."""
     try:
-        own = pair if lists_with(pair) else _names.renamed(pair)
+        own = _today(pair)
         held, what = lists_with(own), purpose_of(own)
         if not held or not what:
             return ""
@@ -65,4 +78,4 @@ def known_of(pair: Pair) -> str:
         return ""
     *first, last = held if len(held) <= _MOST else [*held[:_MOST], f"{len(held) - _MOST} more"]
     named = f"{', '.join(first)} and {last}" if first else last
-    return f"{'.'.join(own)} isn't on the list. It {what}{version}, and is in {named}"
+    return f"{what}{version}, and is in {named}"

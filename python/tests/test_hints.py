@@ -4,11 +4,18 @@ import base64
 import gzip
 import io
 import pickle
+import re
 import unittest
 import zlib
 
 import storklocker
-from storklocker import Guard, Limits
+from storklocker import AllowList, Guard, Limits, lists
+from storklocker._name_hints import hint_of
+from storklocker._names import renamed
+from storklocker._purposes import said_of
+from storklocker.explaining.judged import MOST
+from storklocker.scanning.dangers import list_findings
+from storklocker.scanning.severity import DANGER, UNKNOWN
 
 NOTHING = storklocker.AllowList([])
 SURROGATE = pickle.dumps("\ud800", 4)
@@ -114,8 +121,6 @@ class Hints(unittest.TestCase):
             self.assertIn("(the text has a lone surrogate", reports[0].why)
 
     def test_lint_names_what_permits_nothing(self):
-        from storklocker.scanning.dangers import list_findings
-
         allow = storklocker.AllowList({"os": ["*"], "numpy.*": ["array"], "collections": ["deque"]})
         found = [(it.kind, it.name) for it in list_findings(allow)]
         self.assertEqual(found, [("wildcard", "numpy.*.array"), ("wildcard", "os.*")])
@@ -125,6 +130,55 @@ class Hints(unittest.TestCase):
 
         text = "\n".join([*Learned().lines(), "[limits]", "stack = 9"])
         self.assertEqual(storklocker.AllowList.from_text(text).limits.stack, 9)
+
+
+class Names(unittest.TestCase):
+    """What is said of a name that a ready-made list has, whoever asks."""
+
+    def setUp(self):
+        self.lists = {word: AllowList.shipped(word.lstrip("@")) for word in lists.words()}
+
+    def named(self, pair):
+        """The name, what it is for, and the lists that have it."""
+        today = ".".join(renamed(pair))
+        return rf"{re.escape(today)} isn't on the list\. It (is|makes|tells|finds|stands) [^:]+, "
+
+    def test_a_refusal_says_what_each_is_for(self):
+        for word, allow in self.lists.items():
+            for pair in allow:
+                said = hint_of(pair)
+                if renamed(pair) == ("builtins", "getattr"):
+                    self.assertRegex(said, "Don't list it: a substitute finds .* is in @enum$")
+                    continue
+                self.assertRegex(said, self.named(pair) + "and is in @")
+                is_told = word in said or re.search(r"and \d+ more; ", said)
+                self.assertTrue(is_told, f"{word}: {said}")
+
+    def test_no_list_has_it(self):
+        """The control, and names of a stranger's, which aren't printed."""
+        self.assertEqual(hint_of(("shop", "Order")),
+                         "to permit it: storklocker list add LIST shop.Order")
+        for pair in (("shop", "a" * 61), ("shop", "a b"), ("shop", "\x1b[1m")):
+            self.assertEqual(hint_of(pair), "", pair)
+
+    def test_lint_has_nothing_to_say_of_any(self):
+        for word, allow in self.lists.items():
+            self.assertEqual(list_findings(allow), [], word)
+        for name, severity in (("shop.Order", UNKNOWN), ("os.system", DANGER)):
+            found = list_findings(AllowList([tuple(name.split("."))]))
+            self.assertEqual([it.severity for it in found], [severity])  # (the control)
+
+    def test_explain_says_it_too(self):
+        pairs = sorted({renamed(pair) for allow in self.lists.values() for pair in allow})
+        count = 0
+        for at in range(0, len(pairs), MOST):
+            chunk = pairs[at : at + MOST]
+            data = b"".join(f"c{module}\n{name}\n0".encode() for module, name in chunk) + b"N."
+            said = str(storklocker.explain(data))
+            for pair in chunk:
+                row = f"    {'.'.join(pair)}  harmless: It {said_of(pair)}."
+                count += row in said
+        self.assertEqual(count, len(pairs) - 1)  # (getattr isn't harmless)
 
 
 if __name__ == "__main__":

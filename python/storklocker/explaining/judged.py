@@ -4,6 +4,7 @@ from __future__ import annotations
 
 from typing import Any, Dict, Iterable, List, NamedTuple, Tuple
 
+from .._purposes import said_of
 from ..scanning.dangers import judged
 from ..scanning.known import HARMLESS
 from ..scanning.report import shown
@@ -29,7 +30,12 @@ class Name(NamedTuple):
     def line(self) -> str:
         """What is known of it."""
         word = Word.DANGEROUS.value if self.severity == DANGER else self.severity
-        return f"{word}: {self.why}" if self.why and self.severity != HARMLESS else word
+        return f"{word}: {self.why}" if self.why else word
+
+    @property
+    def note(self) -> str:
+        """What stands beside a statement: of a harmless name, not what it is for."""
+        return self.severity if self.severity == HARMLESS else self.line
 
 
 def row_of(it: Node) -> Name:
@@ -43,7 +49,13 @@ def row_of(it: Node) -> Name:
     if row is None:
         return Name(dotted, UNKNOWN, "Nobody has judged what a pickle can do with it.")
     is_harmless = it.severity == HARMLESS  # (here, whatever else it may do)
-    return Name(dotted, it.severity, "" if is_harmless else row.why)
+    return Name(dotted, it.severity, _purpose(module, name) if is_harmless else row.why)
+
+
+def _purpose(module: str, name: str) -> str:
+    """What a name of a ready-made list is for, as a refusal says it."""
+    said = said_of((module, name))
+    return f"It {said}." if said else ""
 
 
 def names_in(events: Iterable[Node]) -> Tuple[List[Name], int]:

@@ -119,7 +119,7 @@ def is_bad(it: Node) -> bool:
 
 def _line(it: Statement, opener: Opener) -> Line:
     is_named = it.event.kind == IMPORT or it.event.kind in HIDDEN
-    note = row_of(it.event).line if is_named else ""
+    note = row_of(it.event).note if is_named else ""
     opened = tuple(opener.lines(it.event)) if is_bad(it.event) else ()
     return Line(it.at, "".join(it.pieces), it.event.severity, note, opened)
 
