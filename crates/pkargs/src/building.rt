@@ -1,11 +1,11 @@
-//! The command line, as `clap` is told of it.
+//! The command line, as `clap` gets it.
 ghost use Rattle.std.specs.Prelude.{◌≡◌, IfOk, IsOkAnd, false};
 ghost use Rattle.clap.specs.Words.{AddsArg, AddsSubcommand, app_of, rule_of};
 ghost use Rattle.pkargs.specs.Command.{IsCheck, IsLocal, IsOldRule, IsProgram, all_rule};
 ghost use Rattle.pkargs.specs.Command.{allow_rule, bare_app, bill_rule, file_app, file_rule};
 ghost use Rattle.pkargs.specs.Command.{one_rule, optimize_app, out_rule};
 
-use crate::help::{IMPORTS, JSON, LINES, OPTIMIZED, STATUSES, VERSION};
+use crate::help::{CHECKED, IMPORTS, JSON, LINES, OPTIMIZED, STATUSES, VERSION};
 use clap::{Arg, ArgAction, Command};
 use std::alloc::{AllocError, Global};
 
@@ -17,8 +17,8 @@ pub fn program<'a>(alloc: Global) -> Result<Command<'a>, AllocError>
     ensures { IfOk result (λ command. IsProgram (app_of command)) }
 {
     let dis = file_command(alloc, "dis", "Lists the instructions of a pickle", LINES);
-    let imports = file_command(alloc, "imports", "Lists what a pickle imports", IMPORTS);
-    let json = file_command(alloc, "json", "Writes a plain pickle as JSON", JSON);
+    let imports = file_command(alloc, "imports", "Lists the imports of a pickle", IMPORTS);
+    let json = file_command(alloc, "json", "Converts a plain pickle to JSON", JSON);
     let program = with_subcommand(Ok(bare_program(alloc)), dis);
     let program = with_subcommand(program, check_command(alloc));
     let program = with_subcommand(program, imports);
@@ -43,7 +43,7 @@ fn bare_program<'a>(alloc: Global) -> Command<'a>
     ensures { app_of result ≡ bare_app }
 {
     Command::new(alloc, "pktool")
-        .about("Says which names a pickle would import, before anything opens it")
+        .about("Shows which names a pickle would import, without loading it")
         .version(VERSION)
         .after_help(STATUSES)
         .subcommand_required(true)
@@ -70,7 +70,8 @@ fn check_command<'a>(alloc: Global) -> Result<Command<'a>, AllocError>
     ensures { IfOk result IsCheck }
 {
     let command = Command::new(alloc, "check")
-        .about("Says whether a pickle imports listed names alone, and cannot go wrong")
+        .about("Checks that a pickle is well formed and imports only listed names")
+        .after_help(CHECKED)
         .arg(allow_option(alloc));
     let command = with_argument(command, old_option(alloc));
     let command = with_argument(command, all_flag(alloc));
@@ -107,7 +108,7 @@ fn old_option<'a>(alloc: Global) -> Arg<'a>
 {
     Arg::new(alloc, "OBJECT")
         .long("old-strings")
-        .help("What a string of Python 2 becomes: anything, a text where it is ASCII, or bytes")
+        .help("How the loader decodes Python 2 strings: in any way, as ASCII text, or as bytes")
         .value_parser(OLD_WORDS.as_slice())
         .default_value("unknown")
 }
@@ -119,18 +120,18 @@ fn all_flag<'a>(alloc: Global) -> Arg<'a>
 {
     Arg::new(alloc, "all")
         .long("all")
-        .help("Checks each of the pickles that stand one after the other in FILE")
+        .help("Checks every pickle in FILE, up to its end")
         .action(ArgAction::SetTrue)
 }
 
-/// `--one-unpickler`, which is of use with `--all` alone.
+/// `--one-unpickler`, which requires `--all`.
 fn one_flag<'a>(alloc: Global) -> Arg<'a>
     ensures rule { rule_of result ≡ one_rule }
     ensures local { result.global ≡ false }
 {
     Arg::new(alloc, "one-unpickler")
         .long("one-unpickler")
-        .help("Checks them as one pickle.Unpickler loads them, which keeps its memo")
+        .help("With --all, for a loader that reads them with one Unpickler, which keeps its memo")
         .action(ArgAction::SetTrue)
 }
 
@@ -141,7 +142,7 @@ fn bill_flag<'a>(alloc: Global) -> Arg<'a>
 {
     Arg::new(alloc, "bill")
         .long("bill")
-        .help("Says what loading costs: what keys weigh, and the memory")
+        .help("Reports what loading costs: the weight of the keys, and memory")
         .action(ArgAction::SetTrue)
 }
 
@@ -158,7 +159,7 @@ fn optimize_command<'a>(alloc: Global) -> Result<Command<'a>, AllocError>
     ensures { IfOk result (IsLocal optimize_app) }
 {
     let command = Command::new(alloc, "optimize")
-        .about("Writes a pickle anew in fewer bytes")
+        .about("Rewrites a pickle in fewer bytes")
         .after_help(OPTIMIZED)
         .arg(file_argument(alloc));
     with_argument(command, out_argument(alloc))
@@ -170,6 +171,6 @@ fn out_argument<'a>(alloc: Global) -> Arg<'a>
     ensures local { result.global ≡ false }
 {
     Arg::new(alloc, "OUT")
-        .help("The file that becomes its optimized form")
+        .help("Where to write the optimized pickle")
         .required(true)
 }

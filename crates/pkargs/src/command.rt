@@ -17,8 +17,8 @@ use std::alloc::{AllocError, Global};
 /// # Errors
 ///
 /// `Asked` if the command line asks for the help or the version; `Invalid` if it has no job;
-/// `OutOfMemory` if an allocation was refused. A command line that has a job is refused for want of
-/// memory alone.
+/// `OutOfMemory` if an allocation was refused. A command line that has a job is refused only if
+/// memory runs out.
 pub fn command_of(alloc: Global, words: &[&str]) -> Result<Job, Usage>
     ensures job { IfOk result (AsksForJob (map (λ word. word.now) words.now)) }
     ensures none { IfErr result (λ usage. (usage ≡ OutOfMemory)
@@ -47,5 +47,5 @@ fn parsed(alloc: Global, words: &[&str]) -> Result<Job, clap::Error>
 /// no job.
 fn no_row(alloc: Global) -> Result<clap::Error, AllocError> {
     let kind = ErrorKind::MissingRequiredArgument;
-    program(alloc)?.error(kind, "--one-unpickler is of use with --all alone")
+    program(alloc)?.error(kind, "--one-unpickler requires --all")
 }

@@ -28,7 +28,7 @@ pub enum Job {
         old: OldStrings,
         /// Which pickles of FILE are checked.
         pickles: Pickles,
-        /// With `--bill`: what loading the last of them costs is told too.
+        /// With `--bill`: what loading the last of them costs is reported too.
         bill: bool,
         /// The path of the pickle.
         file: String,

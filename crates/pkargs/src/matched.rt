@@ -36,7 +36,7 @@ pub fn job_of(alloc: Global, matches: &ArgMatches) -> Result<Option<Job>, AllocE
     Ok(None)
 }
 
-/// What was matched behind a subcommand, if that is the one found.
+/// The matches of a subcommand, if that is the one found.
 fn values_in<'m, 'a>(matches: &'m ArgMatches<'a>, name: &str) -> Option<&'m ArgMatches<'a>>
     ensures some { IfSome result (λ values.
         subcommand_rows_of matches.now ≡ Some (name.now, rows_of (found_of values.now))) }

@@ -11,8 +11,8 @@ from typing import Sequence
 
 COMMANDS = {
     "dis": "lists the instructions of a pickle",
-    "json": "writes a plain pickle as JSON",
-    "optimize": "writes a pickle anew in fewer bytes",
+    "json": "converts a plain pickle to JSON",
+    "optimize": "rewrites a pickle in fewer bytes",
 }
 """What each does. The program reads their arguments, and prints their help."""
 PROGRAM = Path(__file__).resolve().parent.parent / "pktool"
@@ -24,9 +24,9 @@ def add_command(
 ) -> None:
     """Adds a command to those that the help, the manual page and completions show."""
     it = commands.add_parser(name, help=COMMANDS[name])
-    it.add_argument("file", metavar="FILE", help="the pickle; /dev/stdin reads a pipe")
+    it.add_argument("file", metavar="FILE", help="the pickle; /dev/stdin to read a pipe")
     if name == "optimize":
-        it.add_argument("out", metavar="OUT", help="the file that becomes its optimized form")
+        it.add_argument("out", metavar="OUT", help="where to write the optimized pickle")
 
 
 def become_program(words: Sequence[str]) -> int:

@@ -30,10 +30,11 @@ fifth parser = with_rule (fourth parser) bill_rule
 
 pub returns : goal.returns
 returns c =
-    let named = ap app_of_fields c.about.ensures ∙ c.new.ensures.app in
-    let none = ap globals c.about.ensures ∙ c.new.ensures.local in
+    let named = ap app_of_fields c.after_help.ensures ∙ ap app_of_fields c.about.ensures
+    ∙ c.new.ensures.app in
+    let none = ap globals c.after_help.ensures ∙ ap globals c.about.ensures ∙ c.new.ensures.local in
     let allow = IfOk-weaker c.arg-command.result _ (IsLocal first)
-    (λ r h. argued c.about.result r c.allow_option.result bare allow_rule (named, none)
+    (λ r h. argued c.after_help.result r c.allow_option.result bare allow_rule (named, none)
     c.allow_option.ensures.rule c.allow_option.ensures.local h) c.arg-command.ensures in
     let parser = c.old_option.ensures.rule.0 in
     let old = argued_if c.with_argument-command.result c.arg-command.result c.old_option.result
