@@ -25,6 +25,8 @@ mod numbered;
 #[cfg(test)]
 mod old_strings;
 #[cfg(test)]
+mod paths;
+#[cfg(test)]
 mod printed;
 #[cfg(test)]
 mod readers;
