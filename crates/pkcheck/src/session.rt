@@ -11,7 +11,8 @@ ghost use Rattle.pkread.specs.Pieces.{number_of, role_of};
 ghost use Rattle.pkread.specs.ReaderCalls.{KeepsSource, TakesNoneAhead, has_ended, state};
 ghost use Rattle.pkread.specs.Rows.{all_bytes};
 ghost use Rattle.pkmachine.specs.Policies.{permit_of};
-ghost use Rattle.pkcheck.specs.Private.Judgement.{BothGoOn, HasLength, IsNoAt, IsRefused};
+ghost use Rattle.pkmachine.specs.Following.{HasLength};
+ghost use Rattle.pkcheck.specs.Private.Judgement.{BothGoOn, IsNoAt, IsRefused};
 ghost use Rattle.pkcheck.specs.Private.Lent.{FailsAtHand, FailsInTurn, HearsAlong, HearsInTurn};
 ghost use Rattle.pkcheck.specs.Private.Lent.{HearsRefused, HearsTurned, heard_before};
 ghost use Rattle.pkmachine.specs.View.{moved_apart, restarted};
@@ -277,7 +278,7 @@ impl<D: Domain> Session<D> {
             self.new.machine reason) }
     {
         self.frames.take(op, length, 0)?;
-        self.machine.step_passed_by(op, policy)?;
+        self.machine.step_passed_by(op, length, policy)?;
         Ok(())
     }
 

@@ -1,5 +1,5 @@
 -- Worked examples of what a domain carries, by computation.
-use Rattle.std.proofs.Common.{◌≡◌, ℕ, suc, ◌+◌, List, [], ◌∷◌, Ok, Err, refl}
+use Rattle.std.proofs.Common.{◌≡◌, ℕ, suc, ◌+◌, ◌*◌, List, [], ◌∷◌, Ok, Err, refl}
 use Rattle.std.specs.List.{sum}
 use Rattle.pkops.specs.Spelling.{Counted, Instruction, Nothing, Number, instruction}
 use Rattle.pkops.specs.declared.Op.{Op}
@@ -9,12 +9,13 @@ use Rattle.pkmachine.specs.declared.memo.Memo.TheVariants.{Fresh, Kept}
 use Rattle.pkmachine.specs.Following.{Carried, Follower, carried_on, followed}
 
 -- an object's item is one more than the sum of those that it is made of; the domain counts
--- operations, and moves by the hundred
+-- operations, moves by the hundred, the objects in the memo before them by the thousand, and STOP
 abbrev sums : Follower ℕ ℕ
 sums = record {
   given = λ count i items. suc (sum items);
   after = λ count i items. suc count;
-  after_move = λ count move i. 100 + count;
+  after_move = λ count move kept i. 1000 * kept + (100 + count);
+  after_stop = λ count. 5000 + count;
 }
 
 abbrev bare : Op → Instruction
@@ -62,8 +63,15 @@ pub stored : followed sums (instruction op.BinPut (Number 1 9)) (carries (Item 4
     ≡ Ok (remembered 103)
 stored = refl
 
--- STOP takes the result; the domain doesn't hear of it
-pub stopped : followed sums (bare op.Stop) (carries (Item 4 ∷ []) 3) ≡ Ok (carries [] 3)
+-- the domain hears how many objects were in the memo before a move
+pub counted : followed sums (bare op.Memoize) (remembered 3) ≡ Ok (record {
+  shape = record { entries = Item 4 ∷ []; memo = (1, 4) ∷ (9, 4) ∷ [] };
+  domain = 1103;
+})
+counted = refl
+
+-- STOP takes the result, and the domain hears of it
+pub stopped : followed sums (bare op.Stop) (carries (Item 4 ∷ []) 3) ≡ Ok (carries [] 5003)
 stopped = refl
 
 -- with a fresh memo the next pickle begins with nothing, with a kept one with the memo

@@ -1,7 +1,7 @@
 -- What an instruction does to entries and the memo, it does to the items in them.
 use Rattle.std.proofs.Common.{◌≡◌, ◌∙◌, ℕ, List, [], ◌∷◌, ◌++◌, map, Option, Some, None}
-use Rattle.std.proofs.Common.{Result, Ok, Err, option_map, refl, sym, ap, subst}
-use Rattle.std.proofs.lemmas.List.{map-append}
+use Rattle.std.proofs.Common.{Result, Ok, Err, length, option_map, refl, sym, ap, subst}
+use Rattle.std.proofs.lemmas.List.{length-map, map-append}
 use Rattle.pkops.specs.Operands.{memo_number}
 use Rattle.pkops.specs.Spelling.{Instruction}
 use Rattle.pkstack.specs.declared.Move.{Move}
@@ -112,12 +112,18 @@ operation_follows follows takes names gives i memo old new was is t v found left
       domain = sym after j;
     }))
 
+-- as many objects are in the memo as items
+kept_items : {I : Type 0} (memo : List (ℕ × Held I)) → length (items_in memo) ≡ length memo
+kept_items memo = length-map memo _
+
 -- the domain follows a move
 pub move_follows : {I D : Type 0} (follows : Follower I D) (m : Move) (i : Instruction)
-    (old new : Shape (Held I)) (was is : D) → is ≡ follows.after_move was m i
+    (old new : Shape (Held I)) (was is : D)
+    → is ≡ follows.after_move was m (length old.memo) i
     → moved m (memo_number i) old ≡ Ok new
     → move_followed follows m i (record { shape = shape_of old; domain = was })
     ≡ Ok (record { shape = shape_of new; domain = is })
 move_follows follows m i old new was is after e =
     rw (moved_items m (memo_number i) old new e)
-    (ap (λ d. Ok (record { shape = shape_of new; domain = d })) (sym after))
+    (ap (λ d. Ok (record { shape = shape_of new; domain = d }))
+    (sym (after ∙ ap (λ kept. follows.after_move was m kept i) (sym (kept_items old.memo)))))

@@ -8,5 +8,6 @@ pub mod CoveredStep
 pub mod SkippedPayloads
 pub mod Operations
 pub mod PushedObjects
+pub mod FollowedKnowledge
 pub mod Replaced
 pub mod Longest

@@ -12,6 +12,7 @@ pub mod View
 pub mod Texts
 pub mod Memory
 pub mod Following
+pub mod FollowedKnowledge
 pub mod Step
 -- laws of these definitions
 pub mod AlikeLaws

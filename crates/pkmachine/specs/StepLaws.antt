@@ -9,6 +9,7 @@ use Rattle.pkstack.specs.Shape.{marks_of}
 use Rattle.pkmachine.specs.declared.old_strings.OldStrings.{OldStrings}
 use Rattle.pkmachine.specs.Covers.{Covers, CoversBy, Follows}
 use Rattle.pkmachine.specs.Faults.{AsksForTwo, HasNoFault, IsFirstFault}
+use Rattle.pkmachine.specs.FollowedKnowledge.{KnowledgeIsFollowed}
 use Rattle.pkmachine.specs.Knowledge.{Knowledge, Policy, Progress, Refusal, advance, reason_of}
 use Rattle.pkmachine.specs.RowRuns.{Beginning, RunsFrom}
 use Rattle.pkmachine.specs.Runs.{State, Outcome, step_as}
@@ -70,6 +71,8 @@ pub record StepLaws : Type 0 where
       → advance setting policy limits instruction known ≡ Err refusal
       → IsFirstFault policy limits (RunsFrom setting beginning before) instruction
       (reason_of refusal) (off_pair refusal)
+  -- after an accepted instruction the checker knows what a domain carries
+  pub followed : KnowledgeIsFollowed
   -- a covered state has as many marks as are known
   pub marks : (known : Knowledge) (state : State)
       → Covers known state

@@ -14,7 +14,7 @@ ghost use Rattle.pkmachine.specs.Knowledge.{nothing_known};
 ghost use Rattle.pkmachine.specs.Policies.{permit_of, policy_of};
 ghost use Rattle.pkimport.specs.Import.{asked_shown, pair_shown};
 ghost use Rattle.pkops.specs.Payloads.{is_passed};
-ghost use Rattle.pkmachine.specs.Following.{carried_on, followed, nothing_carried};
+ghost use Rattle.pkmachine.specs.Following.{HasLength, carried_on, followed, nothing_carried};
 ghost use Rattle.pkmachine.specs.Step.{IsStep};
 ghost use Rattle.pkmachine.specs.Texts.{texts_then};
 ghost use Rattle.pkmachine.specs.View.{fresh, has_off_list, moved_apart, restarted, stopped_by};
@@ -93,6 +93,26 @@ impl Machine<Nothing> {
         ensures covers { Covers result.view.knowledge start }
     {
         Machine::followed(alloc, limits, old_strings, Nothing)
+    }
+
+    /// Steps over an instruction whose payload was skipped. Returns what [`Machine::step`] returns
+    /// for any instruction with this opcode. No step may follow STOP.
+    ///
+    /// # Errors
+    ///
+    /// `TooLarge` if the stack would exceed its limit; `OutOfMemory` if an allocation was refused.
+    pub fn step_passed(&mut self, op: Op, policy: &Policy) -> Result<Moved, Reason>
+        requires passed { IsTrue (is_passed op) }
+        requires running { self.old.view.stopped ≡ false }
+        ensures step { (instruction : Instruction) → instruction.op ≡ op
+            → IsStep (policy_of policy.now) instruction self.old.view self.new.view
+            result }
+        ensures goes_on { IfOk result (λ moved. (moved ≡ Moved.On)
+            × (self.new.view.stopped ≡ false)) }
+        ensures imports { self.new.view.imports ≡ self.old.view.imports }
+    {
+        // Whoever keeps nothing asks for no length.
+        self.step_passed_by(op, 0, &Permit::By(*policy))
     }
 }
 
@@ -176,35 +196,20 @@ impl<D: Domain> Machine<D> {
         }
     }
 
-    /// Steps over an instruction whose payload was skipped. Returns what [`Machine::step`] returns
-    /// for any instruction with this opcode. No step may follow STOP.
-    ///
-    /// # Errors
-    ///
-    /// `TooLarge` if the stack would exceed its limit; `OutOfMemory` if an allocation was refused.
-    pub fn step_passed(&mut self, op: Op, policy: &Policy) -> Result<Moved, Reason>
-        requires passed { IsTrue (is_passed op) }
-        requires running { self.old.view.stopped ≡ false }
-        ensures step { (instruction : Instruction) → instruction.op ≡ op
-            → IsStep (policy_of policy.now) instruction self.old.view self.new.view
-            result }
-        ensures carried { (instruction : Instruction) → instruction.op ≡ op
-            → OnOk result (followed D.follows instruction self.old.carried ≡ Ok self.new.carried) }
-        ensures goes_on { IfOk result (λ moved. (moved ≡ Moved.On)
-            × (self.new.view.stopped ≡ false)) }
-        ensures imports { self.new.view.imports ≡ self.old.view.imports }
-    {
-        self.step_passed_by(op, &Permit::By(*policy))
-    }
-
-    /// Steps as [`Machine::step_passed`] does, whatever permits the imports.
-    pub fn step_passed_by(&mut self, op: Op, policy: &Permit) -> Result<Moved, Reason>
+    /// Steps as [`Machine::step_passed`] does over an instruction of `count` bytes, whatever permits
+    /// the imports.
+    pub fn step_passed_by(
+        &mut self,
+        op: Op,
+        count: u64,
+        policy: &Permit,
+    ) -> Result<Moved, Reason>
         requires passed { IsTrue (is_passed op) }
         requires running { self.old.view.stopped ≡ false }
         ensures step { (instruction : Instruction) → instruction.op ≡ op
             → IsStep (permit_of policy.now) instruction self.old.view self.new.view
             result }
-        ensures carried { (instruction : Instruction) → instruction.op ≡ op
+        ensures carried { (instruction : Instruction) → HasLength instruction op count
             → OnOk result (followed D.follows instruction self.old.carried ≡ Ok self.new.carried) }
         ensures goes_on { IfOk result (λ moved. (moved ≡ Moved.On)
             × (self.new.view.stopped ≡ false)) }
@@ -216,7 +221,7 @@ impl<D: Domain> Machine<D> {
         }
         match self
             .state
-            .make_passed(&self.config.limits, class_passed(op), op)
+            .make_passed(&self.config.limits, class_passed(op), op, count)
         {
             Ok(()) => Ok(Moved::On),
             Err(reason) => {

@@ -45,6 +45,14 @@ impl From<NotPushed> for Reason {
     }
 }
 
+/// An opcode with the bytes of its payload or line. It stands for the instruction, which would need
+/// a stack slot in every step.
+#[derive(Clone, Copy)]
+struct SpelledBytes<'a> {
+    op: Op,
+    bytes: &'a [u8],
+}
+
 /// Adds a text to the table, and pushes its number. Where a short one finds room, the most frequent
 /// case, nothing is called. Inlined, it would make the loop too large to become one function with
 /// the meter of `pkload`, and each instruction would cost more.
@@ -126,27 +134,25 @@ fn add_pushed_text<I: Item>(
     Ok(())
 }
 
-/// Like `name_text`, for an opcode and its payload. A parameter of type `Inst` would force the
-/// instruction into memory in every step.
+/// Like `name_text`, for an opcode and its payload.
 fn name_payload<I: Item>(
     stack: &mut Stack<I>,
     table: &mut ImportTable,
     item: I,
     config: &MachineConfig,
-    op: Op,
-    payload: &[u8],
+    payload: &SpelledBytes<'_>,
 ) -> Result<(), NotPushed>
-    requires good { IsGood (instruction op (Counted payload.now)) }
+    requires good { IsGood (instruction payload.now.op (Counted payload.now.bytes.now)) }
     requires sees { AreSeen (record { entries = stack.old; table = table.old }) }
     ensures { HasPushedText item config.now.limits.stack
-        (text (instruction op (Counted payload.now)))
+        (text (instruction payload.now.op (Counted payload.now.bytes.now)))
         (record { entries = stack.old; table = table.old })
         (record { entries = stack.new; table = table.new }) (with_reason result) }
 {
-    if is_old_text(op, payload) {
-        return name_text(stack, table, item, &config.limits, payload);
+    if is_old_text(payload.op, payload.bytes) {
+        return name_text(stack, table, item, &config.limits, payload.bytes);
     }
-    name_payload_slowly(stack, table, item, config, op, payload)
+    name_payload_slowly(stack, table, item, config, payload)
 }
 
 /// Whether the payload is a Python 2 string and the text itself.
@@ -168,43 +174,42 @@ fn name_payload_slowly<I: Item>(
     table: &mut ImportTable,
     item: I,
     config: &MachineConfig,
-    op: Op,
-    payload: &[u8],
+    payload: &SpelledBytes<'_>,
 ) -> Result<(), NotPushed>
-    requires good { IsGood (instruction op (Counted payload.now)) }
+    requires good { IsGood (instruction payload.now.op (Counted payload.now.bytes.now)) }
     requires sees { AreSeen (record { entries = stack.old; table = table.old }) }
     ensures { HasPushedText item config.now.limits.stack
-        (text (instruction op (Counted payload.now)))
+        (text (instruction payload.now.op (Counted payload.now.bytes.now)))
         (record { entries = stack.old; table = table.old })
         (record { entries = stack.new; table = table.new }) (with_reason result) }
 {
-    let inst = Inst::known(op, Arg::Counted(payload));
+    let inst = Inst::known(payload.op, Arg::Counted(payload.bytes));
     let Ok(text) = text_spelled(config.alloc, &inst) else {
         return Err(NotPushed::OutOfMemory);
     };
     name_text(stack, table, item, &config.limits, text.as_bytes())
 }
 
-/// Like `name_text`, for an opcode and its line. See `name_payload`.
+/// Like `name_text`, for an opcode and its line.
 #[inline(never)]
 fn name_line<I: Item>(
     stack: &mut Stack<I>,
     table: &mut ImportTable,
     item: I,
     config: &MachineConfig,
-    op: Op,
-    line: &[u8],
+    line: &SpelledBytes<'_>,
 ) -> Result<(), NotPushed>
-    requires good { IsGood (instruction op (Line line.now)) }
+    requires good { IsGood (instruction line.now.op (Line line.now.bytes.now)) }
     requires sees { AreSeen (record { entries = stack.old; table = table.old }) }
-    ensures { HasPushedText item config.now.limits.stack (text (instruction op (Line line.now)))
+    ensures { HasPushedText item config.now.limits.stack
+        (text (instruction line.now.op (Line line.now.bytes.now)))
         (record { entries = stack.old; table = table.old })
         (record { entries = stack.new; table = table.new }) (with_reason result) }
 {
-    if is_text(op, line) {
-        return name_text(stack, table, item, &config.limits, line);
+    if is_text(line.op, line.bytes) {
+        return name_text(stack, table, item, &config.limits, line.bytes);
     }
-    name_line_slowly(stack, table, item, config, op, line)
+    name_line_slowly(stack, table, item, config, line)
 }
 
 /// Whether the line is the text itself and needs no decoding.
@@ -227,16 +232,16 @@ fn name_line_slowly<I: Item>(
     table: &mut ImportTable,
     item: I,
     config: &MachineConfig,
-    op: Op,
-    line: &[u8],
+    line: &SpelledBytes<'_>,
 ) -> Result<(), NotPushed>
-    requires good { IsGood (instruction op (Line line.now)) }
+    requires good { IsGood (instruction line.now.op (Line line.now.bytes.now)) }
     requires sees { AreSeen (record { entries = stack.old; table = table.old }) }
-    ensures { HasPushedText item config.now.limits.stack (text (instruction op (Line line.now)))
+    ensures { HasPushedText item config.now.limits.stack
+        (text (instruction line.now.op (Line line.now.bytes.now)))
         (record { entries = stack.old; table = table.old })
         (record { entries = stack.new; table = table.new }) (with_reason result) }
 {
-    let inst = Inst::known(op, Arg::Line(line));
+    let inst = Inst::known(line.op, Arg::Line(line.bytes));
     let Ok(text) = text_spelled(config.alloc, &inst) else {
         return Err(NotPushed::OutOfMemory);
     };
@@ -264,11 +269,19 @@ pub fn make_text<I: Item>(
             Ok(())
         }
         Arg::Counted(payload) => {
-            name_payload(stack, table, item, config, inst.op(), payload)?;
+            let payload = SpelledBytes {
+                op: inst.op(),
+                bytes: payload,
+            };
+            name_payload(stack, table, item, config, &payload)?;
             Ok(())
         }
         Arg::Line(line) => {
-            name_line(stack, table, item, config, inst.op(), line)?;
+            let line = SpelledBytes {
+                op: inst.op(),
+                bytes: line,
+            };
+            name_line(stack, table, item, config, &line)?;
             Ok(())
         }
         _ => unreachable!(),

@@ -28,7 +28,8 @@ impl Domain for Nothing {
     ghost follows = { record {
       given = λ domain instruction items. record {};
       after = λ domain instruction items. domain;
-      after_move = λ domain what instruction. domain;
+      after_move = λ domain what kept instruction. domain;
+      after_stop = λ domain. domain;
     } };
 
     #[inline(always)]
@@ -37,7 +38,7 @@ impl Domain for Nothing {
     }
 
     #[inline(always)]
-    fn passed(&mut self, _op: Op) -> NoItem {
+    fn passed(&mut self, _op: Op, _count: u64) -> NoItem {
         NoItem
     }
 
@@ -47,5 +48,8 @@ impl Domain for Nothing {
     }
 
     #[inline(always)]
-    fn moved(&mut self, _what: Move, _inst: &Inst<'_>) {}
+    fn moved(&mut self, _what: Move, _kept: u64, _inst: &Inst<'_>) {}
+
+    #[inline(always)]
+    fn stopped(&mut self) {}
 }

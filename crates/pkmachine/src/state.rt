@@ -11,7 +11,8 @@ ghost use Rattle.pkmachine.specs.Private.StepErrors.{pair_of_error, with_item, w
 ghost use Rattle.pkmachine.specs.Private.Spelled.{IsSpelled};
 ghost use Rattle.pkmachine.specs.Private.Items.{with_made_item};
 ghost use Rattle.pkmachine.specs.Following.{carried_on, followed, followed_by, move_followed};
-ghost use Rattle.pkmachine.specs.Following.{nothing_carried, stop_followed};
+ghost use Rattle.pkmachine.specs.Following.{HasLength, is_described, nothing_carried};
+ghost use Rattle.pkmachine.specs.Following.{stop_followed};
 ghost use Rattle.pkmachine.specs.declared.memo.Memo.TheVariants as Memo;
 ghost use Rattle.pkmachine.specs.Runs.{Text, text};
 ghost use Rattle.pkmachine.specs.Policies.{permit_of};
@@ -179,11 +180,18 @@ impl<D: Domain> MachineState<D> {
         )
     }
 
-    /// Pushes a new object of this class, whose payload was skipped.
-    pub fn make_passed(&mut self, limits: &Limits, class: Class, op: Op) -> Result<(), Reason>
+    /// Pushes a new object of this class, which an instruction of `count` bytes makes, whose payload
+    /// was skipped.
+    pub fn make_passed(
+        &mut self,
+        limits: &Limits,
+        class: Class,
+        op: Op,
+        count: u64,
+    ) -> Result<(), Reason>
         ensures ok { OnOk result (self.new.view.knowledge
             ≡ with_made class self.old.view.knowledge) }
-        ensures carried { (i : Instruction) → i.op ≡ op → OnOk result (self.new.carried
+        ensures carried { (i : Instruction) → HasLength i op count → OnOk result (self.new.carried
             ≡ with_made_item D.follows i self.old.carried) }
         ensures room { OnOk result (length self.new.view.knowledge.entries ≤ limits.now.stack) }
         ensures texts { self.new.view.texts ≡ self.old.view.texts }
@@ -192,7 +200,7 @@ impl<D: Domain> MachineState<D> {
         ensures err { IfErr result (WantsRoom limits.now.stack
             (length self.old.view.knowledge.entries)) }
     {
-        let item = self.domain.passed(op);
+        let item = self.domain.passed(op, count);
         self.stack.push(
             limits,
             Held {
@@ -264,7 +272,7 @@ impl<D: Domain> MachineState<D> {
             × IsFaultOf what limits.now (memo_number (instruction_of inst.now))
             (moved what (memo_number (instruction_of inst.now)) self.old.view.knowledge) r) }
     {
-        self.domain.moved(what, inst);
+        self.domain.moved(what, self.memo.len(), inst);
         apply(&mut self.stack, &mut self.memo, limits, what, inst)
     }
 
@@ -273,6 +281,7 @@ impl<D: Domain> MachineState<D> {
     pub fn operate(&mut self, limits: &Limits, op: Op) -> Result<(), Reason>
         requires within { length self.old.view.knowledge.entries ≤ limits.now.stack }
         requires unnamed { IsUnnamed (effect_of op) }
+        requires plain { is_described op ≡ false }
         ensures ok { (p : Pairs) (i : Instruction) → OnOk result (Proceeds
             (learn p (effect_of op) i self.old.view.knowledge) self.new.view.knowledge
             self.old.view.imports self.new.view.imports false) }
@@ -300,6 +309,7 @@ impl<D: Domain> MachineState<D> {
     ) -> Result<bool, StepError>
         requires within { length self.old.view.knowledge.entries ≤ config.now.limits.stack }
         requires operation { IsOperation (effect_of (instruction_of inst.now).op) }
+        requires plain { is_described (instruction_of inst.now).op ≡ false }
         ensures ok { IfOk result (Proceeds (learn (permit_of policy.now)
             (effect_of (instruction_of inst.now).op) (instruction_of inst.now)
             self.old.view.knowledge) self.new.view.knowledge self.old.view.imports
@@ -334,7 +344,8 @@ impl<D: Domain> MachineState<D> {
         ensures ok { OnOk result (stop_learned self.old.view.knowledge.memo
             (top self.old.view.knowledge.entries)
             ≡ Ok (record { after = self.new.view.knowledge; import = None })) }
-        ensures carried { OnOk result (stop_followed self.old.carried ≡ Ok self.new.carried) }
+        ensures carried { OnOk result (stop_followed D.follows self.old.carried
+            ≡ Ok self.new.carried) }
         ensures texts { self.new.view.texts ≡ self.old.view.texts }
         ensures imports { self.new.view.imports ≡ self.old.view.imports }
         ensures room { (length self.new.view.knowledge.entries
@@ -349,6 +360,7 @@ impl<D: Domain> MachineState<D> {
             return Err(Reason::LeftOver);
         }
         self.stack.truncate(0);
+        self.domain.stopped();
         Ok(())
     }
 }

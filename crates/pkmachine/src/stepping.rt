@@ -1,8 +1,8 @@
 //! One step of the machine.
 ghost use Rattle.std.specs.Prelude.{◌≡◌, ◌≤◌, length, option_map, None, Ok};
-ghost use Rattle.std.specs.Prelude.{IfOk, IfErr, OnOk, OnErr};
+ghost use Rattle.std.specs.Prelude.{IfOk, IfErr, OnOk, OnErr, false};
 ghost use Rattle.pkmachine.specs.Effects.{effect_as, effect_of};
-ghost use Rattle.pkmachine.specs.Following.{followed, stop_followed};
+ghost use Rattle.pkmachine.specs.Following.{followed, is_described, stop_followed};
 ghost use Rattle.pkmachine.specs.Knowledge.{stop_learned};
 ghost use Rattle.pkmachine.specs.Private.Actions.{IsOperation};
 ghost use Rattle.pkmachine.specs.Private.Steps.{Advances, HasReadOldString, IsAdvanceFault};
@@ -145,7 +145,8 @@ fn finish<D: Domain>(state: &mut MachineState<D>) -> Result<(), Reason>
     ensures ok { OnOk result (stop_learned state.old.view.knowledge.memo
         (top state.old.view.knowledge.entries)
         ≡ Ok (record { after = state.new.view.knowledge; import = None })) }
-    ensures carried { OnOk result (stop_followed state.old.carried ≡ Ok state.new.carried) }
+    ensures carried { OnOk result (stop_followed D.follows state.old.carried
+        ≡ Ok state.new.carried) }
     ensures texts { state.new.view.texts ≡ state.old.view.texts }
     ensures imports { state.new.view.imports ≡ state.old.view.imports }
     ensures room { (length state.new.view.knowledge.entries
@@ -169,6 +170,7 @@ fn import<D: Domain>(
     off: &mut Option<Asked>,
 ) -> Result<Moved, Reason>
     requires operation { IsOperation (effect_of (instruction_of inst.now).op) }
+    requires plain { is_described (instruction_of inst.now).op ≡ false }
     requires room { FitsLimits config.now.limits state.old.view.knowledge }
     requires none { off.old ≡ None }
     ensures ok { IfOk result (LeadsTo (permit_of policy.now) config.now.limits

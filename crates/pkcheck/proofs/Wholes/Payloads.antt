@@ -16,7 +16,7 @@ use Rattle.pkops.specs.Spelling.{Instruction, spelling}
 use Rattle.pkops.specs.declared.Op.{Op}
 use Rattle.pkops.specs.declared.Op.TheVariants as op
 use Rattle.pkread.specs.Pieces.{number_of, piece_of, role_of}
-use Rattle.pkcheck.specs.Private.Judgement.{HasLength}
+use Rattle.pkmachine.specs.Following.{HasLength}
 use Rattle.pkcheck.specs.Reports.{Skipped, Whole, told_of}
 
 no_frame : (o : Op) (m n : ℕ) → IsTrue (is_passed o) → role_of o m ≡ role_of o n

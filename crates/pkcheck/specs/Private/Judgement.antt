@@ -1,7 +1,6 @@
 -- How one instruction is judged after it was read.
-use Rattle.std.specs.Prelude.{◌≡◌, ℕ, ◌⊎◌, Option, None, Some, length, option_map}
-use Rattle.pkops.specs.Spelling.{Instruction, spelling}
-use Rattle.pkops.specs.declared.Op.{Op}
+use Rattle.std.specs.Prelude.{◌≡◌, ℕ, ◌⊎◌, Option, None, Some, option_map}
+use Rattle.pkops.specs.Spelling.{Instruction}
 use Rattle.pkops.specs.declared.Reason.{Reason}
 use Rattle.pkops.specs.declared.Reason.TheVariants.{BrokenFrame}
 use Rattle.pkread.specs.Framing.{counted}
@@ -23,11 +22,6 @@ pub record IsNoAt (at : ℕ) (reason : Reason) (off : Option Asked) (no : No) : 
   pub place : no.at ≡ at
   pub why : no.reason ≡ reason
   pub pair : option_map asked_shown no.pair ≡ off
-
--- the instruction has this opcode and this length
-pub record HasLength (i : Instruction) (op : Op) (count : ℕ) : Type 0 where
-  pub op_is : i.op ≡ op
-  pub long : length (spelling i) ≡ count
 
 -- the instruction obeys the frame rules, and the machine goes on
 abbrev pub BothGoOn : Policy → Instruction → ℕ → View → ℕ → View → Type 0

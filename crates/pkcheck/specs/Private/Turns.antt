@@ -11,7 +11,8 @@ use Rattle.pkread.specs.Rows.{all_bytes}
 use Rattle.pkread.specs.declared.Head.TheVariants as head
 use Rattle.pkread.specs.declared.Next.TheVariants as next
 use Rattle.pkmachine.specs.Knowledge.{Policy}
-use Rattle.pkcheck.specs.Private.Judgement.{BothGoOn, HasLength, IsRefused, SessionView}
+use Rattle.pkmachine.specs.Following.{HasLength}
+use Rattle.pkcheck.specs.Private.Judgement.{BothGoOn, IsRefused, SessionView}
 use Rattle.pkcheck.specs.Private.Lent.{heard_before}
 use Rattle.pkcheck.specs.Reports.{Report}
 use Rattle.pkmachine.specs.View.{View}

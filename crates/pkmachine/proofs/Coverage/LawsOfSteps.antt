@@ -17,6 +17,7 @@ use Rattle.pkmachine.proofs.Coverage.FaultsReached.{unknown_exactly}
 use Rattle.pkmachine.proofs.Coverage.OneTextStates.{Exactly, IsGoing, grows, learn_exactly}
 use Rattle.pkmachine.proofs.Coverage.OneTextStates.{new_text_holds}
 use Rattle.pkmachine.proofs.Coverage.PermittedImports.{no_extension, permitted_ok}
+use Rattle.pkmachine.proofs.StepParts.FollowedKnowledge.{knowledge_followed}
 use Rattle.pkmachine.proofs.StepParts.Longest.{longer_than}
 use Rattle.pkmachine.proofs.StepParts.Settings.{wants_no_registry}
 
@@ -56,5 +57,6 @@ step_laws = record {
       let (v, long) = longer_than policy bounded in
       first_fault policy limits i k (RunsFrom setting b before) h v long r e
       (no_extension setting policy limits i k r (wants_no_registry setting i admitted) e);
+  followed = knowledge_followed;
   marks = λ k s h. marks_alike (TrueOf s.objects) k.entries s.shape.entries h.entries;
 }

@@ -35,7 +35,8 @@ of_action setting i o a b same e old is none =
       not_old Unknown = refl
       not_old _ = rw no refl
 
-old_of : (o : Op) → is_old_string o ≡ true → effect_of o ≡ answers (Objects 0)
+-- the effect of an old string's opcode
+pub old_of : (o : Op) → is_old_string o ≡ true → effect_of o ≡ answers (Objects 0)
 old_of op.String e = refl
 old_of op.BinString e = refl
 old_of op.ShortBinString e = refl

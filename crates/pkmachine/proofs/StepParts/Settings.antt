@@ -26,7 +26,7 @@ abbrev makes_text_effect : Effect
 makes_text_effect = Operates (Objects 0) NoName MakesText
 
 -- a property of the opcode's effect and of each effect of an old string is a property of the effect
-by_setting : (P : Effect → Type 0) (setting : OldStrings) (i : Instruction) → P (effect_of i.op)
+pub by_setting : (P : Effect → Type 0) (setting : OldStrings) (i : Instruction) → P (effect_of i.op)
     → (is_old_string i.op ≡ true → P makes_text_effect) → (is_old_string i.op ≡ true → P Raises)
     → (is_old_string i.op ≡ true → P (pushes class.Bytes)) → P (effect_as setting i)
 by_setting P Unknown i h t r b = h

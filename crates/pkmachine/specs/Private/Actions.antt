@@ -6,6 +6,7 @@ use Rattle.pkmachine.specs.declared.effect.Gives.TheVariants as gives
 use Rattle.pkmachine.specs.declared.effects.Operation.{Operation}
 use Rattle.pkmachine.specs.Effects.{Effect, Operates, Moves, Stops, answers, effect_of}
 use Rattle.pkmachine.specs.Effects.{is_old_string, pushes, NoName, Objects, Takes, Gives}
+use Rattle.pkmachine.specs.Following.{is_described}
 use Rattle.pkmachine.specs.Private.StepErrors.{IgnoresArgument, WellGiven}
 use Rattle.pkmachine.specs.Private.Spelled.{IsTextLayout}
 use Rattle.pkops.specs.Spelling.{layout_at}
@@ -65,9 +66,16 @@ MaySpell action.MakesText l = IsTextLayout l
 MaySpell action.ReadsOldString l = IsTextLayout l
 MaySpell _ l = ⊤
 
+-- an operation's object isn't described by its argument
+abbrev pub IsPlain : Op → Action → Type 0
+IsPlain o action.Operates = is_described o ≡ false
+IsPlain o action.Imports = is_described o ≡ false
+IsPlain o _ = ⊤
+
 -- what the machine does at an opcode
 pub record IsActionOf (o : Op) (a : Action) : Type 0 where
   pub effect : effect_of o ≡ effect_by o a
   pub old : is_old_string o ≡ is_reading a
   pub well : IsWell o a
+  pub plain : IsPlain o a
   pub spelled : MaySpell a (layout_at o)

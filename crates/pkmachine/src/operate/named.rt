@@ -1,6 +1,6 @@
 //! The operations that import a pair.
 ghost use Rattle.std.specs.Prelude.{◌≡◌, ◌⊎◌, ◌≤◌, length, map, option_map, IfOk, IfErr};
-ghost use Rattle.std.specs.Prelude.{IfSome, Ok};
+ghost use Rattle.std.specs.Prelude.{IfSome, Ok, false};
 ghost use Rattle.pkmachine.specs.Private.NamedOperations.{AreSeen, HasImported};
 ghost use Rattle.pkmachine.specs.Private.Slots.{known};
 ghost use Rattle.pkmachine.specs.Policies.{permit_of};
@@ -10,6 +10,7 @@ ghost use Rattle.pkmachine.specs.Private.StepErrors.{judged, IgnoresArgument, Is
 ghost use Rattle.pkmachine.specs.Private.StepErrors.{IsRefusedWith, MayName, WellGiven};
 ghost use Rattle.pkmachine.specs.Private.Actions.{IsOperation, effect_in};
 ghost use Rattle.pkmachine.specs.Effects.{effect_of};
+ghost use Rattle.pkmachine.specs.Following.{is_described};
 ghost use Rattle.pkops.specs.Contents.{IsGood};
 ghost use Rattle.pkops.specs.Spelling.{Instruction, Pair, instruction};
 
@@ -100,6 +101,7 @@ fn replace_named<D: Domain>(
     requires within { length stack.old ≤ config.now.limits.stack }
     requires given { WellGiven request.now.operation.gives request.now.operation.takes }
     requires plain { IgnoresArgument request.now.operation.gives }
+    requires described { is_described request.now.op ≡ false }
     requires sees { AreSeen (record { entries = stack.old; table = table.old }) }
     ensures { HasImported D.follows (permit_of request.now.policy.now) config.now.limits
         request.now.op (effect_in request.now.operation) request.now.names
@@ -133,6 +135,7 @@ pub fn operate_named<D: Domain>(
 ) -> Result<bool, StepError>
     requires within { length stack.old ≤ config.now.limits.stack }
     requires operation { IsOperation (effect_of spelled.now.op) }
+    requires described { is_described spelled.now.op ≡ false }
     requires good { IfSome spelled.now.lines (λ pair.
         IsGood (instruction spelled.now.op (Pair pair.0.now pair.1.now))) }
     requires sees { AreSeen (record { entries = stack.old; table = table.old }) }

@@ -2,6 +2,7 @@
 ghost use Rattle.std.specs.Prelude.{◌≡◌, ◌<◌, ◌≤◌, false, length, true, IfErr, OnErr, OnOk};
 ghost use Rattle.pkmachine.specs.declared.effect.Names.{Names};
 ghost use Rattle.pkmachine.specs.Effects.{Operates, effect_of, fills};
+ghost use Rattle.pkmachine.specs.Following.{is_described};
 ghost use Rattle.pkmachine.specs.Private.Actions.{IsUnnamed};
 ghost use Rattle.pkmachine.specs.Private.StepErrors.{IgnoresArgument, WellGiven};
 ghost use Rattle.pkmachine.specs.Private.Items.{FollowsEffect};
@@ -33,6 +34,7 @@ fn replace<D: Domain>(
     requires within { length stack.old ≤ limits.now.stack }
     requires given { WellGiven operation.gives operation.takes }
     requires plain { IgnoresArgument operation.gives }
+    requires described { is_described op ≡ false }
     ensures ok { OnOk result (Replaces (Operates operation.takes Names.NoName operation.gives)
         stack.old stack.new) }
     ensures follows { OnOk result (FollowsEffect D.follows op
@@ -96,7 +98,8 @@ fn make_few<D: Domain>(
     count: usize,
     value: PackedValue,
 ) -> bool
-    requires { 0 < count }
+    requires some { 0 < count }
+    requires described { is_described op ≡ false }
     ensures done { result ≡ true → MakesOf D.follows op count value stack.old domain.old stack.new
         domain.new }
     ensures kept { result ≡ false → stack.new ≡ stack.old }
@@ -169,7 +172,8 @@ fn fill<D: Domain>(
     count: usize,
     wanted: Wanted,
 ) -> bool
-    requires { 0 < count }
+    requires some { 0 < count }
+    requires described { is_described op ≡ false }
     ensures done { result ≡ true
         → HasReplaced D.follows op (fills (Takes.Objects count) wanted) stack.old domain.old
         stack.new domain.new }
@@ -199,6 +203,7 @@ pub fn operate_unnamed<D: Domain>(
 ) -> Result<(), Reason>
     requires within { length stack.old ≤ limits.now.stack }
     requires unnamed { IsUnnamed (effect_of op) }
+    requires described { is_described op ≡ false }
     ensures { HasOperated D.follows limits.now op (effect_of op) stack.old domain.old stack.new
         domain.new result }
 {
@@ -221,6 +226,7 @@ fn operate_any<D: Domain>(
 ) -> Result<(), Reason>
     requires within { length stack.old ≤ limits.now.stack }
     requires unnamed { IsUnnamed (effect_of op) }
+    requires described { is_described op ≡ false }
     ensures { HasOperated D.follows limits.now op (effect_of op) stack.old domain.old stack.new
         domain.new result }
 {
@@ -246,6 +252,7 @@ fn operate_slowly<D: Domain>(
 ) -> Result<(), Reason>
     requires within { length stack.old ≤ limits.now.stack }
     requires unnamed { IsUnnamed (effect_of op) }
+    requires described { is_described op ≡ false }
     ensures { HasOperated D.follows limits.now op (effect_of op) stack.old domain.old stack.new
         domain.new result }
 {
@@ -263,6 +270,7 @@ fn operate<D: Domain>(
 ) -> Result<(), Reason>
     requires within { length stack.old ≤ limits.now.stack }
     requires unnamed { IsUnnamed (effect_of op) }
+    requires described { is_described op ≡ false }
     ensures { HasOperated D.follows limits.now op (effect_of op) stack.old domain.old stack.new
         domain.new result }
 {

@@ -10,5 +10,5 @@ returns-clause-done g c done =
     has_filled g.D.Domain.follows c.args.op c.args.count c.in-Some.place c.args.wanted
     c.args.stack.now _ c.args.domain.now _ c.in-Some.ensures.1
     (λ ts. rw c.operands-operands.ensures at (sym (c.if-receiver_fault.ensures ts)))
-    (λ i same. rw c.operands-operands.ensures at (c.operated.ensures.state i same)) c.requires
+    (λ i same. rw c.operands-operands.ensures at (c.operated.ensures.state i same)) c.requires.some
     c.end_with.ensures (instruction op.None Nothing)

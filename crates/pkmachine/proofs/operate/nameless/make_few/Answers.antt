@@ -3,7 +3,7 @@ use Rattle.std.proofs.Common.{◌∙◌}
 use Rattle.pkmachine.proofs.operate.nameless.make_few.Goals as goal
 
 pub replace_all-requires-clause-at : goal.replace_all-requires-clause-at
-replace_all-requires-clause-at g c = c.in-Some.ensures.1.there c.requires
+replace_all-requires-clause-at g c = c.in-Some.ensures.1.there c.requires.some
 
 pub replace_all-requires-clause-marks : goal.replace_all-requires-clause-marks
 replace_all-requires-clause-marks g c = c.marks-marks.ensures ∙ c.in-Some.ensures.1.marks

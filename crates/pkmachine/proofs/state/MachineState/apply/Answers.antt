@@ -1,5 +1,5 @@
 -- A move acts on entries as on what they stand for, and keeps their text numbers in the table.
-use Rattle.std.proofs.Common.{length, Result, Ok, Err, IfErr, OnOk}
+use Rattle.std.proofs.Common.{◌∙◌, ap, length, Result, Ok, Err, IfErr, OnOk}
 use Rattle.pkops.specs.Inst.{instruction_of}
 use Rattle.pkops.specs.Operands.{memo_number}
 use Rattle.pkmachine.specs.Private.Slots.{resolved}
@@ -52,9 +52,11 @@ returns-clause-err g c =
 
 pub returns-clause-carried : goal.returns-clause-carried
 returns-clause-carried g c =
+    let i = instruction_of c.args.inst.now in
+    let behind = c.moved.ensures ∙ ap (λ kept.
+    g.D.Domain.follows.after_move c.self.inside.domain c.args.what kept i) c.len.ensures.value in
     rw (← c.self.view_is)
-    (on_ok_weaker c.apply.result (λ e. move_follows g.D.Domain.follows c.args.what
-    (instruction_of c.args.inst.now)
+    (on_ok_weaker c.apply.result (λ e. move_follows g.D.Domain.follows c.args.what i
     (record { entries = c.self.inside.stack; memo = c.self.inside.memo })
     (record { entries = c.apply.new.stack; memo = c.apply.new.memo }) c.self.inside.domain _
-    c.moved.ensures e) c.apply.ensures.ok)
+    behind e) c.apply.ensures.ok)
