@@ -7,7 +7,7 @@ use Rattle.pkops.specs.Spelling.{Instruction}
 use Rattle.pkread.specs.Admission.{IsAllowedBy}
 use Rattle.pkread.specs.Rows.{Sight}
 use Rattle.pkread.specs.Sequence.{NoStop}
-use Rattle.pkmachine.specs.Effects.{effect_as, is_old_string}
+use Rattle.pkmachine.specs.Effects.{effect_as}
 use Rattle.pkmachine.specs.Knowledge.{Policy}
 use Rattle.pkcheck.specs.RowOfPickles.{AreAccepted, begins}
 use Rattle.pkmachine.specs.RowRuns.{Afresh, Beginning, Behind, Pickle, run_row, sequences_of}
@@ -45,10 +45,6 @@ IsNew state (Go number kind) = length state.objects ≤ number
 -- each instruction that answers, answers a new object
 abbrev pub AnswersNew : Instruction → State → Outcome → Type 0
 AnswersNew instruction state outcome = IsNew state outcome
-
--- an old string is decoded to a new object; all else may answer earlier ones
-abbrev pub DecodesNew : Instruction → State → Outcome → Type 0
-DecodesNew instruction state outcome = If (is_old_string instruction.op) (IsNew state outcome)
 
 -- given the outcomes that an instruction may have in a state
 module _ (May : Instruction → State → Outcome → Type 0) where
@@ -108,10 +104,14 @@ module _ (May : Instruction → State → Outcome → Type 0) where
 abbrev pub InEachNewRun : OldStrings → Beginning → List Instruction → (ℕ → Ended → Type 0) → Type 0
 InEachNewRun = InEachOf AnswersNew
 
--- every run in which old strings are decoded to new objects, whatever else is answered
-abbrev pub InEachDecodedRun :
-    OldStrings → Beginning → List Instruction → (ℕ → Ended → Type 0) → Type 0
-InEachDecodedRun = InEachOf DecodesNew
+-- every run, whatever is answered
+abbrev pub InEveryRun : OldStrings → Beginning → List Instruction → (ℕ → Ended → Type 0) → Type 0
+InEveryRun setting Afresh instructions Holds =
+    (outcomes : List Outcome) → Holds 0 (run_as setting instructions outcomes start)
+InEveryRun setting (Behind pickles) instructions Holds =
+    (earlier : List (List Outcome)) (first : State) (outcomes : List Outcome)
+    → run_row setting (sequences_of pickles) earlier start ≡ Some first
+    → Holds (length first.events) (run_as setting instructions outcomes first)
 
 -- some run whose answers are new objects, and possible ones
 abbrev pub InSomeNewRun : OldStrings → Beginning → List Instruction → (ℕ → Ended → Type 0) → Type 0

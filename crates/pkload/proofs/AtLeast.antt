@@ -5,9 +5,7 @@ use Rattle.std.specs.Prelude.{⊤, slice_get, unwrap_or}
 use Rattle.pkops.specs.Spelling.{Instruction}
 use Rattle.pkops.specs.declared.Op.{Op}
 use Rattle.pkmachine.specs.Covers.{Pointwise}
-use Rattle.pkmachine.specs.Effects.{is_old_string}
-use Rattle.pkcheck.specs.NewRuns.{DecodesNew, If, IsNew}
-use Rattle.pkmachine.specs.Runs.{Event, Go, Outcome, Raise, State, with_event}
+use Rattle.pkmachine.specs.Runs.{Outcome, State}
 use Rattle.pkload.proofs.Accounts.{at_most_itself, kept_at, new_at}
 use Rattle.pkload.proofs.Lighter.{AreLighter, IsLighter, made_below, operation_below}
 use Rattle.pkload.proofs.Readings.{IsAgain, Reading}
@@ -132,24 +130,22 @@ answered_least hefts i hs ns k h l =
           (lighter_all hefts hs ns h));
     }
 
-pub still_may : (q : Bool) (s : State) (e : Event) (o : Outcome) → If q (IsNew s o)
-    → If q (IsNew (with_event e s) o)
-still_may true s e Raise h = h
-still_may true s e (Go n c) h = h
-still_may false s e o h = h
+-- anything may be answered
+abbrev pub AnswersAny : Instruction → State → Outcome → Type 0
+AnswersAny instruction state outcome = ⊤
 
 abbrev pub at_least : Reading
 at_least = record {
   Weighs = CostsAtLeast;
   Counts = λ run said. IsAtMost said run;
   Raises = λ run said. ⊤;
-  May = DecodesNew;
+  May = AnswersAny;
   none = at_most_itself no_tally;
   raises = λ run said later h g. tt;
   kept = kept_least;
   made = made_least;
   counted = counted_least;
-  behind = λ i s e o h. still_may (is_old_string i.op) s e o h;
+  behind = λ i s e o h. tt;
   again = λ hefts i said operands s k c may h e l. answered_least hefts i said operands k h
       (omega (arith, e, l));
 }

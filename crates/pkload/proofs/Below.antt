@@ -238,7 +238,8 @@ module _ (i : Instruction) (size at n : ℕ) (c : Ceiling) (b : Bill)
       p.pays
   effect_bounded (Moves m) p =
       let alike = moved_alike (IsUnder c) m (memo_number i) b.shape b.shape h.shape in
-      move_bounded m (number_kept m (memo_number i) b.shape) (moved m (memo_number i) b.shape)
+      move_bounded m (number_kept m (memo_number i) (length b.shape.memo))
+      (moved m (memo_number i) b.shape)
       p.more alike (moved_few m (memo_number i) b.shape)
       (moved_weigh c m (memo_number i) b.shape h.shape alike)
   effect_bounded Stops p =

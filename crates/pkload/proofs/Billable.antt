@@ -1,6 +1,6 @@
 -- Instructions that some run gets past have a bill.
 use Rattle.std.proofs.Common.{◌≡◌, ℕ, Bool, true, false, cond, List, [], ◌∷◌, ◌++◌, Result, Ok, Err}
-use Rattle.std.proofs.Common.{refl, sym, ap, subst}
+use Rattle.std.proofs.Common.{length, refl, sym, ap, subst}
 use Rattle.std.specs.Prelude.{All, ◌≢◌, ⊤, unwrap_or}
 use Rattle.std.proofs.lemmas.List.Elements.{All-cons, All-head, All-nil, All-tail}
 use Rattle.pkops.specs.Limits.{Bounds}
@@ -96,7 +96,8 @@ module _ (r : Reading) (n : ℕ) where
         (operands takes s.shape.entries)
         (operands_alike (Weighs s) takes b.shape.entries s.shape.entries h.shape.entries)
     effect_stuck (Moves m) =
-        move_stuck m (number_kept m (memo_number i) b.shape) b s (moved m (memo_number i) b.shape)
+        move_stuck m (number_kept m (memo_number i) (length b.shape.memo)) b s
+        (moved m (memo_number i) b.shape)
         (moved m (memo_number i) s.shape)
         (moved_alike (Weighs s) m (memo_number i) b.shape s.shape h.shape)
     effect_stuck Stops = stop_stuck b s (top b.shape.entries) (top s.shape.entries)

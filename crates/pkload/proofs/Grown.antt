@@ -1,6 +1,6 @@
 -- An instruction takes back nothing of the bill, and STOP alone ends the pickle.
 use Rattle.std.proofs.Common.{◌≡◌, ◌≤◌, ℕ, Bool, true, false, cond, List, [], ◌∷◌, Result, Ok, Err}
-use Rattle.std.proofs.Common.{refl, subst, arith}
+use Rattle.std.proofs.Common.{length, refl, subst, arith}
 use Rattle.std.specs.Prelude.{⊤}
 use Rattle.pkops.specs.Operands.{memo_number}
 use Rattle.pkops.specs.Spelling.{Instruction}
@@ -55,7 +55,8 @@ effect_leads : (e : Effect) (i : Instruction) (b : Bill)
 effect_leads (Operates takes names gives) i b =
     operation_leads gives i b (operands takes b.shape.entries)
 effect_leads (Moves m) i b =
-    move_leads m (number_kept m (memo_number i) b.shape) b (moved m (memo_number i) b.shape)
+    move_leads m (number_kept m (memo_number i) (length b.shape.memo)) b
+    (moved m (memo_number i) b.shape)
 effect_leads Stops i b = stop_leads b (top b.shape.entries)
 effect_leads Raises i b =
     (record { tally = at_most_itself b.tally; memory = omega arith }, refl)

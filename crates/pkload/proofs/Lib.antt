@@ -9,6 +9,7 @@ pub mod Lighter
 pub mod AtLeast
 pub mod Steps
 pub mod Whole
+pub mod FollowedBill
 pub mod Above
 pub mod Tolds
 pub mod Loading

@@ -171,10 +171,10 @@ abbrev IfWithin : ℕ → Result Bill Breach → Type 0
 IfWithin n x = IfOk x (IsWithin n)
 
 -- a move stores under no number above those of the memo and of 32 bits
-kept_small : (m : Move) (number : ℕ) (shape : Shape Heft) → number < 2 ^ 32
-    → number_kept m number shape ≤ 2 ^ 32 + length shape.memo
-kept_small move.Stores number shape h = omega arith
-kept_small _ number shape h = omega arith
+kept_small : (m : Move) (number kept : ℕ) → number < 2 ^ 32
+    → number_kept m number kept ≤ 2 ^ 32 + kept
+kept_small move.Stores number kept h = omega arith
+kept_small _ number kept h = omega arith
 
 -- a move takes at most 32 bytes, and 16 for each number above the highest before
 move_small : (m : Move) (grown : ℕ) → move_memory m grown ≤ 32 + 16 * grown
@@ -226,8 +226,9 @@ module _ (n after : ℕ) (i : Instruction) (more : n + (1 + argument_size i.arg)
       operation_within gives (most_taken takes (length b.shape.entries))
       (operands takes b.shape.entries) (operands_few takes b.shape.entries)
   effect_within (Moves m) good =
-      move_within m (number_kept m (memo_number i) b.shape) (moved m (memo_number i) b.shape)
-      (kept_small m (memo_number i) b.shape (number_small i good))
+      move_within m (number_kept m (memo_number i) (length b.shape.memo))
+      (moved m (memo_number i) b.shape)
+      (kept_small m (memo_number i) (length b.shape.memo) (number_small i good))
       (moved_few m (memo_number i) b.shape)
   effect_within Stops good = stop_within b.shape.entries refl
   effect_within Raises good = record {

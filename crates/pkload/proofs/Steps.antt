@@ -287,7 +287,7 @@ module _ (r : Reading) (n : ℕ) where
       (operands takes s.shape.entries) h
       (operands_alike (Weighs s) takes b.shape.entries s.shape.entries h.shape.entries) w
   performed_billed (Moves m) i b s o h w =
-      shape_billed m (number_kept m (memo_number i) b.shape) b s
+      shape_billed m (number_kept m (memo_number i) (length b.shape.memo)) b s
       (moved m (memo_number i) b.shape) (moved m (memo_number i) s.shape) h
       (moved_alike (Weighs s) m (memo_number i) b.shape s.shape h.shape)
   performed_billed Stops i b s o h w =

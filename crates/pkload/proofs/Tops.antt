@@ -78,15 +78,15 @@ seen_by : (o : Op) (a : Argument) (size at : ℕ) (c : Ceiling) (b : Bill) → a
     → IfOk (billed_by (effect_of o) (instruction o a) b) (IsSeen (raised o size at c))
 seen_by op.Put a size at c b l few h =
     let n = memo_number (instruction op.Put a) in
-    move_kept Stores (number_kept Stores n b.shape) c b (storing n b.shape)
+    move_kept Stores (number_kept Stores n (length b.shape.memo)) c b (storing n b.shape)
     (storing_kept c n b.shape h)
 seen_by op.BinPut a size at c b l few h =
     let n = memo_number (instruction op.BinPut a) in
-    move_kept Stores (number_kept Stores n b.shape) c b (storing n b.shape)
+    move_kept Stores (number_kept Stores n (length b.shape.memo)) c b (storing n b.shape)
     (storing_kept c n b.shape h)
 seen_by op.LongBinPut a size at c b l few h =
     let n = memo_number (instruction op.LongBinPut a) in
-    move_kept Stores (number_kept Stores n b.shape) c b (storing n b.shape)
+    move_kept Stores (number_kept Stores n (length b.shape.memo)) c b (storing n b.shape)
     (storing_kept c n b.shape h)
 seen_by op.Memoize a size at c b l few h =
     move_kept StoresNext (length b.shape.memo) c b (storing (length b.shape.memo) b.shape)

@@ -55,7 +55,8 @@ move_billed move number bill found =
 -- the bill after a move with this number
 abbrev pub moved_by : Move → ℕ → Bill → Result Bill Breach
 moved_by move number bill =
-    move_billed move (number_kept move number bill.shape) bill (moved move number bill.shape)
+    move_billed move (number_kept move number (length bill.shape.memo)) bill
+    (moved move number bill.shape)
 
 -- the bill after STOP, which takes the result
 abbrev pub stop_billed : Bill → Result (Heft × List (Entry Heft)) Breach → Result Bill Breach
@@ -104,7 +105,7 @@ next_bill bill = record no_bill {
   highest = bill.highest;
 }
 
--- the bill behind these pickles under one Unpickler
+-- the bill after these pickles under one Unpickler
 abbrev pub row_billed : List (List Instruction) → Bill → Result Bill Breach
 row_billed [] bill = Ok bill
 row_billed (pickle ∷ pickles) bill =

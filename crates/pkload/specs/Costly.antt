@@ -10,8 +10,7 @@ use Rattle.pkread.specs.Rows.{Sight, Takes}
 use Rattle.pkread.specs.Sequence.{NoStop, spellings}
 use Rattle.pkmachine.specs.Knowledge.{Policy}
 use Rattle.pkcheck.specs.Refused.{FailsToRead}
-use Rattle.pkcheck.specs.NewRuns.{DecodesNew, GetsPast, InEachDecodedRun, InEachNewRun}
-use Rattle.pkcheck.specs.NewRuns.{InSomeNewRun}
+use Rattle.pkcheck.specs.NewRuns.{GetsPast, InEachNewRun, InEveryRun, InSomeNewRun}
 use Rattle.pkcheck.specs.RowOfPickles.{AreAccepted, begins, bytes_of_all}
 use Rattle.pkmachine.specs.RowRuns.{Pickle}
 use Rattle.pkcheck.specs.RunFaults.{IsFaultless}
@@ -31,12 +30,12 @@ use Rattle.pkload.specs.declared.tolls.Excess.{Excess}
 use Rattle.pkload.specs.declared.tolls.Excess.TheVariants.{OutOfMemory}
 use Rattle.pkload.specs.declared.tolls.Tolls.{Tolls}
 
--- a run that gets past the instruction counts what the reason says, behind earlier pickles
+-- a run that gets past the instruction counts what the reason says, after earlier pickles
 abbrev pub EndsAbove : Excess → Tolls → (memory earlier : ℕ) → Ended → Type 0
 EndsAbove excess tolls memory earlier =
     EndsSo (λ state. Exceeds excess tolls (tally_since earlier state.events) memory) (λ state. ⊤)
 
--- the events behind a step count what the reason says, behind earlier pickles
+-- the events after a step count what the reason says, after earlier pickles
 abbrev pub StepsAbove : Excess → Tolls → (memory earlier : ℕ) → Stepped → Type 0
 StepsAbove excess tolls memory earlier (WentOn state) =
     IsExcess excess tolls (tally_since earlier state.events) memory
@@ -46,12 +45,12 @@ StepsAbove excess tolls memory earlier (Stopped result state) =
     IsExcess excess tolls (tally_since earlier state.events) memory
 StepsAbove excess tolls memory earlier (Stuck breach) = ⊥
 
--- if the run gets to this instruction, what the reason says is counted behind it, whether it goes
--- on or raises
+-- if the run gets to this instruction, what the reason says is counted after it, whatever is
+-- answered, and whether it goes on or raises
 abbrev pub GetsAbove : OldStrings → Instruction → Excess → Tolls → (memory earlier : ℕ) → Ended
     → Type 0
 GetsAbove setting last excess tolls memory earlier (Reached state) =
-    (outcome : Outcome) → DecodesNew last state outcome
+    (outcome : Outcome)
     → StepsAbove excess tolls memory earlier (step_as setting last state outcome)
 GetsAbove setting last excess tolls memory earlier (EndedBy step) = ⊤
 
@@ -66,7 +65,7 @@ pub data NextTaken (limits : Bounds) (here new : Sight) : Type 0 where
   unread : (at : ℕ) (reason : Reason) → FailsToRead limits here new at reason None
       → NextTaken limits here new
 
--- behind an instruction no more was taken than the next one
+-- after an instruction no more was taken than the next one
 pub record TakesNoMore (limits : Bounds) (there new : Sight) : Type 0 where
   pub here : Sight
   pub none : Takes there here []
@@ -103,9 +102,9 @@ pub record ExceedsIn (loading : Loading) (policy : Policy) (limits : Bounds) (to
   pub bill : Bill
   pub adds : billed reached.last reached.earlier ≡ Ok bill
   pub exceeds : Exceeds excess tolls bill.tally bill.memory
-  -- each run that gets to it and decodes old strings to new objects exceeds the limit that is
-  -- named, whatever else is answered: an earlier object in place of a new one only adds
-  pub each : InEachDecodedRun loading.old_strings (begins loading.memo before)
+  -- each run that gets to it exceeds the limit that is named, whatever is answered: an earlier
+  -- object in place of a new one only adds
+  pub each : InEveryRun loading.old_strings (begins loading.memo before)
       reached.instructions (GetsAbove loading.old_strings reached.last excess tolls bill.memory)
   -- each run that gets past it and whose answers are new objects exceeds none that is tried earlier
   pub runs : InEachNewRun loading.old_strings (begins loading.memo before)
@@ -138,9 +137,9 @@ pub record StopsAt (loading : Loading) (policy : Policy) (limits : Bounds) (toll
   pub alone : extent ≡ OnePickle → before ≡ []
   -- the check accepts it; it was read, and no read failed before
   pub reached : IsReached loading policy limits tolls here before at
-  -- behind it no more was taken than the next instruction
+  -- after it no more was taken than the next instruction
   pub behind : TakesNoMore limits reached.there new
-  -- OutOfMemory says that the bill can't be kept behind it
+  -- OutOfMemory says that the bill can't be kept after it
   pub unkept : excess ≡ OutOfMemory → IsUnkept before reached.last reached.earlier
 
 -- no read failed, or one did

@@ -31,7 +31,7 @@ abbrev pub Costs : List Heft → Heft → ℕ → Type 0
 Costs hefts heft number = slice_get hefts number ≡ Some heft
 
 -- the bill is that of the run: marks and objects are where it says, each object costs what it says,
--- and what it counted is what the events of the run count, behind those of earlier pickles
+-- and what it counted is what the events of the run count, after those of earlier pickles
 pub record IsBillOf (bill : Bill) (earlier : ℕ) (state : State) : Type 0 where
   pub shape : Alike (Costs (account_of state.events).hefts) bill.shape state.shape
   pub tally : tally_since earlier state.events ≡ bill.tally

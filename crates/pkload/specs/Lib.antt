@@ -6,6 +6,7 @@ pub mod Memory
 -- the bill, and the account of a run
 pub mod Bill
 pub mod Weighed
+pub mod FollowedBill
 -- limits, and what an answer says about them
 pub mod Tolls
 pub mod Loading

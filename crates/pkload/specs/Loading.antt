@@ -36,7 +36,7 @@ EndsSo Past Raising (EndedBy (Raised state)) = Raising state
 EndsSo Past Raising (EndedBy (WentOn state)) = ⊥
 EndsSo Past Raising (EndedBy (Stuck breach)) = ⊥
 
--- what the events of a run count, behind those of earlier pickles, is within the limits
+-- what the events of a run count, after those of earlier pickles, is within the limits
 abbrev pub EndsWithin : Tolls → ℕ → Ended → Type 0
 EndsWithin tolls earlier =
     EndsSo (λ state. IsWithin tolls (tally_since earlier state.events))

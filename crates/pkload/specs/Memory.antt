@@ -10,8 +10,7 @@ use Rattle.pkops.specs.declared.Op.{Op}
 use Rattle.pkops.specs.declared.Op.TheVariants as op
 use Rattle.pkstack.specs.declared.Move.{Move}
 use Rattle.pkstack.specs.declared.Move.TheVariants.{PushesMark, Stores, StoresNext}
-use Rattle.pkstack.specs.Shape.{Shape}
-use Rattle.pkload.specs.Heft.{Heft, argument_size}
+use Rattle.pkload.specs.Heft.{argument_size}
 
 -- the byte is the first of a character in UTF-8
 abbrev pub begins_character : ℕ → Bool
@@ -101,11 +100,12 @@ operation_memory i count =
     16 + (plain_memory i.op (argument_size i.arg)
     + (held_memory i.op count + written_memory i.op (argument_bytes i.arg)))
 
--- the memo number under which a move stores, otherwise 0
-abbrev pub number_kept : Move → ℕ → Shape Heft → ℕ
-number_kept Stores number shape = number
-number_kept StoresNext number shape = length shape.memo
-number_kept _ number shape = 0
+-- the memo number under which a move stores, otherwise 0; `kept` is the number of objects in the
+-- memo
+abbrev pub number_kept : Move → (number kept : ℕ) → ℕ
+number_kept Stores number kept = number
+number_kept StoresNext number kept = kept
+number_kept _ number kept = 0
 
 -- a move that stores under a number so far above the highest before. CPython's memo is an array
 abbrev pub move_memory : Move → ℕ → ℕ

@@ -1,4 +1,4 @@
--- When a bill can't be kept behind an instruction that the check accepts.
+-- When a bill can't be kept after an instruction that the check accepts.
 use Rattle.std.specs.Prelude.{ℕ, ◌≡◌, ◌≤◌, ◌^◌, ◌⊎◌, ⊤, zero, IfOk, List, None, Result, length}
 use Rattle.pkops.specs.Operands.{memo_number}
 use Rattle.pkops.specs.Spelling.{Instruction}
@@ -25,7 +25,7 @@ MayAdd StoresNext number shape =
     (2 ^ 32 ≤ length shape.memo) ⊎ (recalled (length shape.memo) shape.memo ≡ None)
 MayAdd move number shape = MoveMayWantMemory move
 
--- with this effect there are no more entries behind an instruction than before it, on the stack and
+-- with this effect there are no more entries after an instruction than before it, on the stack and
 -- in the memo
 abbrev pub LeavesNoMore : Effect → Instruction → Bill → Type 0
 LeavesNoMore (Operates takes names gives) instruction bill = TakesSome takes
@@ -39,16 +39,16 @@ abbrev pub HasGreatSum : Bill → Type 0
 HasGreatSum bill = (2 ^ 64 ≤ bill.memory)
     ⊎ ((2 ^ 64 ≤ bill.tally.work) ⊎ (2 ^ 64 ≤ bill.tally.clash))
 
--- there are 2^50 entries on the stack, or a sum of the bill behind the instruction doesn't fit
+-- there are 2^50 entries on the stack, or a sum of the bill after the instruction doesn't fit
 abbrev pub IsLost : Result Bill Breach → Bill → Type 0
 IsLost behind bill = (2 ^ 50 ≤ length bill.shape.entries) ⊎ IfOk behind HasGreatSum
 
--- the bill can't be kept behind this instruction: it leaves more entries, or something is too great
+-- the bill can't be kept after this instruction: it leaves more entries, or something is too great
 abbrev pub CantBeKept : Instruction → Bill → Type 0
 CantBeKept instruction bill =
     LeavesNoMore (effect_of instruction.op) instruction bill
     → IsLost (billed instruction bill) bill
 
--- likewise behind these pickles, whose number must fit too
+-- likewise after these pickles, whose number must fit too
 abbrev pub IsUnkept : List Pickle → Instruction → Bill → Type 0
 IsUnkept before instruction bill = (2 ^ 64 ≤ length before) ⊎ CantBeKept instruction bill

@@ -69,7 +69,7 @@ no_account = record { hefts = []; tally = no_tally }
 abbrev pub account_of : List Event → Account
 account_of events = account_along no_account events
 
--- what is counted behind so many events
+-- what is counted after so many events
 abbrev pub tally_since : ℕ → List Event → Tally
 tally_since count events =
     (account_along (record { hefts = (account_of (take count events)).hefts; tally = no_tally })

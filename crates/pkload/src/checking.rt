@@ -90,9 +90,9 @@ impl fmt::Display for Costly {
 /// The first limit that an instruction exceeds which the check accepts, with its place. What the
 /// check refuses at this instruction or before it comes first. Some run whose answers are new
 /// objects gets past the instruction, and each run that gets there exceeds the limit, whatever is
-/// answered, if old strings are decoded to new objects.
+/// answered.
 ///
-/// `OutOfMemory` says that the bill couldn't be kept behind the instruction: it pushes an entry and
+/// `OutOfMemory` says that the bill couldn't be kept after the instruction: it pushes an entry and
 /// takes none, it stores in the memo, or a sum of the bill doesn't fit 64 bits. As for a limit, the
 /// check accepts it, and all that precedes it keeps within the limits. For either, the bytes up to
 /// its end were taken, and at most the next instruction. A read can only fail there.

@@ -20,8 +20,8 @@ use std::alloc::Global;
 /// these limit the memory, and where more than one pickle is to be checked. What a tuple holds is
 /// taken for as heavy and as deep as the heaviest and the deepest so far, unless the instructions
 /// before it push just these objects, and none of them is a tuple. So the bound is above all limits
-/// behind some twenty tuples of two other objects, or three of more, and behind a BUILD that may
-/// not take everything.
+/// after some twenty nested tuples of two other objects, or three of more, and after a BUILD that
+/// may not take everything.
 pub fn check_estimating<R: Source>(
     alloc: Global,
     source: &mut R,

@@ -1,5 +1,6 @@
 //! Laws of the definitions. Each is the contract of a function that does nothing.
 
+ghost use Rattle.pkload.specs.FollowedBill.{BillIsFollowed};
 ghost use Rattle.pkload.specs.Laws.{BillBoundsRuns, ExcessStays, TollsOnlyRefuse};
 ghost use Rattle.pkload.specs.OneEnd.{OneEndFits};
 
@@ -17,6 +18,12 @@ pub fn bill_bounds_runs()
 #[tactic(auto, using(crate::proofs::Loading::tolls_only_refuse))]
 pub fn tolls_only_refuse()
     ensures { TollsOnlyRefuse }
+{}
+
+/// The bill after an instruction is what a domain carries after it.
+#[tactic(auto, using(crate::proofs::FollowedBill::bill_followed))]
+pub fn bill_is_followed()
+    ensures { BillIsFollowed }
 {}
 
 /// What exceeds a limit exceeds it however the pickle goes on.

@@ -188,8 +188,8 @@ impl Machine {
         self.go(what, 0)
     }
 
-    /// Bills an instruction with this opcode and so many bytes, whose payload is skipped. Nothing
-    /// is told of an opcode without a payload of plain bytes.
+    /// Bills an instruction with this opcode and so many bytes, whose payload is skipped. An
+    /// opcode without a payload of plain bytes is never skipped.
     #[inline(always)]
     pub fn step_skipped(&mut self, op: Op, count: u64) -> Billing
         requires running { self.old.ended ≡ false }

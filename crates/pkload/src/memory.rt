@@ -1,10 +1,8 @@
 //! The memory that loading takes.
 
 ghost use Rattle.std.specs.List.{filter, list_all};
-ghost use Rattle.std.specs.Prelude.{◌≡◌, ◌+◌, ◌*◌, ◌≤◌, IfErr, IfOk, List, length, ltb};
+ghost use Rattle.std.specs.Prelude.{◌≡◌, ◌+◌, ◌*◌, ◌≤◌, IfErr, IfOk, length, ltb};
 ghost use Rattle.pkops.specs.Inst.{instruction_of};
-ghost use Rattle.pkstack.specs.Shape.{Entry};
-ghost use Rattle.pkload.specs.Heft.{Heft};
 ghost use Rattle.pkload.specs.Memory.{argument_bytes, begins_character, character_width};
 ghost use Rattle.pkload.specs.Memory.{held_memory, line_memory, move_memory, number_kept};
 ghost use Rattle.pkload.specs.Memory.{set_memory, text_memory};
@@ -167,8 +165,7 @@ pub fn after_stop(memory: u64) -> Result<u64, Halt>
 /// The memo number under which a move stores, otherwise 0.
 #[inline(always)]
 pub fn number_kept(what: Move, number: u32, memo: &MemoTable) -> Result<u32, Halt>
-    ensures ok { IfOk result (λ kept. (entries : List (Entry Heft)) → kept ≡ number_kept what number
-        (record { entries = entries; memo = memo.now })) }
+    ensures ok { IfOk result (λ kept. kept ≡ number_kept what number (length memo.now)) }
     ensures err { IfErr result (λ halt. (what ≡ Move.StoresNext) × HasNoNumber memo.now halt) }
 {
     match what {

@@ -17,9 +17,9 @@ use pkops::{Inst, Op};
 use std::alloc::Global;
 use std::marker::Model;
 
-/// Keeps the bill of each pickle, until a limit is exceeded. It is told of an instruction before
-/// the check judges it. That the check accepts it is known when the next one is told, and then the
-/// meter stops the check.
+/// Keeps the bill of each pickle, until a limit is exceeded. It observes an instruction before the
+/// check judges it. That the check accepts it is known when the meter observes the next one, and
+/// then it stops the check.
 pub struct Meter {
     /// The pickle that the instruction is in, and what it costs so far.
     pub metering: Metering,

@@ -74,7 +74,7 @@ impl Metering {
         Ok(())
     }
 
-    /// Bills an instruction that is told whole.
+    /// Bills an instruction that is reported whole.
     pub fn bill(&mut self, memo: Memo, inst: &Inst<'_>) -> Billing
         ensures billed { IfBilled result (metered_told memo (Whole (instruction_of inst.now))
             self.old ≡ Ok self.new) }
@@ -87,7 +87,7 @@ impl Metering {
         self.machine.step(inst)
     }
 
-    /// Bills an instruction that is told whole, of a pickle that hasn't ended.
+    /// Bills an instruction that is reported whole, of a pickle that hasn't ended.
     #[inline(always)]
     pub fn bill_next(&mut self, inst: &Inst<'_>) -> Billing
         requires running { self.old.bill.ended ≡ false }

@@ -140,7 +140,7 @@ may_exceed _ = false
 abbrev pub exceeded : Op → (at : ℕ) → Ceiling → Ceiling
 exceeded o at c = if may_exceed o then raised o 1 at c else c
 
--- after something is told. A line or payload has fewer bytes than its instruction
+-- after something is reported. A line or payload has fewer bytes than its instruction
 abbrev pub told_raised : Told → ℕ → Ceiling → Ceiling
 told_raised (Whole i) at c = raised i.op (length (spelling i)) at c
 told_raised (Skipped o count) at c = raised o count at c

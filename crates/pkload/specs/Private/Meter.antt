@@ -50,13 +50,13 @@ module _ (memo : Memo) (tolls : Tolls) (excess : Excess) (at : ℕ) (n : Meterin
   IsOver (r ∷ s ∷ rs) m =
       (k : Metering) × (metered memo r m ≡ Ok k) × Fits tolls k × IsOver (s ∷ rs) k
 
--- something was told
+-- something was observed
 abbrev pub HasSome : List Report → Type 0
 HasSome [] = ⊥
 HasSome (r ∷ rs) = ⊤
 
--- between two states of the audience the limits stay; nothing more is told once a limit was
--- exceeded; while none is, what was told is metered
+-- between two states of the audience the limits stay; nothing more is observed once a limit
+-- was exceeded; while none is, what was observed is metered
 pub record Meters (x y : Meter) (rs : List Report) : Type 0 where
   pub tolls : y.tolls ≡ x.tolls
   pub memo : y.memo ≡ x.memo
@@ -67,13 +67,13 @@ pub record Meters (x y : Meter) (rs : List Report) : Type 0 where
   pub over : (e : Excess) → x.excess ≡ None → y.excess ≡ Some e
       → IsOver x.memo x.tolls e y.at y.metering rs x.metering
 
--- the audience, told of one more, stops the check for the limit that was exceeded
+-- the audience, when it observes one more, stops the check for the limit that was exceeded
 pub record StopsFor (x y : Meter) (excess : Excess) : Type 0 where
   pub same : y ≡ x
   pub named : x.excess ≡ Some excess
   pub unlimited : x.tolls ≡ unlimited → excess ≡ OutOfMemory
 
--- what is told in two parts is metered in two parts
+-- what is observed in two parts is metered in two parts
 pub metered_more : (memo : Memo) (rs qs : List Report) (m : Metering)
     → all_metered memo (rs ++ qs) m ≡ and_then (all_metered memo rs m) (all_metered memo qs)
 metered_more memo [] qs m = refl

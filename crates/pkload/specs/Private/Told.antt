@@ -1,4 +1,4 @@
--- The bill of what is told of an instruction, whole or skipped.
+-- The bill of what is reported of an instruction, whole or skipped.
 use Rattle.std.specs.Prelude.{ℕ, suc, ◌+◌, ◌-◌, Bool, true, false, if◌then◌else◌, List, [], ◌∷◌}
 use Rattle.std.specs.Prelude.{Result, Ok, Err, ⊤, ◌≤◌, ◌^◌, ◌⊎◌}
 use Rattle.pkops.specs.declared.Op.{Op}
@@ -30,7 +30,7 @@ bytes_billed o size bill = record (pushed (heft_made o size []) (skipped_memory 
   tally = with_operation o [] bill.tally;
 }
 
--- the bill after what was told
+-- the bill after what was reported
 abbrev pub told_billed : Told → Bill → Result Bill Breach
 told_billed (Whole i) bill = billed i bill
 told_billed (Skipped o count) bill =
@@ -58,7 +58,7 @@ ready memo m = next_if m.bill.ended memo m
 abbrev pub with_bill : Metering → Bill → Metering
 with_bill m bill = record m { bill = bill }
 
--- why the bill can't be kept behind what was told. A payload that is skipped is that of an object
+-- why the bill can't be kept after this report. A payload that is skipped is that of an object
 abbrev pub CantBeTold : Told → Bill → Type 0
 CantBeTold (Whole i) bill = CantBeKept i bill
 CantBeTold (Skipped o count) bill = ⊤
@@ -67,7 +67,7 @@ CantBeTold (Skipped o count) bill = ⊤
 abbrev pub CantBeMetered : Metering → Told → Type 0
 CantBeMetered m told = (2 ^ 64 ≤ m.pickle) ⊎ CantBeTold told m.bill
 
--- after something is told
+-- after something is reported
 abbrev pub metered_told : Memo → Told → Metering → Result Metering Breach
 metered_told memo told m =
     and_then (told_billed told (ready memo m).bill) (λ bill. Ok (with_bill (ready memo m) bill))
