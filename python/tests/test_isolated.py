@@ -9,8 +9,9 @@ import tempfile
 import unittest
 from unittest import mock
 
+import common
 import test_scanning
-from storklocker.scanning import files, scan
+from storklocker.scanning import files, lacking, scan
 from storklocker.scanning.files import File, Files
 from storklocker.scanning.isolated import Isolated
 from storklocker.scanning.judging import Question
@@ -156,6 +157,19 @@ class Listing(unittest.TestCase):
         with mock.patch.dict("sys.modules", {"distributed": None}):
             with self.assertRaisesRegex(OSError, "needs the package distributed"):
                 list(scan.scan([], Question(), scan.Means(cluster="tcp://127.0.0.1:1")))
+
+    def test_an_error_names_an_extra_of_the_package(self):
+        project = pathlib.Path(common.PYTHON, "pyproject.toml")
+        if not project.exists():
+            self.skipTest("no pyproject.toml here")
+        text = project.read_text(encoding="utf-8")
+        for what, extra in lacking.EXTRAS.items():
+            self.assertRegex(text, rf"(?m)^{extra} = \[")
+            error = str(lacking.needs(f"{what}://a/b", "p"))
+            self.assertTrue(error.endswith(f"pip install 'storklocker[{extra}]'"), error)
+        with mock.patch.dict("sys.modules", {"s3fs": None}):
+            with self.assertRaisesRegex(OSError, r"(needs|fsspec).*pip install .*(s3|fsspec)"):
+                list(Files(["s3://bucket/object"]))
 
 
 if __name__ == "__main__":

@@ -12,6 +12,7 @@ from typing import Any, Deque, Dict, Iterable, Iterator, List, NamedTuple, Tuple
 from .files import File, batches
 from .isolated import Isolated
 from .judging import Question
+from .lacking import needs
 from .report import Finding, Report, report_of, unreadable
 
 FILES, BYTES = 256, 1 << 26
@@ -46,7 +47,7 @@ def _connected(address: str) -> Any:
     try:
         import distributed
     except ImportError:
-        raise OSError("--cluster needs the package distributed, which is not installed") from None
+        raise needs("--cluster", "distributed") from None
     connect: Any = distributed.Client
     try:
         return connect(address, set_as_default=False)

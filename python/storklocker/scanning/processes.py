@@ -8,6 +8,7 @@ import multiprocessing
 import multiprocessing.connection
 import os
 import signal
+import sys
 import threading
 from typing import Deque, Iterable, Iterator, List, Tuple
 
@@ -83,6 +84,8 @@ def _begin(question: Question) -> None:
     """Prepares a worker: only the first process handles Ctrl-C, and no worker outlives it."""
     global _question
     _question = question
+    if "fsspec.asyn" in sys.modules:
+        sys.modules["fsspec.asyn"].reset_lock()  # (its thread is in the first process)
     signal.signal(signal.SIGINT, signal.SIG_IGN)
     parent = multiprocessing.parent_process()
     if parent is not None:

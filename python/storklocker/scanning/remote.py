@@ -3,13 +3,17 @@
 from __future__ import annotations
 
 import contextlib
+import functools
 import shutil
 import tempfile
 from pathlib import Path
 from typing import Any, BinaryIO, Dict, Iterator, List, Tuple
 
+from . import over_http
 from .files import File, Files
+from .lacking import needs
 from .places import places_of
+from .ranges import in_blocks
 
 _STAMPS = ("ETag", "etag", "LastModified", "last_modified", "mtime", "updated", "created")
 """What the file systems of fsspec call that which changes with a file."""
@@ -67,11 +71,39 @@ def _stamps(info: Dict[str, Any]) -> List[str]:
     return [str(info.get("size") or 0), *(str(info[key]) for key in _STAMPS if info.get(key))]
 
 
-def opened(url: str) -> "contextlib.AbstractContextManager[BinaryIO]":
-    """The file at a URL."""
+@contextlib.contextmanager
+def opened(url: str) -> Iterator[BinaryIO]:
+    """The file at a URL, of which each byte is fetched once, so that all readers get the same. It
+    raises OSError where the server gives something else than it has told of.
+    """
     system, path = _system_of(url)
-    made: "contextlib.AbstractContextManager[BinaryIO]" = system.open(path, "rb")
-    return made
+    if url.startswith(over_http.SCHEMES):
+        with over_http.opened(system, path) as object_there:
+            yield object_there
+        return
+    info = system.info(path)
+    with system.open(path, "rb", cache_type="none") as file:
+        if info.get("size") is None:
+            yield file
+            return
+        with in_blocks(info["size"], functools.partial(_fetched, system, info, file)) as blocks:
+            yield blocks
+
+
+def _fetched(system: Any, info: Dict[str, Any], file: BinaryIO, start: int, end: int) -> bytes:
+    """The bytes from one offset up to another, of a file that is as it was."""
+    file.seek(start)
+    made = bytearray()
+    while len(made) < end - start:
+        part = file.read(end - start - len(made))
+        if not part:
+            break
+        made += part
+    if start:
+        system.invalidate_cache(info["name"])
+        if _stamps(system.info(info["name"])) != _stamps(info):
+            raise OSError(f"it has changed while it was read, before byte {end:,}")
+    return bytes(made)
 
 
 @contextlib.contextmanager
@@ -98,9 +130,12 @@ def _system_of(url: str) -> Tuple[Any, str]:
     try:
         import fsspec.core
     except ImportError:
-        raise OSError(f"{url} needs the package fsspec, which is not installed") from None
+        raise needs(url, "fsspec") from None
+    words = {"get_client": over_http.client} if url.startswith(over_http.SCHEMES) else {}
     try:
-        system, path = fsspec.core.url_to_fs(url)
-    except (ImportError, ValueError) as error:
+        system, path = fsspec.core.url_to_fs(url, **words)
+    except ImportError as error:
+        raise needs(url, error.name or "", str(error)) from None
+    except Exception as error:  # of any library
         raise OSError(f"{url} can't be opened: {error}") from None
     return system, path
