@@ -51,6 +51,11 @@ _NO_PICKLE = (
     Reason.MissingMark,
     Reason.MissingMemo,
 )
+_CUT = (Reason.Truncated, Reason.BadArgument, Reason.TooLarge)
+"""Why the first instruction of a text may not be complete: its words are read as a count."""
+_TEXT = re.compile(rb"[\t\n\r\x20-\x7e]{5}[^\x00-\x08\x0b\x0c\x0e-\x1f\x7f]*")
+_OBJECT_OF_TEXT = re.compile(rb"S['\"]|[FIL][-0-9]|[VPc]")
+"""How a pickle begins whose first instruction is a line of text."""
 
 
 def hint_of(
@@ -70,6 +75,8 @@ def hint_of(
             return f"these bytes aren't a pickle, but look like {what}"
     if at == 0 and (verdict.reason in _NO_PICKLE or not front):
         return "these bytes aren't a pickle" if front else "there are no bytes"
+    if at == 0 and verdict.reason in _CUT and _looks_like_text(read(0, 64)):
+        return "these bytes look like text, not a pickle"
     if verdict.reason is Reason.TooLarge:
         return _of_limit(read(at, 32), limits)
     if verdict.reason is Reason.BadArgument:
@@ -82,6 +89,10 @@ def hint_of(
     if verdict.reason is Reason.NotAscii:
         return 'old_strings="bytes" reads such strings as bytes'
     return ""
+
+
+def _looks_like_text(front: bytes) -> bool:
+    return bool(_TEXT.fullmatch(front)) and not _OBJECT_OF_TEXT.match(front)
 
 
 def _of_costs(asked: Dict[str, str], limits: Limits) -> str:

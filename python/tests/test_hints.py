@@ -44,6 +44,10 @@ HINTS = [
     (b"hello", None, "aren't a pickle"),
     (b"<xml>", None, "aren't a pickle"),
     (b"null", None, "aren't a pickle"),
+    *((text, None, "look like text, not a pickle") for text in (
+        b"This is a text", "Xylophon, schön gespielt".encode(), b"Best regards, Bob",
+        b"Import this\nnow", b"Some text here\n", b"Large text\n", b"Create a file\n",
+    )),
     (b'{"a": 1}', None, "JSON"),
     (b' [1, 2]', None, "JSON"),
     (gzip.compress(b"N."), None, "gzip"),
@@ -51,7 +55,11 @@ HINTS = [
     (base64.b64encode(pickle.dumps([1], 4)), None, "base64"),
     (b"PK\x03\x04", None, "storklocker scan"),
 ]
-NONE = [b"N", b"\x80\x09.", b"NN.", b"\x80\x04X\x02\0\0\0\xff\xff."]
+NONE = [
+    b"N", b"\x80\x09.", b"NN.", b"\x80\x04X\x02\0\0\0\xff\xff.",
+    *(pickle.dumps(it, 0)[:6] for it in (1234567, -1234567, 2**70, 1.25e-7, "a text", int)),
+    b"S'a text", b'S"a text',
+]
 
 
 class Hints(unittest.TestCase):
