@@ -28,8 +28,10 @@ pub mod BehindStop
 pub mod Exclusive
 pub mod ExclusiveRows
 pub mod RefusedBehind
+pub mod OneReadRefusal
 pub mod SameImports
 pub mod SameImportsOfRow
+pub mod OneRefusal
 pub mod EachSetting
 pub mod Unlisted
 pub mod NewRuns

@@ -7,6 +7,7 @@ ghost use Rattle.pkcheck.specs.Ends.{SameEvents, WellCarriesOver, WellIsFree};
 ghost use Rattle.pkcheck.specs.Exclusive.{OneBegins, RefusedBehind, YesExcludesNo};
 ghost use Rattle.pkcheck.specs.Exclusive.{YesOfRowExcludesNo};
 ghost use Rattle.pkcheck.specs.NewRuns.{FaultlessIsRun};
+ghost use Rattle.pkcheck.specs.OneRefusal.{OneRefusal};
 ghost use Rattle.pkcheck.specs.SameImports.{SameImports, SameImportsOfRow};
 
 use pkmachine::laws::steps;
@@ -55,6 +56,17 @@ pub fn same_imports_of_row()
 /// a failed read.
 pub fn refused_behind()
     ensures { RefusedBehind }
+{
+    growth();
+    one_answer();
+    one_sequence();
+}
+
+/// Two refusals of the same bytes under the same policy, limits and setting, whose runs begin alike,
+/// are at one offset, for one reason, with one pair, except for a refused allocation or a failed
+/// read.
+pub fn one_refusal()
+    ensures { OneRefusal }
 {
     growth();
     one_answer();

@@ -69,7 +69,7 @@ module _ (setting : OldStrings) (b : Beginning) (policy : Policy) (limits : Boun
       → HasFaultHere policy limits (everyone (RunsFrom setting b before)) i r
   shown = fault_of_any (RunsFrom setting b before) (any_arrives setting b before) policy limits i
 
-  by_any : (r : Reason) → HasRunFault policy limits before (RunsFrom setting b before) i r
+  pub by_any : (r : Reason) → HasRunFault policy limits before (RunsFrom setting b before) i r
       → HasRunFault policy limits before (everyone (RunsFrom setting b before)) i r
   by_any reason.BrokenFrame f = f
   by_any r f = shown r f
@@ -204,7 +204,7 @@ module _ (one : OneAnswer) (nothing : (limit : ℕ) → Begun limit []) (limits 
         let n = ap length e in
         omega (arith, n, length-append bytes [], length-append (spelling j) behind, lt)
 
-    no_row : (r : Reason) → r ≢ reason.Source → r ≢ reason.OutOfMemory
+    pub no_row : (r : Reason) → r ≢ reason.Source → r ≢ reason.OutOfMemory
         → ShowsReason (payload_limit_at limits bytes) here after bytes taken r → ⊥
     no_row reason.Source n m h = n refl
     no_row reason.OutOfMemory n m h = m refl

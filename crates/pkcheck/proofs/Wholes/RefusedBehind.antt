@@ -17,7 +17,7 @@ use Rattle.pkcheck.specs.RunFaults.{HasRunFault}
 use Rattle.pkcheck.proofs.Wholes.Exclusive.{OneAnswer, consumed, not_why}
 use Rattle.pkcheck.proofs.Wholes.ExclusiveRows.{same_runs}
 
-all_good : (limits : Bounds) (p : List Instruction)
+pub all_good : (limits : Bounds) (p : List Instruction)
     → All (IsAllowedBy (payload_limit limits)) p → All IsGood p
 all_good limits [] h = All-nil IsGood
 all_good limits (i ∷ p) h =
@@ -26,7 +26,7 @@ all_good limits (i ∷ p) h =
 
 module _ (front : OneFront) where
   -- of two lists of instructions with which bytes begin, one begins with the other
-  parts : (p q : List Instruction) (rest tail : List ℕ) → All IsGood p → All IsGood q
+  pub parts : (p q : List Instruction) (rest tail : List ℕ) → All IsGood p → All IsGood q
       → spellings p ++ rest ≡ spellings q ++ tail
       → GoesOnBehind p q rest tail ⊎ ((behind : List Instruction) × (q ≡ p ++ behind))
   parts [] q rest tail g h e = inr (q, refl)

@@ -38,7 +38,8 @@ from_pairs (Some AskedUnknown) y nx ny pairs h k = absurd (nx refl)
 from_pairs None (Some AskedUnknown) nx ny pairs h k = absurd (ny refl)
 from_pairs (Some (AskedPair m n)) (Some AskedUnknown) nx ny pairs h k = absurd (ny refl)
 
-from_events : (x y : Option Asked) (before after : List Event) → x ≢ Some AskedUnknown
+-- two imports of the same events are one
+pub from_events : (x y : Option Asked) (before after : List Event) → x ≢ Some AskedUnknown
     → y ≢ Some AskedUnknown → Adds x before after → Adds y before after → x ≡ y
 from_events x y before after nx ny a b =
     let same : a.added ≡ b.added =
