@@ -32,7 +32,7 @@
 extern "C" {
 #endif
 
-#define STORKLOCKER_VERSION "0.3.0.dev24"
+#define STORKLOCKER_VERSION "0.3.0.dev25"
 
 /* The version of the running library; STORKLOCKER_VERSION is the version of this header.
 

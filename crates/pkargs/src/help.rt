@@ -1,7 +1,7 @@
 //! The program's help texts.
 
 /// The version of the program.
-pub const VERSION: &str = "0.3.0.dev24";
+pub const VERSION: &str = "0.3.0.dev25";
 
 /// The end of the help.
 pub const STATUSES: &str = "\
