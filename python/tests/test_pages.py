@@ -88,7 +88,7 @@ class Pages(unittest.TestCase):
     def test_bash(self):
         for words, wanted in (
             ("storklocker s", ["scan", "serve"]),
-            ("storklocker scan --fo", ["--format"]),
+            ("storklocker scan --for", ["--format"]),
             ("storklocker scan a --format s", ["sarif"]),
             ("storklocker scan --allow li", []),
             ("storklocker scan li", []),
@@ -111,7 +111,7 @@ class Pages(unittest.TestCase):
         self.addCleanup(home.cleanup)
         for words, wanted in (
             ("storklocker s", "scan"),
-            ("storklocker scan --fo", "--format"),
+            ("storklocker scan --for", "--format"),
             ("storklocker scan a --format s", "sarif"),
         ):
             asked = f"source -; complete -C '{words}'"

@@ -25,6 +25,11 @@
     listing.py      the instructions around a refusal
     condensing.py   keeps the reports on one file within bounds
     scan.py         many files, in several processes
+    remote.py, over_http.py, ranges.py and lacking.py
+                    objects at URLs, each byte of which is fetched once
+    queues.py, redis_values.py
+                    values of stores and queues elsewhere
+    pacing.py       files at a bounded rate, and those that are added
     choosing.py     which files of a folder are scanned
     severity.py     the kinds of findings, how bad each is, and what to do about it
     dangers.py      what is known of names; known.py reads the table known.txt

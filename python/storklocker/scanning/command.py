@@ -9,7 +9,7 @@ import io
 import os
 import sys
 from collections import Counter
-from typing import Callable, Dict, Iterator, Optional, Sequence, Union
+from typing import Callable, Dict, Iterable, Iterator, Optional, Sequence, Union
 
 from .. import __version__
 from .._lists import has_substitutes
@@ -20,10 +20,11 @@ from . import formats, program, showing
 from .answering import FAULT, NO, YES, Checking, Importing, status_of
 from .choosing import Choice
 from .dangers import import_findings, list_findings, table_of
-from .files import Files, names_from
+from .files import File, Files, names_from
 from .judging import Question
 from .lists import add_commands, list_of, union_of
 from .options import GUARDED, LISTS, PATH, add_descending, add_options
+from .pacing import grown
 from .report import Finding, shown
 from .scan import Means, scan
 from .severity import DANGER, REFUSED, UNKNOWN, UNRECOGNIZED, WARNING
@@ -212,7 +213,7 @@ def _files_of(asked: argparse.Namespace) -> Iterator[Files]:
     """The files to scan. When they are exhausted, reports how many were left out."""
     choice = Choice(getattr(asked, "include", ()), getattr(asked, "exclude", ()))
     is_measured = any(getattr(asked, it, None) for it in ("cluster", "resume"))
-    is_measured |= getattr(asked, "jobs", 1) > 1
+    is_measured |= getattr(asked, "jobs", 1) > 1 or getattr(asked, "follow", False)
     named = getattr(asked, "files_from", None)
     paths = [*asked.paths, *(names_from(named, asked.null) if named else ())]
     files = Files(paths, getattr(asked, "recursive", True), choice, is_measured)
@@ -232,6 +233,8 @@ def _files_of(asked: argparse.Namespace) -> Iterator[Files]:
 def _scan(asked: argparse.Namespace) -> int:
     if not (asked.paths or asked.files_from):
         asked.configured.error("scan takes paths, or --files-from with a file")
+    if asked.follow and (asked.format != "ndjson" or asked.jobs > 1 or asked.cluster):
+        asked.configured.error("--follow needs --format ndjson, and one process")
     allow = None if asked.allow is None else union_of(asked.allow)
     asked.fail_on = asked.fail_on or (UNKNOWN if allow is None else REFUSED)
     told = Summary(asked.fail_on, asked.guarded)
@@ -241,8 +244,11 @@ def _scan(asked: argparse.Namespace) -> int:
     question = Question(allow, with_sha256, dangers=own, with_unrecognized=is_unrecognized)
     errors = None if asked.quiet else sys.stderr
     with _files_of(asked) as files:
-        means = Means(asked.jobs, asked.cluster or "", asked.resume or "")
-        reports = scan(files, question, means, errors)
+        means = Means(asked.jobs, asked.cluster or "", asked.resume or "", asked.rate)
+        chosen: Iterable[File] = files
+        if asked.follow:
+            chosen = grown(files)
+        reports = scan(chosen, question, means, errors)
         if asked.baseline:
             from .baseline import Baseline  # few scans have one
 

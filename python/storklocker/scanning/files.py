@@ -6,7 +6,7 @@ import itertools
 import operator
 import os
 import sys
-from typing import Callable, Iterable, Iterator, List, NamedTuple, Optional, Tuple
+from typing import Callable, Dict, Iterable, Iterator, List, NamedTuple, Optional, Tuple
 
 from .choosing import Choice
 from .report import Report
@@ -34,6 +34,8 @@ class File(NamedTuple):
     """The reports on it, of an earlier scan."""
     held: str = ""
     """Where its bytes are, if not in `path`."""
+    value: Optional[bytes] = None
+    """Its bytes, if it is a value of a store or a message of a queue, which come with it."""
 
 
 class Files:
@@ -41,6 +43,7 @@ class Files:
     in subfolders too. `is_measured` gives their sizes and stamps, which take a call for each.
 
     left_out: the number of subfolders skipped without `recursive`.
+    positions: how far each log was read that keeps what was read.
     """
 
     def __init__(
@@ -57,10 +60,15 @@ class Files:
         if is_measured:
             self._file = _measured
         self.left_out = 0
+        self.positions: Dict[str, int] = {}
 
     def __iter__(self) -> Iterator[File]:
         for path in self._paths:
-            if is_url(path):
+            if scheme_of(path) in QUEUES:
+                from .queues import values_at
+
+                yield from values_at(path, self)
+            elif is_url(path):
                 from .remote import files_at
 
                 yield from files_at(path, self)
@@ -148,6 +156,16 @@ def names_from(path: str, is_null: bool) -> List[str]:
     found = [os.fsdecode(it) for it in data.split(b"\0" if is_null else b"\n") if it]
     # (a file of this name is meant, and not standard input)
     return [os.path.join(".", it) if it == "-" else it for it in found]
+
+
+QUEUES = ("redis", "rediss", "amqp", "amqps", "kafka")
+"""The schemes of stores and queues, whose values are scanned one by one."""
+
+
+def scheme_of(path: str) -> str:
+    """The scheme of a URL; an empty text for a path."""
+    scheme, mark, _ = path.partition("://")
+    return scheme if mark else ""
 
 
 def is_url(path: str) -> bool:

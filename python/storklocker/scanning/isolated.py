@@ -12,6 +12,7 @@ import os
 import pickle
 import subprocess
 import sys
+import tempfile
 from pathlib import Path
 from typing import Dict, List, NamedTuple, Optional, Sequence
 
@@ -49,7 +50,8 @@ def line_of(file: File, question: int = 0, is_front: bool = False) -> bytes:
     it, so that there are reports only if it is refused whatever these are.
     """
     names = [os.fsencode(it).hex() for it in (file.path, file.held)]
-    return json.dumps([names, file.is_opened, question, is_front]).encode() + b"\n"
+    is_value = file.value is not None
+    return json.dumps([names, file.is_opened, question, is_front, is_value]).encode() + b"\n"
 
 
 def reports_in(answer: bytes) -> List[Report]:
@@ -66,6 +68,10 @@ class Isolated:
 
     def scan(self, file: File) -> List[Report]:
         """The reports on a file."""
+        if file.value is not None:
+            with tempfile.TemporaryDirectory(prefix="storklocker-") as folder:
+                Path(folder, "value").write_bytes(file.value)
+                return self._tried(file._replace(held=str(Path(folder, "value"))))
         if not is_url(file.path):
             return self._tried(file)
         from .remote import held
@@ -121,12 +127,13 @@ def _main() -> None:
     """Answers the lines of standard input."""
     questions: Sequence[Question] = pickle.loads(base64.b64decode(sys.stdin.buffer.readline()))
     for line in sys.stdin.buffer:
-        names, is_opened, number, is_front = json.loads(line)
+        names, is_opened, number, is_front, is_value = json.loads(line)
         path, held = (os.fsdecode(bytes.fromhex(it)) for it in names)
         question = questions[number]
         reports: List[Report] = []
         if not is_front or is_refused(Path(held or path), question.allow):
-            reports = scan_file(File(path, is_opened, held=held), question)
+            value = Path(held).read_bytes() if is_value else None
+            reports = scan_file(File(path, is_opened, held=held, value=value), question)
         print(json.dumps([report.as_dict() for report in reports]), flush=True)
 
 

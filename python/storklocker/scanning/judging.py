@@ -23,7 +23,8 @@ from .kept import NOTHING as KEEPS_NOTHING
 from .kept import told_of_kept
 from .names import pair_of
 from .readings import (
-    Beside, Nothing, Piece, Place, Together, Unread, all_asked, examine, is_text, nothing
+    Answer, Beside, Found, Nothing, Piece, Place, Reading, Together, Unread, all_asked, examine,
+    examined_value, is_text, nothing,
 )
 from .report import LONGEST, Finding, Pair, Report, judged, unreadable
 from .rows import Row, row_of
@@ -88,7 +89,20 @@ def reports_of(
     yield from with_sha256(found, source) if question.with_sha256 else found
 
 
-def _reports_on(place: Place, question: Question, may_be_lone: bool) -> Iterator[Report]:
+def reports_of_value(path: str, value: bytes, question: Question) -> Iterator[Report]:
+    """The reports on a value of a store, or a message of a queue: what it is as a file, or else the
+    pickles that are in it as in a store.
+    """
+    _judge_by(question.dangers)
+    source = in_memory(io.BytesIO(value))
+    place = Place(path, source, Budget(source.size), around="value")
+    found = _reports_on(place, question, True, examined_value)
+    yield from with_sha256(found, source) if question.with_sha256 else found
+
+
+def _reports_on(
+    place: Place, question: Question, may_be_lone: bool, told: Reading = examine
+) -> Iterator[Report]:
     path, source = place.path, place.source
     try:
         may_be_lone &= len(source.front()) == source.size
@@ -97,7 +111,7 @@ def _reports_on(place: Place, question: Question, may_be_lone: bool) -> Iterator
             yield lone
             return
         place.budget.lone = _lone_under(question.allow)
-        yield from _reports_at(place, question)
+        yield from _reports_at(place, question, told(place))
     except TooMuch as error:
         yield _too_much(error, path)
 
@@ -191,8 +205,9 @@ def _foreseen(
     return report
 
 
-def _reports_at(place: Place, question: Question) -> Iterator[Report]:
-    told, answer, budget = examine(place), None, place.budget
+def _reports_at(place: Place, question: Question, told: Found) -> Iterator[Report]:
+    answer: Answer = None
+    budget = place.budget
     while True:
         try:
             it = told.send(answer)

@@ -106,6 +106,14 @@ def _add_means(it: argparse.ArgumentParser) -> None:
         help="scan on the workers of the dask.distributed cluster with this scheduler",
     )
     it.add_argument(
+        "--rate", type=float, default=0, metavar="N", help="scan at most N files a second"
+    )
+    it.add_argument(
+        "--follow",
+        action="store_true",
+        help="go on with what is added to files, lists and topics; needs --format ndjson",
+    )
+    it.add_argument(
         "--resume",
         metavar="FILE",
         help="keep reports in this file, and reuse those of an earlier run",

@@ -179,6 +179,15 @@ def examine(place: Place) -> Found:
     return bool(takers)
 
 
+def examined_value(place: Place) -> Found:
+    """All readings of a value of a store; if no reader takes it, the pickles that are in it."""
+    from .stores import searched
+
+    if (yield from examine(place)):
+        return True
+    return (yield from searched(place, place.around))
+
+
 def _told_of(place: Place, takers: List[str], reports: int) -> Found:
     """What is told of a file beside its pickles: the code in it; or else what it is, if there is
     nothing else to tell.

@@ -14,7 +14,8 @@ from typing import (
 from .beside import beside
 from .condensing import condensed, is_small
 from .files import File, is_url
-from .judging import Question, lone_report, reports_of
+from .judging import Question, lone_report, reports_of, reports_of_value
+from .pacing import paced
 from .report import Finding, Report, of_one_file, unreadable
 from .source import whole_of
 from .summary import Progress
@@ -31,7 +32,10 @@ def scan_file(file: File, question: Question) -> List[Report]:
         return [Report(name, "link", Word.NO_PICKLE, finding.why, findings=(finding,), file=name)]
     reports: List[Report] = []
     try:
-        if file.path == "-" or is_url(file.path) and not file.held:
+        if file.value is not None:
+            found = reports_of_value(name, file.value, question)
+            reports += condensed(found)
+        elif file.path == "-" or is_url(file.path) and not file.held:
             with _opened(file.path) as opened:
                 _examine(opened, file, question, reports)
         else:
@@ -119,6 +123,8 @@ class Means(NamedTuple):
     """The address of the scheduler of a cluster whose workers scan, if any."""
     resume: str = ""
     """The file that keeps the reports for another run, if any."""
+    rate: float = 0
+    """The most files a second; 0: as fast as they are read."""
 
 
 def scan(
@@ -134,6 +140,8 @@ def scan(
 
         store = Store(means.resume, question)
         files = store.marked(files)
+    if means.rate:
+        files = paced(files, means.rate)
     try:
         for file, reports in _scanned(files, question, means):
             if store is not None:
