@@ -62,7 +62,7 @@ pub fn refused_behind()
     one_sequence();
 }
 
-/// Two refusals of the same bytes under the same policy, limits and setting, whose runs begin alike,
+/// Two refusals of the same bytes under the same policy, limits and setting, after the same pickles,
 /// are at one offset, for one reason, with one pair, except for a refused allocation or a failed
 /// read.
 pub fn one_refusal()

@@ -3,7 +3,7 @@ use Rattle.std.proofs.Common.{◌≡◌, ◌≢◌, ◌≤◌, ℕ, inl, inr, Li
 use Rattle.std.proofs.Common.{append_assoc, length-append, Option, Some, Ok, Err, refl, sym, ap}
 use Rattle.std.proofs.Common.{subst, ◌∙◌, arith}
 use Rattle.std.specs.Io.KnownBytes.{IsAtEnd}
-use Rattle.std.specs.Prelude.{option_map}
+use Rattle.std.specs.Prelude.{flat_map, option_map}
 use Rattle.pkops.specs.Limits.{Bounds}
 use Rattle.pkops.specs.Payloads.{payload_limit}
 use Rattle.pkops.specs.Spelling.{Instruction}
@@ -13,6 +13,7 @@ use Rattle.pkread.specs.Rows.{Sight, Takes, all_bytes}
 use Rattle.pkread.specs.Sequence.{spellings}
 use Rattle.pkread.specs.Sequences.{OneFront, OneSequence, SequenceGoesOn}
 use Rattle.pkcheck.specs.Exclusive.{OneBegins, RefusedBehind, YesExcludesNo, YesOfRowExcludesNo}
+use Rattle.pkcheck.specs.OneRefusal.{OneRefusal}
 use Rattle.pkimport.specs.Import.{Asked, asked_shown}
 use Rattle.pkmachine.specs.Knowledge.{Policy}
 use Rattle.pkcheck.specs.Refused.{RefusedFrom}
@@ -25,7 +26,7 @@ use Rattle.pkcheck.specs.declared.check_loop.RefusedPickle.{RefusedPickle}
 use Rattle.pkcheck.specs.declared.loading.Loading.{Loading}
 use Rattle.pkload.proofs.Costs.{takes_none}
 use Rattle.pkload.proofs.Loading.{sequences_with}
-use Rattle.pkload.proofs.SameBytes.{bill_alike, same_bill, consumed, one_excess, one_place}
+use Rattle.pkload.proofs.SameBytes.{bill_alike, same_bill, consumed, one_excess}
 use Rattle.pkload.proofs.SameBytes.{refused_or_over, yes_or_over, yes_or_refused}
 use Rattle.pkload.proofs.SameRows.{Compared, Longer, compare, first_empty, none_left, same_bytes}
 use Rattle.pkload.proofs.SameRows.{none_spelled, same_count, takes_some}
@@ -33,7 +34,7 @@ use Rattle.pkload.specs.Bill.{Bill, all_billed, bill_before}
 use Rattle.pkload.specs.Costly.{CostsTooMuch, ExceedsIn}
 use Rattle.pkload.specs.Loading.{AcceptedWithBill, AcceptedWithin, CostsWithin, KeepWithin}
 use Rattle.pkload.specs.Loading.{StaysWithin, bill_of, last_bill}
-use Rattle.pkload.specs.OneEnd.{Fits, Loaded, OneEndFits, SameEnd}
+use Rattle.pkload.specs.OneEnd.{Fits, IsSameNo, Loaded, OneEndFits, SameEnd}
 use Rattle.pkload.specs.declared.checking.Costly.{Costly}
 use Rattle.pkload.specs.declared.checking.YesWithBill.{YesWithBill}
 use Rattle.pkload.specs.declared.tolls.Excess.{Excess}
@@ -75,7 +76,8 @@ module _ (loading : Loading) (tolls : Tolls) where
   last_alike _ _ done gone e f h g = cc
 
 module _ (front : OneFront) (goes : SequenceGoesOn) (unique : OneSequence) (begin : OneBegins)
-    (behind : RefusedBehind) (excludes : YesExcludesNo) (of_row : YesOfRowExcludesNo)
+    (behind : RefusedBehind) (refusal : OneRefusal) (excludes : YesExcludesNo)
+    (of_row : YesOfRowExcludesNo)
     (loading : Loading) (policy : Policy) (limits : Bounds) (tolls : Tolls) (bytes : List ℕ)
     (few : length bytes ≤ all_bytes) where
   abbrev Long : List Pickle → List Pickle → Sight → Type 0
@@ -203,19 +205,24 @@ module _ (front : OneFront) (goes : SequenceGoesOn) (unique : OneSequence) (begi
 
   refused_refused : (old after other later : Sight) (x y : RefusedPickle)
       → old.left ≡ Some bytes → other.left ≡ Some bytes → RefusedAs old after x
-      → RefusedAs other later y → (x.pickle ≡ y.pickle) × (x.no.at ≡ y.no.at)
+      → RefusedAs other later y → (x.pickle ≡ y.pickle) × IsSameNo x.no y.no
   refused_refused old after other later x y is also r q =
       by_rows (compared r.before q.before old r.here other q.here is also r.each q.each)
     where
       by_rows : Both r.before q.before r.here q.here
-          → (x.pickle ≡ y.pickle) × (x.no.at ≡ y.no.at)
-      by_rows (inl s) = (
-        r.number ∙ same_count r.before q.before s.same ∙ sym q.number,
-        one_place loading policy limits tolls r.before q.before s.same s.bytes r.here q.here s.left
-            s.other behind after later x.no.at y.no.at x.no.reason y.no.reason
-            (option_map asked_shown x.no.pair) (option_map asked_shown y.no.pair)
-            (omega (arith, few, s.count)) r.refused r.source r.memory q.refused q.source q.memory,
-      )
+          → (x.pickle ≡ y.pickle) × IsSameNo x.no y.no
+      by_rows (inl s) =
+          let from = ap (λ ps. length (flat_map spellings ps)) s.same in (
+            r.number ∙ same_count r.before q.before s.same ∙ sym q.number,
+            refusal (length (bytes_of_all r.before)) loading r.before q.before policy limits
+                s.bytes r.here after q.here later x.no.at y.no.at x.no.reason y.no.reason
+                (option_map asked_shown x.no.pair) (option_map asked_shown y.no.pair) s.left
+                s.other (omega (arith, few, s.count)) s.same r.refused
+                (subst (λ f. RefusedFrom f loading.old_strings (begins loading.memo q.before) policy
+                limits q.here later y.no.at y.no.reason (option_map asked_shown y.no.pair))
+                (sym from) q.refused)
+                r.source r.memory q.source q.memory,
+          )
       by_rows (inr (inl l)) = absurd (long_or_refused r.before other later y q l)
       by_rows (inr (inr l)) = absurd (long_or_refused q.before old after x r l)
 
@@ -341,9 +348,9 @@ module _ (front : OneFront) (goes : SequenceGoesOn) (unique : OneSequence) (begi
   ends extent old new other after (Err x) (Err y) is also h g =
       over_over extent old other x y is also h g
 
-pub one_end : OneFront → SequenceGoesOn → OneSequence → OneBegins → RefusedBehind → YesExcludesNo
-    → YesOfRowExcludesNo → OneEndFits
-one_end front goes unique begin behind excludes of_row loading policy limits tolls extent bytes old
-    new other after a b is also few h g =
-    ends front goes unique begin behind excludes of_row loading policy limits tolls bytes few extent
-    old new other after a b is also h g
+pub one_end : OneFront → SequenceGoesOn → OneSequence → OneBegins → RefusedBehind → OneRefusal
+    → YesExcludesNo → YesOfRowExcludesNo → OneEndFits
+one_end front goes unique begin behind refusal excludes of_row loading policy limits tolls extent
+    bytes old new other after a b is also few h g =
+    ends front goes unique begin behind refusal excludes of_row loading policy limits tolls bytes
+    few extent old new other after a b is also h g

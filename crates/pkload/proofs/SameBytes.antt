@@ -199,40 +199,6 @@ module _ (loading : Loading) (policy : Policy) (limits : Bounds) (tolls : Tolls)
         (subst (All (λ i. i.op ≢ op.Stop))
         (k.1 ∙ ap (λ l. l ++ k.0) s.2 ∙ append_assoc s.0 (s.1 ∷ []) k.0) x.goes_on) s.3
 
-    -- a pickle is refused at one place
-    pub one_place : RefusedBehind → (after later : Sight) (place at : ℕ) (r q : Reason)
-        (pair other : Option Asked)
-        → length (bytes_of_all xs) + length bytes ≤ all_bytes
-        → RefusedFrom (length (bytes_of_all xs)) loading.old_strings (begins loading.memo xs)
-        policy limits here after place r pair → r ≢ reason.Source → r ≢ reason.OutOfMemory
-        → RefusedFrom (length (bytes_of_all ys)) loading.old_strings (begins loading.memo ys)
-        policy limits there later at q other → q ≢ reason.Source → q ≢ reason.OutOfMemory
-        → place ≡ at
-    one_place behind after later place at r q pair other few x n m y k l =
-        let from = ap (λ ps. length (flat_map spellings ps)) same in
-        let c = consumed here bytes (spellings x.instructions) x.here is x.bytes in
-        let d = consumed there bytes (spellings y.instructions) y.here also y.bytes in
-        let g = behind loading xs ys policy limits bytes here x.here x.instructions
-        (length (bytes_of_all ys)) there later at q other is also same
-        (omega (arith, few, from, ap length c.2, length-append (spellings x.instructions) c.0))
-        x.admitted x.faultless x.bytes y k l in
-        let h = behind loading ys xs policy limits bytes there y.here y.instructions
-        (length (bytes_of_all xs)) here after place r pair also is (sym same)
-        (omega (arith, few, ap length d.2, length-append (spellings y.instructions) d.0))
-        y.admitted y.faultless y.bytes x n m in
-        omega (
-          arith,
-          from,
-          x.place,
-          y.place,
-          ap (λ l. length (spellings l)) g.1
-              ∙ ap length (flat_map-append spelling x.instructions g.0),
-          length-append (spellings x.instructions) (spellings g.0),
-          ap (λ l. length (spellings l)) h.1
-              ∙ ap length (flat_map-append spelling y.instructions h.0),
-          length-append (spellings y.instructions) (spellings h.0),
-        )
-
 -- a pickle exceeds one limit first, at one place
 module _ (loading : Loading) (policy : Policy) (limits : Bounds) (tolls : Tolls)
     (xs ys : List Pickle) (same : sequences_of xs ≡ sequences_of ys) (bytes : List ℕ)

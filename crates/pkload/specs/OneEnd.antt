@@ -1,10 +1,12 @@
 -- The same bytes have one end under the same settings, but for refused allocations and failed
 -- reads.
-use Rattle.std.specs.Prelude.{◌≡◌, ◌≢◌, ◌≤◌, List, ℕ, Result, Ok, Err, Some, length}
+use Rattle.std.specs.Prelude.{◌≡◌, ◌≢◌, ◌≤◌, List, ℕ, Result, Ok, Err, Some, length, option_map}
 use Rattle.pkops.specs.Limits.{Bounds}
 use Rattle.pkops.specs.declared.Reason.TheVariants as reason
 use Rattle.pkread.specs.Rows.{Sight, all_bytes}
 use Rattle.pkmachine.specs.Knowledge.{Policy}
+use Rattle.pkimport.specs.Import.{asked_shown}
+use Rattle.pkcheck.specs.declared.checking.No.{No}
 use Rattle.pkcheck.specs.declared.check_loop.Extent.{Extent}
 use Rattle.pkcheck.specs.declared.check_loop.RefusedPickle.{RefusedPickle}
 use Rattle.pkcheck.specs.declared.loading.Loading.{Loading}
@@ -31,12 +33,17 @@ module _ (loading : Loading) (policy : Policy) (limits : Bounds) (tolls : Tolls)
     Fits old new (Err costly) =
         CostsTooMuch loading policy limits tolls old extent costly.pickle costly.at costly.excess
 
+-- both refusals are at this offset, for this reason, with this pair
+abbrev pub IsSameNo : No → No → Type 0
+IsSameNo a b = (a.at ≡ b.at) × (a.reason ≡ b.reason)
+    × (option_map asked_shown a.pair ≡ option_map asked_shown b.pair)
+
 -- both are a yes to as many pickles and bytes with the same bill, both a refusal of the same
--- instruction, or both the same limit at the same instruction
+-- instruction for the same reason, or both the same limit at the same instruction
 abbrev pub SameEnd : Loaded → Loaded → Type 0
 SameEnd (Ok (Ok a)) (Ok (Ok b)) = (a.yes.pickles ≡ b.yes.pickles) × (a.yes.taken ≡ b.yes.taken)
     × (a.tally ≡ b.tally) × (a.memory ≡ b.memory)
-SameEnd (Ok (Err a)) (Ok (Err b)) = (a.pickle ≡ b.pickle) × (a.no.at ≡ b.no.at)
+SameEnd (Ok (Err a)) (Ok (Err b)) = (a.pickle ≡ b.pickle) × IsSameNo a.no b.no
 SameEnd (Err a) (Err b) = (a.pickle ≡ b.pickle) × (a.at ≡ b.at) × (a.excess ≡ b.excess)
 SameEnd _ _ = ⊥
 

@@ -4,7 +4,9 @@ ghost use Rattle.pkload.specs.FollowedBill.{BillIsFollowed};
 ghost use Rattle.pkload.specs.Laws.{BillBoundsRuns, ExcessStays, TollsOnlyRefuse};
 ghost use Rattle.pkload.specs.OneEnd.{OneEndFits};
 
-use pkcheck::laws::{one_begins, refused_behind, yes_excludes_no, yes_of_row_excludes_no};
+use pkcheck::laws::{
+    one_begins, one_refusal, refused_behind, yes_excludes_no, yes_of_row_excludes_no,
+};
 use pkread::laws::one_sequence;
 
 /// In every run whose answers are new objects, the keys cost what the bill says, and at most that
@@ -33,8 +35,8 @@ pub fn excess_stays()
 {}
 
 /// Two answers to the same bytes under the same settings are both yes with the same bill, both a
-/// refusal of the same instruction, or both the same limit at the same instruction, except for a
-/// refused allocation or a failed read.
+/// refusal of the same instruction for the same reason, or both the same limit at the same
+/// instruction, except for a refused allocation or a failed read.
 #[tactic(auto, using(crate::proofs::OneEnd::one_end))]
 pub fn one_end()
     ensures { OneEndFits }
@@ -42,6 +44,7 @@ pub fn one_end()
     one_begins();
     one_sequence();
     refused_behind();
+    one_refusal();
     yes_excludes_no();
     yes_of_row_excludes_no();
 }

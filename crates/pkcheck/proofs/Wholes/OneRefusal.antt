@@ -22,12 +22,15 @@ use Rattle.pkimport.specs.Import.{Asked, AskedPair, AskedUnknown}
 use Rattle.pkmachine.specs.Covers.{Adds}
 use Rattle.pkmachine.specs.Faults.{Arrivals, AsksFor, AsksOffList, IsEarlier, IsPairOf, IsStuck}
 use Rattle.pkmachine.specs.Faults.{InEachRun, everyone, rank}
-use Rattle.pkmachine.specs.RowRuns.{Beginning, RunsFrom}
+use Rattle.pkmachine.specs.RowRuns.{Beginning, Pickle, RunsFrom, sequences_of}
+use Rattle.pkmachine.specs.declared.memo.Memo.{Memo}
 use Rattle.pkmachine.specs.Runs.{Raise, Raised, State, Stepped, Stopped, Stuck, WentOn, step_as}
 use Rattle.pkcheck.specs.OneRefusal.{OneRefusal}
 use Rattle.pkcheck.specs.Refused.{HasFirstFault, RefusedFrom, Why, growing, judging, reading}
+use Rattle.pkcheck.specs.RowOfPickles.{begins}
 use Rattle.pkcheck.specs.RunFaults.{HasRunFault}
 use Rattle.pkcheck.proofs.Wholes.Exclusive.{OneAnswer, by_any, consumed, no_row, not_why}
+use Rattle.pkcheck.proofs.Wholes.ExclusiveRows.{same_runs}
 use Rattle.pkcheck.proofs.Wholes.OneReadRefusal.{one_reason}
 use Rattle.pkcheck.proofs.Wholes.Origins.{any_arrives}
 use Rattle.pkcheck.proofs.Wholes.RefusedBehind.{all_good, parts}
@@ -245,27 +248,85 @@ module _ (one : OneAnswer) (nothing : (limit : ℕ) → Begun limit []) (front :
           k l second.why)
       by_part tail rest is fits (inr g) = g
 
+-- two refusals in runs that begin alike
+module _ (one : OneAnswer) (nothing : (limit : ℕ) → Begun limit []) (front : OneFront)
+    (goes : SequenceGoesOn) (from : ℕ) (setting : OldStrings) (b : Beginning) (policy : Policy)
+    (limits : Bounds) (bytes : List ℕ) (old new other after : Sight) (at place : ℕ) (r s : Reason)
+    (x y : Option Asked) where
+  same_refusal : old.left ≡ Some bytes → other.left ≡ Some bytes → from + length bytes ≤ all_bytes
+      → RefusedFrom from setting b policy limits old new at r x
+      → RefusedFrom from setting b policy limits other after place s y → r ≢ reason.Source
+      → r ≢ reason.OutOfMemory → s ≢ reason.Source → s ≢ reason.OutOfMemory
+      → (at ≡ place) × (r ≡ s) × (x ≡ y)
+  same_refusal known same few first second n m k l =
+      let p = first.instructions in
+      let q = second.instructions in
+      let list = one_list p q
+      (begins_with one nothing front goes bytes few known same k l first second)
+      (begins_with one nothing front goes bytes few same known n m second first) in
+      let a = consumed old bytes (spellings p) first.here known first.bytes in
+      let c = consumed other bytes (spellings q) second.here same second.bytes in
+      let spelled : spellings q ≡ spellings p = ap spellings list in
+      let rests : c.0 ≡ a.0 = append_cancel_left (spellings p) c.0 a.0
+      (ap (λ z. z ++ c.0) (sym spelled) ∙ sym c.2 ∙ a.2) in
+      let there : place ≡ at = second.place ∙ ap (λ z. from + length z) spelled
+      ∙ sym first.place in
+      let long = ap length a.2 in
+      let place_is = first.place in
+      let why = subst (λ z. Why setting b policy limits z second.here after place s y) list
+      second.why in
+      let there_why = subst (λ z. Why setting b policy limits p second.here after z s y) there
+      why in
+      let both = one_why one nothing front goes setting b policy limits p a.0 at
+      (omega (arith, few, long, place_is, length-append (spellings p) a.0)) first.here new
+      second.here after r s x y a.1 (c.1 ∙ ap Some rests) n m k l first.why there_why in
+      (sym there, both.0, both.1)
+
+-- ---- after the same pickles
+
+module _ (memo : Memo) (before others : List Pickle)
+    (same : sequences_of before ≡ sequences_of others) (setting : OldStrings) (policy : Policy)
+    (limits : Bounds) where
+  why_alike : (p : List Instruction) (here new : Sight) (at : ℕ) (r : Reason) (x : Option Asked)
+      → Why setting (begins memo others) policy limits p here new at r x
+      → Why setting (begins memo before) policy limits p here new at r x
+  why_alike p here new at r x (reading h) = reading h
+  why_alike p here new at r x (judging h) = judging (record {
+    instruction = h.instruction;
+    allowed = h.allowed;
+    bytes = h.bytes;
+    fault = same_runs setting p (λ A. HasRunFault policy limits p A h.instruction r) memo others
+        before (sym same) h.fault;
+    first = λ earlier lt f. h.first earlier lt
+        (same_runs setting p (λ A. HasRunFault policy limits p (everyone A) h.instruction earlier)
+        memo before others same f);
+    asks = same_runs setting p (λ A. IsPairOf policy A h.instruction r x) memo others before
+        (sym same) h.asks;
+  })
+  why_alike p here new at r x (growing h) = growing h
+
+  refused_alike : (from : ℕ) (old new : Sight) (at : ℕ) (r : Reason) (x : Option Asked)
+      → RefusedFrom from setting (begins memo others) policy limits old new at r x
+      → RefusedFrom from setting (begins memo before) policy limits old new at r x
+  refused_alike from old new at r x h = record {
+    instructions = h.instructions;
+    admitted = h.admitted;
+    goes_on = h.goes_on;
+    here = h.here;
+    bytes = h.bytes;
+    place = h.place;
+    framed = h.framed;
+    faultless = λ q i more e z f. h.faultless q i more e z
+        (same_runs setting q (λ A. HasRunFault policy limits q (everyone A) i z) memo before others
+        same f);
+    why = why_alike h.instructions h.here new at r x h.why;
+  }
+
 pub one_refusal : OneAnswer → ((limit : ℕ) → Begun limit []) → OneFront → SequenceGoesOn
     → OneRefusal
-one_refusal one nothing front goes from setting b policy limits bytes old new other after at place
-    r s x y known same few first second n m k l =
-    let p = first.instructions in
-    let q = second.instructions in
-    let list = one_list p q
-    (begins_with one nothing front goes bytes few known same k l first second)
-    (begins_with one nothing front goes bytes few same known n m second first) in
-    let a = consumed old bytes (spellings p) first.here known first.bytes in
-    let c = consumed other bytes (spellings q) second.here same second.bytes in
-    let spelled : spellings q ≡ spellings p = ap spellings list in
-    let rests : c.0 ≡ a.0 = append_cancel_left (spellings p) c.0 a.0
-    (ap (λ z. z ++ c.0) (sym spelled) ∙ sym c.2 ∙ a.2) in
-    let there : place ≡ at = second.place ∙ ap (λ z. from + length z) spelled ∙ sym first.place in
-    let long = ap length a.2 in
-    let place_is = first.place in
-    let why = subst (λ z. Why setting b policy limits z second.here after place s y) list
-    second.why in
-    let there_why = subst (λ z. Why setting b policy limits p second.here after z s y) there why in
-    let both = one_why one nothing front goes setting b policy limits p a.0 at
-    (omega (arith, few, long, place_is, length-append (spellings p) a.0)) first.here new
-    second.here after r s x y a.1 (c.1 ∙ ap Some rests) n m k l first.why there_why in
-    (sym there, both.0, both.1)
+one_refusal one nothing front goes from loading before others policy limits bytes old new other
+    after at place r s x y known same few alike first second n m k l =
+    same_refusal one nothing front goes from loading.old_strings (begins loading.memo before) policy
+    limits bytes old new other after at place r s x y known same few first
+    (refused_alike loading.memo before others alike loading.old_strings policy limits from other
+    after place s y second) n m k l
