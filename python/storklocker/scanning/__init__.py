@@ -27,7 +27,7 @@
     scan.py         many files, in several processes
     remote.py, over_http.py, ranges.py and lacking.py
                     objects at URLs, each byte of which is fetched once
-    queues.py, redis_values.py
+    queues.py, redis_values.py, amqp_messages.py, kafka_messages.py
                     values of stores and queues elsewhere
     pacing.py       files at a bounded rate, and those that are added
     choosing.py     which files of a folder are scanned

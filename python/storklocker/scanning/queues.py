@@ -65,6 +65,11 @@ def asked_by(url: str, known: Tuple[str, ...]) -> Asked:
     return Asked(bare, f"{parts.scheme}://{host}{parts.path.rstrip('/')}", words)
 
 
+def is_plain(name: bytes) -> bool:
+    """Whether a name is a text that no reader unpickles."""
+    return name.isascii() and name.decode("ascii").isprintable()
+
+
 def spelled(name: bytes) -> str:
     """A name of a store, as part of a path."""
     return quote_from_bytes(name, safe=":{}@.-_,=+")
@@ -76,4 +81,10 @@ def values_at(url: str, files: Files) -> Iterator[File]:
         from .redis_values import values_in_redis
 
         return values_in_redis(asked_by(url, ("match",)), files)
-    raise OSError(f"{url.partition('://')[0]} URLs can't be read")
+    if url.startswith("amqp"):
+        from .amqp_messages import messages_in_queue
+
+        return messages_in_queue(asked_by(url, ("queue",)))
+    from .kafka_messages import messages_of_topic
+
+    return messages_of_topic(asked_by(url, ()), files)

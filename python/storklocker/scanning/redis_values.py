@@ -8,7 +8,7 @@ from typing import TYPE_CHECKING, Any, Dict, Iterator, Tuple
 from urllib.parse import urlsplit
 
 from .files import File
-from .queues import MOST, SECONDS, Asked, spelled
+from .queues import MOST, SECONDS, Asked, is_plain, spelled
 
 if TYPE_CHECKING:
     from .files import Files
@@ -48,7 +48,7 @@ def values_in_redis(asked: Asked, files: Files) -> Iterator[File]:
 def _values_of(asked: Asked, reader: "_Reader") -> Iterator[File]:
     """The values of a key, and the key itself unless it is a plain text."""
     place = spelled(reader.key)
-    if not _is_plain(reader.key):
+    if not is_plain(reader.key):
         yield asked.value(f"{place}!the key", reader.key)
     try:
         for name, value in reader.members():
@@ -59,11 +59,6 @@ def _values_of(asked: Asked, reader: "_Reader") -> Iterator[File]:
         raise
     except reader.redis.RedisError as error:
         yield asked.unread(place, f"it can't be read: {error}")
-
-
-def _is_plain(name: bytes) -> bool:
-    """Whether a name is a text that no reader unpickles."""
-    return name.isascii() and name.decode("ascii").isprintable()
 
 
 class _Reader:
@@ -154,6 +149,6 @@ def _numbered(values: Any) -> Iterator[Member]:
 def _of_pairs(pairs: Any) -> Iterator[Member]:
     """The values behind names, and the names that aren't plain texts."""
     for name, value in pairs:
-        if not _is_plain(name):
+        if not is_plain(name):
             yield f"{spelled(name)}!the name", name
         yield spelled(name), value
