@@ -6,7 +6,7 @@ ghost use Rattle.std.specs.Prelude.{take, true};
 use std::alloc::{AllocError, Global};
 use std::marker::Model;
 
-/// How many bytes a store has at least behind those in use when it was lengthened. They are zeroed
+/// The least number of unused bytes at the end of a store that was just lengthened. They are zeroed
 /// before they are replaced.
 const STEP: usize = 512;
 

@@ -24,7 +24,7 @@ pub enum NotStored {
 
 /// Values by number. A contract sees the entries as they stand in a `BTreeMap`, by rising number.
 ///
-/// Where each new number is the one behind the last, a value takes no more than its place in a
+/// Where each new number follows the last one, a value takes no more than its place in a
 /// vector, and storing it or finding it takes a few instructions, whatever the first number is.
 ///
 /// ```rust

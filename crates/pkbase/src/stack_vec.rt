@@ -21,7 +21,7 @@ use std::marker::Model;
 /// ```
 #[derive(Debug, Drop)]
 pub struct StackVec<T> {
-    /// The entries, and behind them values that aren't in use.
+    /// The entries, and after them values that aren't in use.
     store: Vec<T>,
     /// The number of entries.
     count: usize,

@@ -8,7 +8,7 @@ use Rattle.pkmachine.specs.WholeRuns.{EndsWell}
 
 -- if all runs of a pickle end well when old strings may decode to anything, they end well under
 -- each setting, because a setting only picks one of these objects; the setting applies to the
--- pickles behind which the runs begin, too
+-- pickles after which the runs begin, too
 abbrev pub SoundInEach : Type 0
 SoundInEach =
     (setting : OldStrings) (beginning : Beginning) (instructions : List Instruction)

@@ -44,7 +44,7 @@ YesOfRowExcludesNo =
     reason ≢ Source → reason ≢ OutOfMemory → ⊥
 
 -- if bytes begin with instructions that have no fault, a check of these bytes under the same
--- policy, limits and setting, behind the same pickles, refuses them only behind all of these,
+-- policy, limits and setting, after the same pickles, refuses them only after all of these,
 -- unless an allocation is refused or a read fails
 abbrev pub RefusedBehind : Type 0
 RefusedBehind =

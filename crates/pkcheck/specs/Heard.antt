@@ -1,4 +1,4 @@
--- What a listener hears during a check: each instruction that was read completely and admitted,
+-- What a listener observes during a check: each instruction that was read completely and admitted,
 -- with its offset and the number of marks on the stack before it.
 use Rattle.std.specs.Prelude.{◌≡◌, ⊤, ℕ, List, [], ◌∷◌, ◌++◌, length, map, All, Result, Ok, Err}
 use Rattle.std.specs.Prelude.{Option}
@@ -34,7 +34,7 @@ pub record Heard : Type 0 where
 abbrev pub heard : ℕ → Instruction → ℕ → Heard
 heard at instruction marks = record { at = at; instruction = instruction; marks = marks }
 
--- what is heard of an instruction that follows these
+-- what is observed of an instruction that follows these
 pub record IsHeardOf (before : List Instruction) (i : Instruction) (h : Heard) : Type 0 where
   pub same : h.instruction ≡ i
   pub place : h.at ≡ length (spellings before)
@@ -42,7 +42,7 @@ pub record IsHeardOf (before : List Instruction) (i : Instruction) (h : Heard) :
   pub marks :
       InEachRun (RunsBehind Unknown before) (λ state. h.marks ≡ marks_of state.shape.entries)
 
--- what is heard of the instructions that follow these: one item for each, in order
+-- what is observed of the instructions that follow these: one item for each, in order
 abbrev pub AreHeardBehind : List Instruction → List Instruction → List Heard → Type 0
 AreHeardBehind before [] [] = ⊤
 AreHeardBehind before (i ∷ is) (h ∷ hs) =
@@ -66,14 +66,14 @@ instructions_of policy limits old new (Ok accepted) right = right.instructions
 instructions_of policy limits old new (Err refused) right =
     right.instructions ++ refused_instruction right.why
 
--- the answer is right, and the listener heard every instruction that it covers, in order
+-- the answer is right, and the listener observed every instruction that it covers, in order
 pub record IsRightAndHeard (policy : Policy) (limits : Bounds) (old new : Sight)
     (answer : Result Yes No) (hs : List Heard) : Type 0 where
   pub right : IsRightAnswer Unknown policy limits old new answer
   pub each : AreHeardBehind [] (instructions_of policy limits old new answer right) hs
 
--- the listener's own error ended the check: it heard these, and failed at one more instruction that
--- was read completely and admitted
+-- the listener's own error ended the check: it observed these, and failed at one more instruction
+-- that was read completely and admitted
 pub record IsCutShort (policy : Policy) (limits : Bounds) (old new : Sight) (hs : List Heard)
     : Type 0 where
   -- the instructions before it contain no STOP; each is good, admitted and within the limit of its
@@ -87,5 +87,5 @@ pub record IsCutShort (policy : Policy) (limits : Bounds) (old new : Sight) (hs 
   -- each of those before obeys the frame rules, and none has a fault
   pub framed : Framed (map piece_of before)
   pub faultless : IsFaultless Unknown Afresh policy limits before
-  -- the listener heard those before, in order, and nothing else
+  -- the listener observed those before, in order, and nothing else
   pub each : AreHeardBehind [] before hs

@@ -125,7 +125,7 @@ GetsPast earlier (EndedBy (Raised state)) = ⊥
 GetsPast earlier (EndedBy (WentOn state)) = ⊥
 GetsPast earlier (EndedBy (Stuck breach)) = ⊥
 
--- some run whose answers are new objects gets past instructions without a fault, behind accepted
+-- some run whose answers are new objects gets past instructions without a fault, after accepted
 -- pickles
 abbrev pub FaultlessIsRun : Type 0
 FaultlessIsRun =

@@ -1,4 +1,4 @@
--- What a listener is told during a check: each instruction that was read completely and admitted,
+-- What a listener observes during a check: each instruction that was read completely and admitted,
 -- with its offset and the number of marks on the stack before it.
 use Rattle.std.specs.Prelude.{◌≡◌, ◌+◌, ⊤, ℕ, Bool, true, false, List, [], ◌∷◌, ◌++◌, length}
 use Rattle.std.specs.Prelude.{if◌then◌else◌}
@@ -11,18 +11,18 @@ use Rattle.pkmachine.specs.Faults.{InEachRun}
 use Rattle.pkmachine.specs.RowRuns.{Beginning, RunsFrom}
 use Rattle.pkstack.specs.Shape.{marks_of}
 
--- an instruction as a listener is told of it: whole, or only its opcode and the number of its
+-- an instruction as a listener observes it: whole, or only its opcode and the number of its
 -- bytes, because its payload is skipped
 pub data Told : Type 0 where
   Whole : Instruction → Told
   Skipped : Op → ℕ → Told
 
--- what is told of an instruction. Payloads of plain bytes are skipped, unless all payloads are held
+-- what is said of an instruction. Payloads of plain bytes are skipped, unless all payloads are held
 abbrev pub told_of : (holding : Bool) → Instruction → Told
 told_of true i = Whole i
 told_of false i = if is_passed i.op then Skipped i.op (length (spelling i)) else Whole i
 
--- what is told, the offset of the first byte, and the number of marks on the stack before it
+-- what is reported, the offset of the first byte, and the number of marks on the stack before it
 pub record Report : Type 0 where
   pub at : ℕ
   pub told : Told

@@ -1,4 +1,4 @@
--- The three ends of the loop of a check, and what its audience was told by then.
+-- The three ends of the loop of a check, and what its audience had observed by then.
 use Rattle.std.specs.Prelude.{◌≡◌, ◌++◌, ◌∷◌, [], ℕ, All, Bool, List, length, map, Option, Result}
 use Rattle.std.specs.Prelude.{MatchResult, option_map}
 use Rattle.pkops.specs.Limits.{Bounds}
@@ -57,7 +57,7 @@ module _ (holding : Bool) (loading : Loading) (policy : Policy) (limits : Bounds
     AreReports is rs =
         AreReportsBehind holding loading.old_strings (begins loading.memo []) 0 [] is rs
 
-    -- the pickles were accepted, and the audience was told of all their instructions
+    -- the pickles were accepted, and the audience observed all their instructions
     abbrev pub AcceptedAndTold : Extent → ℕ → ℕ → List Asked → List Report → Type 0
     AcceptedAndTold ToTheEnd taken pickles imports rs =
         (right : AcceptedRow loading policy limits old new taken pickles imports)
@@ -67,7 +67,7 @@ module _ (holding : Bool) (loading : Loading) (policy : Policy) (limits : Bounds
         taken imports)
         × AreReports right.instructions rs × (pickles ≡ 1)
 
-    -- a pickle of a row was refused, and the audience was told of all that was read
+    -- a pickle of a row was refused, and the audience observed all that was read
     pub record RefusedRow (pickle at : ℕ) (reason : Reason) (pair : Option Asked)
         (imports : List Asked) (rs : List Report) : Type 0 where
       pub right : RefusedInRow loading policy limits old new pickle at reason pair
@@ -93,7 +93,7 @@ module _ (holding : Bool) (loading : Loading) (policy : Policy) (limits : Bounds
         × AreReports (right.refused.instructions ++ refused_instruction right.refused.why) rs
         × (pickle ≡ 0)
 
-    -- the audience failed in a row when it was told of this, and before of all instructions before
+    -- the audience failed in a row when it observed this, after all instructions before
     pub record StoppedRow (rs : List Report) (failed : Report) : Type 0 where
       pub before : List Pickle
       pub here : Sight

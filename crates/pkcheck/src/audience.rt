@@ -1,4 +1,4 @@
-//! Whoever is told of the instructions of a check.
+//! The observer of the instructions of a check.
 
 ghost use Rattle.std.specs.Prelude.{◌≡◌, ◌∷◌, ◌++◌, [], Bool, IfErr, List, OnOk, false};
 ghost use Rattle.std.specs.Prelude.{true};
@@ -9,11 +9,11 @@ use crate::listening::Listener;
 use pkops::{Inst, Op};
 use std::convert::Infallible;
 
-/// Whoever is told of the instructions of a check, each before it is judged.
+/// The observer of the instructions of a check. It gets each one before it is judged.
 ///
-/// An audience that holds payloads is told of each instruction whole. Any other audience is told of
-/// an instruction with a payload of plain bytes as skipped, wherever its bytes lie, and of every
-/// other one whole. Such payloads are those of BINBYTES, SHORT_BINBYTES, BINBYTES8 and BYTEARRAY8.
+/// An audience that holds payloads gets each instruction whole. Any other audience gets an
+/// instruction with a payload of plain bytes as skipped, wherever its bytes lie, and every other
+/// one whole. Such payloads are those of BINBYTES, SHORT_BINBYTES, BINBYTES8 and BYTEARRAY8.
 pub trait Audience {
     /// Why the audience stops the check.
     type Error;
@@ -21,11 +21,11 @@ pub trait Audience {
     // Whether all payloads are held for it.
     ghost holding: { Bool };
 
-    // What it was told between two of its states, in order.
+    // What it observed between two of its states, in order.
     ghost hears: { Self → Self → List Report → Type 0 };
 
-    // It stopped the check with this error, told of this in the first state; the second one is that
-    // in which it is left.
+    // It stopped the check with this error when it observed this in the first state; the second one
+    // is that in which it is left.
     ghost fails: { Self → Self → Report → Self.Error → Type 0 };
 
     /// Whether all payloads are held for it. Otherwise those of plain bytes are skipped.
@@ -70,7 +70,7 @@ pub trait Audience {
         → hears x y rs → hears y z (r ∷ []) → hears x z (rs ++ r ∷ []) };
 }
 
-/// A listener hears each instruction whole.
+/// A listener gets each instruction whole.
 impl<L: Listener> Audience for L {
     ghost use Rattle.std.specs.Prelude.{⊤};
     ghost use Rattle.pkcheck.specs.Private.WholeReports.{HearsWhole, hears_whole_more};
@@ -107,7 +107,7 @@ impl<L: Listener> Audience for L {
     ghost hears_more = { hears_whole_more L.hears L.hears_more };
 }
 
-/// Is told nothing, and costs nothing.
+/// Observes nothing, and costs nothing.
 #[derive(Drop)]
 pub(crate) struct Silent;
 

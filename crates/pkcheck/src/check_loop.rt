@@ -27,7 +27,7 @@ use std::alloc::Global;
 /// Where a check ends if nothing is refused.
 #[derive(Clone, Copy, Debug, PartialEq, Eq)]
 pub enum Extent {
-    /// Behind the first STOP.
+    /// After the first STOP.
     OnePickle,
     /// At the end of the source.
     ToTheEnd,
@@ -56,18 +56,18 @@ pub struct RefusedPickle {
     pub imports: Imports,
 }
 
-/// Checks pickles that follow one another in a source, and tells the audience of each instruction
-/// before it is judged: of the accepted ones, and of the refused one if it was read completely and
-/// is admitted. The answer is that of [`check_with_imports`](crate::check_with_imports) or of
-/// [`check_all_loaded`](crate::check_all_loaded), which are this loop with an audience that is told
-/// nothing.
+/// Checks pickles that follow one another in a source, and reports each instruction to the audience
+/// before it is judged: the accepted ones, and the refused one if it was read completely and is
+/// admitted. The answer is that of [`check_with_imports`](crate::check_with_imports) or of
+/// [`check_all_loaded`](crate::check_all_loaded), which are this loop with an audience that ignores
+/// everything.
 ///
-/// The payloads of plain bytes are skipped under the limit `passed`, and told as skipped, unless
-/// the audience holds payloads.
+/// The payloads of plain bytes are skipped under the limit `passed`, and reported as skipped,
+/// unless the audience holds payloads.
 ///
 /// # Errors
 ///
-/// The error of the audience, which ends the check. By then it was told of every earlier
+/// The error of the audience, which ends the check. By then it has observed every earlier
 /// instruction, and none of these was refused. The bytes taken are exactly those of these
 /// instructions and of the one at which the audience failed. The audience is left as it was then.
 pub fn check_pickles<R: Source, A: Audience>(

@@ -51,8 +51,8 @@ pub fn same_imports_of_row()
     one_sequence();
 }
 
-/// Bytes that begin with instructions that have no fault are refused only behind these, under the
-/// same policy, limits and setting and behind the same pickles, except for a refused allocation or
+/// Bytes that begin with instructions that have no fault are refused only after these, under the
+/// same policy, limits and setting and after the same pickles, except for a refused allocation or
 /// a failed read.
 pub fn refused_behind()
     ensures { RefusedBehind }
@@ -62,9 +62,9 @@ pub fn refused_behind()
     one_sequence();
 }
 
-/// Two refusals of the same bytes under the same policy, limits and setting, after the same pickles,
-/// are at one offset, for one reason, with one pair, except for a refused allocation or a failed
-/// read.
+/// Two refusals of the same bytes under the same policy, limits and setting, after the same
+/// pickles, are at one offset, for one reason, with one pair, except for a refused allocation or a
+/// failed read.
 pub fn one_refusal()
     ensures { OneRefusal }
 {

@@ -1,4 +1,4 @@
-//! A check with a listener, which hears each instruction before it is judged.
+//! A check with a listener, which observes each instruction before it is judged.
 
 ghost use Rattle.std.specs.Prelude.{◌≡◌, ◌∷◌, ◌++◌, [], List, Result};
 ghost use Rattle.std.specs.Prelude.{IfErr, IfOk, MatchResult, OnOk};
@@ -22,7 +22,7 @@ pub trait Listener {
     /// Why the listener stops.
     type Error;
 
-    // What was heard between two states of the listener, in order.
+    // What the listener observed between two of its states, in order.
     ghost hears: { Self → Self → List Heard → Type 0 };
 
     /// Hears an admitted instruction before it is judged. `at` is the offset of its first byte,
@@ -42,7 +42,7 @@ pub trait Listener {
         → hears x y hs → hears y z (h ∷ []) → hears x z (hs ++ h ∷ []) };
 }
 
-/// Checks the pickle at the start of a source, as [`check`](crate::check) does. The listener hears
+/// Checks the pickle at the start of a source, as [`check`](crate::check) does. The listener gets
 /// the instructions in order: the accepted ones, and the refused one if it was read completely and
 /// is admitted. Payloads are held instead of skipped, so `counted` limits all of them.
 ///
@@ -82,9 +82,9 @@ pub trait Listener {
 ///
 /// # Errors
 ///
-/// The listener's error, which ends the check. By then it has heard every earlier instruction, and
-/// none of these was refused. The bytes taken are exactly those of these instructions and of the
-/// one at which the listener failed.
+/// The listener's error, which ends the check. By then it has observed every earlier instruction,
+/// and none of these was refused. The bytes taken are exactly those of these instructions and of
+/// the one at which the listener failed.
 pub fn check_heard<R: Source, L: Listener>(
     alloc: Global,
     source: &mut R,

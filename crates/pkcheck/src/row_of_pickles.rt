@@ -249,7 +249,7 @@ impl PickleRow {
         }
     }
 
-    /// The refusal of the pickle behind those so far.
+    /// The refusal of the pickle after those so far.
     pub fn refused<D: Domain>(&self, session: &mut Session<D>, refusal: Refusal) -> RefusedPickle
         ensures pickle { result.pickle ≡ self.now.pickles }
         ensures no { IsNoAt refusal.at refusal.reason session.old.machine.off result.no }

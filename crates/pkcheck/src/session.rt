@@ -171,7 +171,7 @@ impl<D: Domain> Session<D> {
         Ok(Ok(count))
     }
 
-    /// Takes the next instruction of a reader, tells of it, and judges it.
+    /// Takes the next instruction of a reader, reports it, and judges it.
     pub fn hear_next<R: Source, A: Audience>(
         &mut self,
         reader: &mut Reader<'_, R>,

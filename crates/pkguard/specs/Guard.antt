@@ -85,7 +85,7 @@ verdict_of_no at reason (Some (AskedPair module_name name)) pickles =
     }
 verdict_of_no at reason _ pickles = no_alone at reason pickles
 
--- the verdict for a refusal behind this many imports, if every import is permitted
+-- the verdict for a refusal after this many imports, if every import is permitted
 abbrev pub verdict_behind : ℕ → Reason → ℕ → Verdict
 verdict_behind at reason imports = record (no_alone at reason 0) { imports = imports }
 

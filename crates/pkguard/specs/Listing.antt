@@ -16,8 +16,8 @@ use Rattle.pkguard.specs.Loading.{IsCostly, bill_of}
 module _ (loading : Loading) (limits : Bounds) (tolls : Tolls) (pickle before after : List ℕ)
     (wanted : ℕ) (verdict : Verdict) where
   -- the pickle at the front of the bytes is accepted with every import permitted, what loading it
-  -- costs is within the limits and told, and its imports are in the buffer if it has room for all
-  -- of them
+  -- costs is within the limits and reported, and its imports are in the buffer if it has room for
+  -- all of them
   pub record IsImportsWithBill (bill : Bill) : Type 0 where
     pub rest : List ℕ
     pub accepted : YesWithBill

@@ -164,8 +164,8 @@ pub record AreCostsOf (list : List ℕ) (before after : Costs) (verdict : Verdic
   pub costs : after ≡ costs_over before (costs_in document)
   pub told : verdict ≡ nothing_told
 
--- the bytes are a list file; which keys it has is told, and its substitutes are in the buffer if it
--- has room for all of them
+-- the bytes are a list file; which keys it has is reported, and its substitutes are in the buffer
+-- if it has room for all of them
 pub record IsListTold (list before after : List ℕ) (said : Said) (wanted : ℕ) (verdict : Verdict)
     : Type 0 where
   pub document : Members

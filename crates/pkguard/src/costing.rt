@@ -21,7 +21,7 @@ use std::alloc::Global;
 /// they are the one at the front of `pickles` or all up to its end. If they are accepted, `bill`
 /// says what loading the last of them costs; otherwise it is empty.
 ///
-/// A limit that an instruction exceeds is told unless something is refused there or before.
+/// A limit that an instruction exceeds is reported unless something is refused there or before.
 #[unsafe(no_mangle)]
 pub extern "C" fn pkguard_check_loading(
     alloc: Global,
@@ -60,7 +60,7 @@ pub extern "C" fn pkguard_check_loading(
     out.status
 }
 
-/// Checks pickles as `pkguard_check_loading` does, with the same verdict, and tells no bill. For
+/// Checks pickles as `pkguard_check_loading` does, with the same verdict, but no bill. For
 /// one pickle, if `costs` doesn't limit the memory, a bound from above mostly suffices, which takes
 /// a fraction of the time that the bill does.
 #[unsafe(no_mangle)]

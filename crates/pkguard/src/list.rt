@@ -60,7 +60,7 @@ fn put_pairs(imports: Option<&Value>, room: &mut [u8]) -> usize
     }
 }
 
-/// Writes the substitutes of a list to the buffer if it has room for all of them, each behind its
+/// Writes the substitutes of a list to the buffer if it has room for all of them, each after its
 /// name, and returns the number of bytes they need.
 pub fn give_substitutes(list: &Allow, room: &mut [u8]) -> u64
     ensures wanted { result

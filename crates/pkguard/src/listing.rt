@@ -58,7 +58,7 @@ pub extern "C" fn pkguard_imports_loading(
     out.status
 }
 
-/// What is told of a pickle whose imports are written to a buffer.
+/// What is reported of a pickle whose imports are written to a buffer.
 #[derive(Clone, Copy)]
 struct Listing {
     verdict: Verdict,

@@ -35,7 +35,7 @@ pub struct Said {
 }
 
 /// Reads a list file: which keys it has, and its substitutes, which are written to `room` if all of
-/// them fit, each behind its name, in the byte order of the names.
+/// them fit, each after its name, in the byte order of the names.
 #[unsafe(no_mangle)]
 pub extern "C" fn pkguard_list_told(
     alloc: Global,

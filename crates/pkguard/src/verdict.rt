@@ -139,7 +139,7 @@ fn of_refusal(place: u64, code: u32) -> Verdict
     }
 }
 
-/// The verdict for a refusal behind these imports, if every import is permitted.
+/// The verdict for a refusal after these imports, if every import is permitted.
 pub fn of_no_with_imports(no: &No, imports: &Imports) -> Verdict
     ensures told { result ≡ verdict_behind no.now.at no.now.reason (length imports.now) }
     ensures place { result.at ≡ no.now.at }

@@ -10,7 +10,7 @@ ghost use Rattle.pkjson.specs.Private.Weighs.{MembersDeeper, IsTrusted, IsBounde
 use crate::node::Node;
 use crate::settled::Settled;
 
-/// The greatest size of a text or a key that is told apart.
+/// The greatest size of a text or a key that is distinguished.
 const LONG: usize = 1 << 30;
 
 /// The depth of a value, and the number of values in it, which stops at a cap.

@@ -11,8 +11,8 @@ use Rattle.pkload.specs.Memory.{move_memory, number_kept, operation_memory}
 use Rattle.pkload.specs.Tally.{with_operation}
 use Rattle.pkload.specs.declared.tally.Tally.{Tally}
 
--- what is counted along a pickle: what its keys cost, the memory that loading takes, and the highest
--- memo number so far
+-- what is counted along a pickle: what its keys cost, the memory that loading takes, and the
+-- highest memo number so far
 pub record Counts : Type 0 where
   pub tally : Tally
   pub memory : ℕ
@@ -45,8 +45,8 @@ bill_carried bill = record {
   domain = record { tally = bill.tally; memory = bill.memory; highest = bill.highest };
 }
 
--- the bill after an instruction of a pickle that hasn't stopped is what the domain carries then, and
--- there is none exactly if the domain can't follow the instruction
+-- the bill after an instruction of a pickle that hasn't stopped is what the domain carries then,
+-- and there is none exactly if the domain can't follow the instruction
 abbrev pub BillIsFollowed : Type 0
 BillIsFollowed =
     (instruction : Instruction) (bill : Bill)

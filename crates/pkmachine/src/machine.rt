@@ -196,8 +196,8 @@ impl<D: Domain> Machine<D> {
         }
     }
 
-    /// Steps as [`Machine::step_passed`] does over an instruction of `count` bytes, whatever permits
-    /// the imports.
+    /// Steps as [`Machine::step_passed`] does over an instruction of `count` bytes, whatever
+    /// permits the imports.
     pub fn step_passed_by(&mut self, op: Op, count: u64, policy: &Permit) -> Result<Moved, Reason>
         requires passed { IsTrue (is_passed op) }
         requires running { self.old.view.stopped ≡ false }

@@ -180,8 +180,8 @@ impl<D: Domain> MachineState<D> {
         )
     }
 
-    /// Pushes a new object of this class, which an instruction of `count` bytes makes, whose payload
-    /// was skipped.
+    /// Pushes a new object of this class, which an instruction of `count` bytes makes, whose
+    /// payload was skipped.
     pub fn make_passed(
         &mut self,
         limits: &Limits,

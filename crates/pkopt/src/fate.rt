@@ -25,7 +25,7 @@ pub(crate) enum Fate {
 pub(crate) struct Plan {
     /// For each read, the write that it reads.
     pub sources: Sources,
-    /// For each write that is read, its new number. Those behind the list are not read.
+    /// For each write that is read, its new number. Those past the end of the list are not read.
     pub numbers: Vec<Entry>,
     /// The limit on the memo: no write may have it as its number.
     pub limit: u32,

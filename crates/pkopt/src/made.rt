@@ -16,7 +16,7 @@ const MOVE: usize = 16;
 const STEP: usize = 2_048;
 
 /// The bytes of a slim form. The store is longer, so that a short piece is copied in one move
-/// together with the bytes behind it, which the next piece replaces.
+/// together with the bytes after it, which the next piece replaces.
 #[derive(Drop)]
 pub(crate) struct Made {
     store: Vec<u8>,
@@ -94,7 +94,7 @@ fn put_move(store: &mut Vec<u8>, at: usize, bytes: &[u8], from: usize)
     put(store, at, &moved);
 }
 
-/// Makes room for `wanted` bytes behind the first `from`.
+/// Makes room for `wanted` bytes after the first `from`.
 #[inline(always)]
 fn make_room(store: &mut Vec<u8>, from: usize, wanted: usize) -> Result<(), AllocError>
     requires { from ≤ length store.old.items }

@@ -18,7 +18,7 @@ pub(crate) struct Measure {
     pub second: u8,
 }
 
-/// The byte at a place behind `before` bytes and this piece, if it is in the piece.
+/// The byte at a place if it is in this piece, which follows `before` bytes; else `otherwise`.
 fn byte_in(place: u64, before: u64, piece: &[u8], otherwise: u8) -> u8
     ensures { result ≡ byte_in place before piece.now otherwise }
 {

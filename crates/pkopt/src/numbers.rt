@@ -61,7 +61,7 @@ fn numbered(alloc: Global, kept: &[bool], limit: u32) -> Result<Vec<Entry>, Allo
 }
 
 /// For each write that some read reads, its new number, or the limit if the number is greater. The
-/// writes behind the list are not read.
+/// writes past the end of the list are not read.
 pub(crate) fn new_numbers(
     alloc: Global,
     sources: &Sources,

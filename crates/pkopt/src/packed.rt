@@ -168,7 +168,7 @@ fn place_of(from: u64, gap: u8, code: u8) -> Place
     unpack(gap, code).place_behind(from)
 }
 
-/// The place of an instruction behind a gap, from its length and opcode.
+/// The place of an instruction after a gap, from its length and opcode.
 #[inline(always)]
 fn behind(from: u64, gap: u8, size: u8, op: Op) -> Place
     requires { from + gap < 2 ^ 64 }

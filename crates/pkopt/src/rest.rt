@@ -1,4 +1,4 @@
-//! The bytes of a form behind its head.
+//! The bytes of a form after its head.
 
 ghost use Rattle.std.specs.Prelude.{◌≡◌, OnOk};
 ghost use Rattle.std.proofs.Common.{◌∙◌, refl};

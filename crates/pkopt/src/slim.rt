@@ -72,7 +72,7 @@ impl Pass {
         }
     }
 
-    /// Gives a sink the unchanged bytes before a place, and goes on behind it.
+    /// Gives a sink the unchanged bytes before a place, and goes on after it.
     #[inline(always)]
     fn give_before<S: Sink>(
         &mut self,

@@ -20,12 +20,12 @@ abbrev pub placed : List ℕ → List ℕ → List ℕ
 placed bytes room =
     if leb (length bytes) (length room) then bytes ++ drop (length bytes) room else room
 
--- the number that tells of an outcome
+-- the number of an outcome
 abbrev pub status_of : Outcome → ℕ
 status_of Done = 0
 status_of _ = 1
 
--- the pickle at the front of the bytes is listed behind a text, with every import permitted
+-- the pickle at the front of the bytes is listed after a text, with every import permitted
 pub record IsListed (pickle before after : List ℕ) (outcome : Outcome) : Type 0 where
   pub answer : Result Yes No
   pub instructions : List Heard

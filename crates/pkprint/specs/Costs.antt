@@ -27,7 +27,7 @@ abbrev pub Answer : Type 0
 Answer = Result (Result YesWithBill RefusedPickle) Costly
 
 -- the answer is right under these limits. An excess of OutOfMemory says that the bill couldn't be
--- kept behind the instruction
+-- kept after the instruction
 abbrev pub IsRightCosting : Loading → Policy → Bounds → Tolls → (old new : Sight) → Extent → Answer
     → Type 0
 IsRightCosting loading policy limits tolls old new extent answer =

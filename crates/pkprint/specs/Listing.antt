@@ -69,6 +69,6 @@ abbrev pub last_line : Result Yes No → ℕ → List ℕ
 last_line (Ok accepted) n = highest_line n
 last_line (Err refused) n = no_line (no_text refused)
 
--- the whole listing for an answer and the instructions heard
+-- the whole listing for an answer and the instructions observed
 abbrev pub listing : Result Yes No → List Heard → List ℕ
 listing answer hs = flat_map listing_line hs ++ last_line answer (highest hs)

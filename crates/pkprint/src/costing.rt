@@ -14,7 +14,7 @@ use std::alloc::Global;
 use std::io;
 use std::io::Write;
 
-/// Limits on what loading costs, and whether the bill is told.
+/// Limits on what loading costs, and whether the bill is reported.
 #[derive(Clone, Copy, Debug)]
 pub struct Billing {
     /// The limits.

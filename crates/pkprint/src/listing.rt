@@ -23,7 +23,7 @@ use std::alloc::Global;
 use std::io;
 use std::io::Write;
 
-/// Writes the line of each instruction it hears, and records the highest protocol.
+/// Writes the line of each instruction it gets, and records the highest protocol.
 #[derive(Drop)]
 struct Lines<'w, W> {
     out: &'w mut W,

@@ -92,7 +92,7 @@ PassedIsRead =
     × Skips old at op count new
 
 -- an instruction lent from the bytes at hand follows the earlier ones once its bytes are taken, and
--- the bytes behind it are the next ones then
+-- the bytes after it are the next ones then
 abbrev pub LentIsRead : Type 0
 LentIsRead =
     (start : Sight) (from : ℕ) (limit : Op → ℕ) (p : List Instruction) (s : ReaderState)

@@ -23,7 +23,7 @@ pub(crate) struct Found {
 }
 
 impl Gathering {
-    /// Takes the argument behind a code and judges the instruction. Returns the length of the first
+    /// Takes the argument after a code and judges the instruction. Returns the length of the first
     /// of two lines, or 0. Each layout has its own arm, so an opcode that accepts any argument pays
     /// for no check.
     #[inline(always)]

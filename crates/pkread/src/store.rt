@@ -1,4 +1,4 @@
-//! The store that holds bytes, and behind them room for the next ones.
+//! The store that holds bytes, and after them room for the next ones.
 
 ghost use Rattle.std.specs.Prelude.{◌≡◌, ◌+◌, ◌++◌, ◌∷◌, ◌<◌, ◌≤◌, ◌%◌, ◌^◌, [], IfErr, IfOk};
 ghost use Rattle.std.specs.Prelude.{length, take};
@@ -30,7 +30,7 @@ pub(crate) fn put_field<const N: usize>(store: &mut Vec<u8>, at: usize, field: &
     store[at..at + N].copy_from_slice(field);
 }
 
-/// Makes room for `wanted` bytes behind the first `from`.
+/// Makes room for `wanted` bytes after the first `from`.
 pub(crate) fn make_room(store: &mut Vec<u8>, from: usize, wanted: usize) -> Result<(), AllocError>
     requires within { from ≤ length store.old.items }
     requires few { wanted ≤ 4096 }

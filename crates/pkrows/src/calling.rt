@@ -45,7 +45,7 @@ fn calls_take_a_policy(rt: HostRuntime) -> Result<(), Fail> {
     Ok(())
 }
 
-/// Counts what it is told, and stops when it has been told of so many instructions.
+/// Counts what it observes, and stops after so many instructions.
 #[derive(Clone, Copy, Debug, PartialEq, Eq)]
 struct Tally {
     whole: u32,
@@ -115,7 +115,7 @@ impl Audience for Tally {
     ghost hears_more = { λ x y z rs r a b. tt };
 }
 
-/// Counts what it hears, which is each instruction whole.
+/// Counts what it observes, which is each instruction whole.
 #[derive(Drop)]
 struct Heard {
     whole: u32,
@@ -138,7 +138,7 @@ impl Listener for Heard {
     ghost hears_more = { λ x y z hs h a b. tt };
 }
 
-// A list of two payloads and a number, behind a mark; and a second pickle.
+// A list of two payloads and a number, after a mark; and a second pickle.
 const ROW: &[u8] = b"(C\x02abB\x03\0\0\0abcK\x01l.N.";
 
 fn terms(limits: Limits) -> Terms
@@ -154,7 +154,7 @@ fn terms(limits: Limits) -> Terms
     }
 }
 
-/// What an audience was told, and why it stopped the check.
+/// What an audience observed, and why it stopped the check.
 fn told<R: Source>(rt: &HostRuntime, source: &mut R, most: u32) -> (Tally, Option<TooMany>) {
     let mut tally = Tally::up_to(most);
     let permit = Permit::By(Policy::AnyImport);

@@ -58,7 +58,7 @@ fn optimize_each<T: Abort + AllocGlobal>(rt: &T, rows: &[(&[u8], &[u8])]) -> Res
     Ok(())
 }
 
-/// A form tells its length and that of the pickle, and appends its bytes to what a writer holds.
+/// A form has its length and that of the pickle, and appends its bytes to what a writer holds.
 #[test]
 fn a_form_is_written(rt: HostRuntime) -> Result<(), Fail> {
     let (pickle, wanted) = FRAMED[2];

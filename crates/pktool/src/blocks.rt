@@ -79,7 +79,7 @@ impl<R: PassOver> Source for Blocks<R> {
         self.block.skip(count);
     }
 
-    /// Passes over what is in the block too. Less than a block behind it is cheaper to read.
+    /// Passes over what is in the block too. Less than a block after it is cheaper to read.
     fn pass(&mut self, wanted: usize) -> usize {
         let held = self.block.len();
         if wanted.saturating_sub(held) < SIZE {

@@ -22,7 +22,7 @@ pub struct Words {
     pub old: OldStrings,
     /// Which pickles are checked.
     pub pickles: Pickles,
-    /// Whether the bill is told.
+    /// Whether the bill is reported.
     pub bill: bool,
 }
 

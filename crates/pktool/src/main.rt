@@ -1,4 +1,4 @@
-//! `pktool` says which names a pickle would import, before anything opens it.
+//! `pktool` shows which names a pickle would import, without loading it.
 //!
 //! Access to files and streams is here; what the words, the pickle and the answer mean is in the
 //! crates below.

@@ -1,4 +1,4 @@
--- How the next instruction of a reader is told and judged.
+-- How the next instruction of a reader is observed and judged.
 use Rattle.std.specs.Prelude.{◌≡◌, ◌-◌, ◌≤◌, ◌⊎◌, ℕ, Bool, true, false, List, [], ◌∷◌, Ok, Err}
 use Rattle.pkops.specs.Inst.{instruction_of}
 use Rattle.pkops.specs.Spelling.{Instruction}
@@ -34,18 +34,18 @@ module _ (s t : ReaderState) where
 
 module _ (holding : Bool) {A : Type 0} (hears : A → A → List Report → Type 0) (first now : A)
     (policy : Policy) (s t : ReaderState) (before : SessionView) where
-  -- the audience is told of this instruction at this offset
+  -- the audience observes this instruction at this offset
   abbrev pub Hears : ℕ → Instruction → Type 0
   Hears at i = hears first now (heard_before holding at i before.machine ∷ [])
 
-  -- it is told of the next instruction, which is accepted
+  -- it observes the next instruction, which is accepted
   pub record HearsNext (after : SessionView) : Type 0 where
     pub at : ℕ
     pub gave : Gave s t holding at (λ i.
         BothGoOn policy i before.frame before.machine after.frame after.machine × Hears at i)
     pub within : t.taken ≤ all_bytes
 
-  -- it is told of the next instruction, which is refused
+  -- it observes the next instruction, which is refused
   pub record RefusesTold (after : View) (r : Refusal) : Type 0 where
     pub gave : Gave s t holding r.at
         (λ i. IsRefused policy i before.frame before.machine after r.reason × Hears r.at i)

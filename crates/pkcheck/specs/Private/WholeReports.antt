@@ -1,10 +1,10 @@
--- Reports that tell of each instruction whole.
+-- Reports that have each instruction whole.
 use Rattle.std.specs.Prelude.{◌≡◌, ⊤, ℕ, ◌++◌, List, [], ◌∷◌}
 use Rattle.std.proofs.Common.{append_assoc, ap, refl, subst, sym, ◌∙◌}
 use Rattle.pkcheck.specs.Heard.{Heard, heard}
 use Rattle.pkcheck.specs.Reports.{Report, Skipped, Told, Whole}
 
--- the instruction is told whole
+-- the instruction is reported whole
 abbrev pub IsWhole : Told → Type 0
 IsWhole (Whole i) = ⊤
 IsWhole (Skipped op count) = ⊥
@@ -13,7 +13,7 @@ abbrev pub AreWhole : List Report → Type 0
 AreWhole [] = ⊤
 AreWhole (r ∷ rs) = IsWhole r.told × AreWhole rs
 
--- the same as is heard where payloads are held
+-- the same as is observed where payloads are held
 abbrev pub whole_of : ℕ → ℕ → Told → List Heard
 whole_of at marks (Whole i) = heard at i marks ∷ []
 whole_of at marks (Skipped op count) = []
@@ -22,7 +22,7 @@ abbrev pub wholes : List Report → List Heard
 wholes [] = []
 wholes (r ∷ rs) = whole_of r.at r.marks r.told ++ wholes rs
 
--- a listener that hears instructions whole heard these
+-- a listener that observes instructions whole observed these
 abbrev pub HearsWhole : {L : Type 0} → (L → L → List Heard → Type 0) → L → L → List Report → Type 0
 HearsWhole hears old new rs = AreWhole rs × hears old new (wholes rs)
 
@@ -44,7 +44,7 @@ module _ {L : Type 0} (hears : L → L → List Heard → Type 0)
   one_more x y z hs at marks (Whole i) one before h = law x y z hs (heard at i marks) before h
   one_more x y z hs at marks (Skipped op count) one before h = absurd one
 
-  -- one more is heard
+  -- one more is observed
   pub hears_whole_more : (x y z : L) (rs : List Report) (r : Report) → HearsWhole hears x y rs
       → HearsWhole hears y z (r ∷ []) → HearsWhole hears x z (rs ++ r ∷ [])
   hears_whole_more x y z rs r (all, before) (one, h) = (

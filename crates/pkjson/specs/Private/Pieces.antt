@@ -11,12 +11,12 @@ use Rattle.pkjson.specs.declared.writing.Part.TheVariants as part
 use Rattle.pkjson.specs.Unfolds.{Heap, Unfolds, UnfoldItems, UnfoldMembers}
 use Rattle.pkjson.specs.Private.Nodes.{named_members}
 
--- the text of an array without its brackets, behind a comma if `later`
+-- the text of an array without its brackets, after a comma if `later`
 abbrev pub items_inside : Bool → Items → List ℕ
 items_inside later no_items = []
 items_inside later (item v vs) = comma_if later ++ (compact_text v ++ items_inside true vs)
 
--- the text of an object without its braces, behind a comma if `later`
+-- the text of an object without its braces, after a comma if `later`
 abbrev pub members_inside : Bool → Members → List ℕ
 members_inside later no_members = []
 members_inside later (member k v ms) =

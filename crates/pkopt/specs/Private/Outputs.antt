@@ -10,7 +10,7 @@ use Rattle.pkopt.specs.Private.Produced.{at_start, produced}
 abbrev pub slim_bytes : Plan → List ℕ → ℕ → List Part → List ℕ
 slim_bytes plan bytes taken parts = produced plan bytes taken (places_behind 0 parts) at_start
 
--- the front, then the slim form behind its head
+-- the front, then the slim form after its head
 abbrev pub written : Plan → List ℕ → ℕ → List Part → List ℕ → ℕ → List ℕ
 written plan bytes taken parts front head = front ++ drop head (slim_bytes plan bytes taken parts)
 

@@ -69,7 +69,7 @@ abbrev pub Marks : Place → Trace → Trace → Type 0
 Marks at old new = EndsSo old →
     EndsSo new × (places_behind 0 new.parts.items ≡ places_behind 0 old.parts.items ++ at ∷ [])
 
--- all these instructions were heard, after these writes
+-- all these instructions were observed, after these writes
 pub record HearsBehind (ws : Writes) (old new : Trace) (hs : List Heard) : Type 0 where
   pub follows : FollowsWrites (after_all (told hs) ws) new
   pub sources_now : new.sources.items ≡ old.sources.items ++ sources ws (told hs)
@@ -89,7 +89,7 @@ pub record Tracks (p : List Instruction) (t : Trace) : Type 0 where
   pub ends : end_behind 0 t.parts.items ≡ t.end
   pub framed : t.framed ≡ has_frames t.parts.items
 
--- for each write, whether it is read; those behind the list are not
+-- for each write, whether it is read; those past the end of the list are not
 pub record AreKept (vs : List (Option ℕ)) (kept : List Bool) : Type 0 where
   pub each : (w : ℕ) → slice_index_or kept w false ≡ is_read w vs
 
@@ -97,8 +97,8 @@ pub record AreKept (vs : List (Option ℕ)) (kept : List Bool) : Type 0 where
 abbrev pub KeepsMore : (old new : List Bool) → List (Option ℕ) → Type 0
 KeepsMore old new more = (vs : List (Option ℕ)) → AreKept vs old → AreKept (vs ++ more) new
 
--- for each write that is read, its new number, or the limit if the number is greater; those behind
--- the list are not read
+-- for each write that is read, its new number, or the limit if the number is greater; those past
+-- the end of the list are not read
 pub record AreNumbers (vs : List (Option ℕ)) (limit : ℕ) (numbers : List (Option ℕ)) : Type 0 where
   pub each : (w : ℕ) → slice_index_or numbers w None
       ≡ cond (is_read w vs) (Some (min (new_number vs w) limit)) None

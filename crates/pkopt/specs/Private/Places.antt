@@ -29,7 +29,7 @@ place at size op = record { at = at; size = size; op = op }
 abbrev pub place_of : ℕ → Instruction → Place
 place_of at i = place at (length (spelling i)) i.op
 
--- these places behind this one, which is left out if its instruction never changes
+-- these places after this one, which is left out if its instruction never changes
 abbrev pub with_place : Place → List Place → List Place
 with_place x later = cond (stays_as_is x.op) later (x ∷ later)
 
@@ -38,16 +38,16 @@ abbrev pub places_from : ℕ → List Instruction → List Place
 places_from at [] = []
 places_from at (i ∷ is) = with_place (place_of at i) (places_from (at + length (spelling i)) is)
 
--- the instructions that were heard
+-- the instructions that were observed
 abbrev pub told : List Heard → List Instruction
 told hs = map (λ h. h.instruction) hs
 
--- the places of the heard instructions that may change
+-- the places of the observed instructions that may change
 abbrev pub places_told : List Heard → List Place
 places_told [] = []
 places_told (h ∷ hs) = with_place (place_of h.at h.instruction) (places_told hs)
 
--- the offset behind a part that begins at this offset
+-- the offset after a part that begins at this offset
 abbrev pub end_of : ℕ → Part → ℕ
 end_of from part = from + part.gap + part.size
 
@@ -55,7 +55,7 @@ end_of from part = from + part.gap + part.size
 abbrev pub place_behind : ℕ → Part → Place
 place_behind from part = place (from + part.gap) part.size part.op
 
--- the offset behind parts that begin at this offset
+-- the offset after parts that begin at this offset
 abbrev pub end_behind : ℕ → List Part → ℕ
 end_behind from [] = from
 end_behind from (part ∷ parts) = end_behind (end_of from part) parts

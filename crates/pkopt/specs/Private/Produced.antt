@@ -41,7 +41,7 @@ abbrev pub from_after : Fate → Place → ℕ → ℕ
 from_after Stays place from = from
 from_after fate place from = place.at + place.size
 
--- the pass behind the instruction at a place
+-- the pass after the instruction at a place
 abbrev pub passed : Plan → Place → Pass → Pass
 passed plan place s = record {
   writes = writes_after (memo_use place.op) s.writes;

@@ -7,7 +7,7 @@ use Rattle.std.specs.Io.KnownBytes.{Appends}
 use Rattle.pkcheck.specs.Appended.{appends_none, appends_then}
 use Rattle.pkopt.specs.declared.measure.Measure.{Measure}
 
--- the byte at a place behind `before` bytes and this piece, if it is in the piece
+-- the byte at a place if it is in this piece, which follows `before` bytes; else `otherwise`
 abbrev pub byte_in : ℕ → ℕ → List ℕ → ℕ → ℕ
 byte_in place before piece otherwise =
     cond (nat_le before place) (slice_index_or piece (place - before) otherwise) otherwise

@@ -133,7 +133,7 @@ has_two_lines op.Global = true
 has_two_lines op.Inst = true
 has_two_lines _ = false
 
--- one number tells how long an instruction is. With two lines, it is 512 times the length of the
+-- one number says how long an instruction is. With two lines, it is 512 times the length of the
 -- first plus the length of the instruction, both below 512
 abbrev pub first_of : Op → ℕ → ℕ
 first_of o lengths = if has_two_lines o then lengths / 512 else 0
@@ -149,7 +149,7 @@ IsInFront limits o lengths bytes = IsFront limits o (first_of o lengths) (length
 abbrev pub HasCode : Op → List ℕ → Type 0
 HasCode o bytes = o ≢ op.Stop → code_of o ≡ slice_index bytes 0
 
--- behind the code stand a line that obeys the rule, and its line feed: n bytes with the code
+-- after the code come a line that obeys the rule, and its line feed: n bytes with the code
 pub record HasLine (rule : Rule) (n : ℕ) (bytes : List ℕ) : Type 0 where
   pub line : List ℕ
   pub behind : List ℕ
