@@ -3,12 +3,14 @@
 import base64
 import gzip
 import lzma
+import operator
 import pickle
 import random
 import unittest
 import zlib
 
 import explained_hostile
+import explained_kept
 import storklocker
 from common import python
 from storklocker.explaining.brief import brief
@@ -40,11 +42,17 @@ def said(data):
 
 class Hidden(unittest.TestCase):
     def test_commands(self):
+        self.is_read("explained_hostile.hidden()", dict(explained_hostile.hidden()), 95)
+
+    def test_kept_commands(self):
+        self.is_read("explained_kept.kept()", dict(explained_kept.kept()), 90)
+
+    def is_read(self, made, named, least):
         """The command of each pickle that runs one in a reader can be read."""
-        ran = set(python("import explained_hostile; explained_hostile.run()").splitlines())
-        named = dict(explained_hostile.hidden())
-        self.assertGreaterEqual(len(named), 100)
-        self.assertGreaterEqual(len(ran), 95)
+        code = "import explained_hostile, explained_kept; from explained_hostile import Point; "
+        code += f"explained_hostile.run(list({made}))"
+        ran = set(python(code, "-W", "ignore").splitlines())
+        self.assertGreaterEqual(len(ran), least)
         self.assertLessEqual(ran, set(named))
         commands = (explained_hostile.COMMAND, f"'touch', '{explained_hostile.MARK}'")
         for name in ran:
@@ -86,6 +94,35 @@ class Hidden(unittest.TestCase):
             with self.subTest(name):
                 self.assertLess(len(said(data)), MOST)
 
+    def test_changed_lists(self):
+        """A value is shown as it is when it is used, and one that a call may change isn't shown."""
+        join = b"0cbuiltins\ngetattr\n(V\nVjoin\ntR(h\0tRq\1"
+        listed = b"(lq\0V print(1)\na" + join
+        later = said(listed + b"0h\0Vx\na0cbuiltins\nexec\n(h\1tR.")
+        self.assertIn("exec runs:\n#                  print(1)\n", later)
+        popped = b"0cbuiltins\ngetattr\n(h\0Vpop\ntR)R"
+        front = b"(lq\0V print(1)\naV print(2)\na"
+        run = b"q\2cbuiltins\nexec\n(h\2tR."
+        self.assertIn("exec runs:\n#                  print(2)\n", said(front + popped + run))
+        self.assertNotIn("exec runs", said(front + 2 * popped + run))
+
+    def test_calls_of_calls(self):
+        """What lies deep is opened, and where too much lies, it is said."""
+        code = "exec runs:\n#                  print(1)\n"
+        for count, text in ((1000, code), (60_000, "too much to open")):
+            data = b"cbuiltins\nbytes\nq\0cbuiltins\nexec\n(" + b"h\0" * count
+            data += b"\x8e\x09" + bytes(7) + b" print(1)" + b"\x85R" * count + b"tR."
+            with self.subTest(count=count):
+                self.assertIn(text, said(data))
+
+    def test_numbers(self):
+        """A number of many digits is never written in decimal, which takes the square of them."""
+        number = int.from_bytes(b" print(1)#" * 30_000, "little")
+        made = explained_hostile.Call(int.to_bytes, number, 300_000, "little")
+        self.assertIn("print(1)# print(1)", said(pickle.dumps(explained_hostile.Call(exec, made))))
+        added = explained_hostile.Call(exec, explained_hostile.Call(operator.add, number, 1))
+        self.assertIn("a number of 2,399,9", said(pickle.dumps(added)))
+
     def test_too_deep(self):
         inner = pickle.dumps(explained_hostile.Call(print, "at the end"))
         for _ in range(8):
@@ -119,7 +156,7 @@ class Marshalled(unittest.TestCase):
         doubled = (1,)
         for _ in range(60):
             doubled = (doubled, doubled)
-        self.assertLess(len(brief(doubled)), 200)
+        self.assertLess(len(brief(doubled)), 5000)
 
 
 if __name__ == "__main__":

@@ -231,7 +231,8 @@ class Machine(Valued):
 
     def _long(self, name: str, begin: int, end: int) -> Any:
         if name in ("LONG", "LONG1", "LONG4", "INT", "FLOAT"):
-            return Node(UNREAD, self.begun, [f"{name} of {end - begin:,} bytes"])
+            held = [Span(begin, end, False)] if name in ("LONG1", "LONG4") else []
+            return Node(UNREAD, self.begun, [f"{name} of {end - begin:,} bytes", *held])
         is_text = "UNICODE" in name or "STRING" in name
         made = Node(LONG, self.begun, [Span(begin, end, is_text, _TEXTS.get(name, "utf-8"))])
         return Node(BYTEARRAY, self.begun, [made]) if name == "BYTEARRAY8" else made

@@ -5,89 +5,55 @@ pickles, code. Nothing is run; what isn't plain stays shut.
 from __future__ import annotations
 
 import itertools
-from typing import Any, Callable, Dict, Iterable, Iterator, List, NamedTuple, Optional, Tuple
+from typing import Any, Callable, Dict, Iterable, Iterator, List, Optional, Set, Tuple
 
 from ..scanning.dangers import judged
-from ..scanning.known import HARMLESS
+from ..scanning.known import HARMLESS, Row
 from ..scanning.lenient import ANY
 from ..scanning.report import shown
 from ..scanning.valued import DICT, FROZENSET, LIST, SET, TUPLE
-from .brief import brief
-from .decoding import DECODERS, LARGEST, Named, Unknown, of_method
-from .marshalled import Code, NotRead, code_in
+from .answers import CALLER, answered, code_of, may_change
+from .decoding import LARGEST
+from .marshalled import Code
 from .nodes import (
     ADD, APPEND, BYTEARRAY, CALL, COLLECTED, EXTEND, IMPORT, INSTANCE, LONG, NEW, SETITEM, SETSTATE,
-    Node, Span
+    UNREAD, Node, Span
 )
 from .pickles import Followed
+from .values import (
+    HIDDEN, Compiled, Made, Named, Partial, Spent, Unknown, data_of, name_of, text_of
+)
 
 DEPTH = 8
 """How deep payloads are opened."""
-_LINES, _WIDTH, _SHOWN, _HASHED = 40, 400, 160, 1000
-_CALLS = (CALL, NEW, INSTANCE)
+_LINES, _WIDTH, _SHOWN, _HASHED, _WORDS = 40, 400, 160, 1000, 8
+_PARTS, _HELD = 2000, 100
+_FORMS = frozenset((CALL, NEW, INSTANCE))
+CALLS = _FORMS | {"persistent_load", "extension"}
 _CHANGES = (APPEND, EXTEND, SETITEM, ADD, SETSTATE)
-LOADERS = frozenset(
-    "pickle.loads pickle.load dill.loads dill.load cloudpickle.loads cloudpickle.load"
-    " cPickle.loads pickle.Unpickler joblib.load pandas.read_pickle".split()
-)
-"""What loads a pickle that it is given."""
-RUNNERS = frozenset(
-    "builtins.exec builtins.eval builtins.execfile builtins.compile timeit.timeit timeit.main"
-    " code.interact code.InteractiveInterpreter.runsource pdb.run profile.run cProfile.run"
-    " doctest.debug_script bdb.Bdb.run trace.Trace.run ctypes.pythonapi.PyRun_SimpleString"
-    " _osx_support._read_output numexpr.evaluate pandas.eval".split()
-)
-"""What runs a text as code."""
-_IMPORTERS = frozenset(
-    "builtins.__import__ importlib.import_module importlib.__import__ importlib.reload"
-    " importlib._bootstrap._gcd_import pydoc.locate pkgutil.resolve_name pydoc.safeimport".split()
-)
-
-
-class Method(NamedTuple):
-    """A method of something plain."""
-
-    held: Any
-    name: str
-
-
-class Partial(NamedTuple):
-    """A function with some arguments."""
-
-    function: Any
-    words: Tuple[Any, ...]
-
-
-class Asking(NamedTuple):
-    """What asks its argument for attributes, or calls a method of it."""
-
-    names: Tuple[str, ...]
-    words: Optional[Tuple[Any, ...]]
-
-
-class Compiled(NamedTuple):
-    """Code, or a function of it, with the text of it if that is known."""
-
-    code: Any
+_MUTABLE = frozenset((LIST, DICT, SET, BYTEARRAY))
+_LOADS = "It loads another pickle, which is not checked."
+_RUNS = "It runs code that the pickle contains."
+"""What the catalogue says of names that load and run what they are given."""
 
 
 class Bill:
     """What may still be spent on the payloads of a file."""
 
     def __init__(self) -> None:
-        self._visits, self._bytes, self._pickles = 100_000, 1 << 24, 64
+        self._visits, self._bytes, self._pickles = 200_000, 1 << 24, 64
 
     def visit(self) -> None:
         """Counts a value that is looked at."""
         self._visits -= 1
         if self._visits < 0:
-            raise Unknown
+            raise Spent
 
     def pay(self, values: Iterable[Any]) -> None:
         """Counts what is decoded, and what comes of it."""
         self._bytes -= sum(len(it) for it in values if type(it) in _SIZED)
         if self._bytes < 0:
-            raise Unknown
+            raise Spent
 
     def open(self) -> bool:
         """Whether another pickle may be opened."""
@@ -105,54 +71,57 @@ class Opener:
     def __init__(
         self, followed: Followed, inner: Inner, depth: int = 0, bill: Optional[Bill] = None
     ) -> None:
-        self._source, self._inner, self._depth = followed.source, inner, depth
+        self._inner, self._depth = inner, depth
         self._bill = bill or Bill()
         self._lines: Dict[Node, List[str]] = {}
-        self._answers: Dict[Node, Any] = {}
-        self._changes: Dict[Node, List[Node]] = {}
-        for it in followed.events:
-            if it.kind in _CHANGES and type(it.items[0]) is Node:
-                self._changes.setdefault(it.items[0], []).append(it)
-        self._at = 0
+        self._values = Values(followed, self._bill)
 
-    def lines(self, it: Node) -> List[str]:
-        """What a statement hides."""
-        if it.kind not in _CALLS:
+    def lines(self, it: Node, is_bad: bool) -> List[str]:
+        """What a statement hides; of one that isn't dangerous, what it decodes."""
+        if it.kind not in CALLS and it.kind != SETSTATE:
             return []
         if it not in self._lines:
-            self._lines[it] = self._lines_of(it)
+            self._lines[it] = self._lines_of(it, is_bad)
         return self._lines[it]
 
-    def _lines_of(self, it: Node) -> List[str]:
-        self._at = it.at
+    def _lines_of(self, it: Node, is_bad: bool) -> List[str]:
         try:
-            function, words = self._called(it)
-            found = list(itertools.islice(self._opened(it, function, words), _LINES + 1))
+            if not is_bad and not self._values.is_decoded(it):
+                return []
+            found = list(itertools.islice(self._opened(it), _LINES + 1))
+        except Spent:
+            return ["it isn't opened: there is too much to open"]
         except Exception:  # (Unknown, or whatever hostile values raise)
             return []
         return found if len(found) <= _LINES else [*found[:_LINES], "... and more"]
 
-    def _opened(self, it: Node, function: Any, words: List[Any]) -> Iterator[str]:
-        name = function.name if type(function) is Named else ""
-        first = words[0] if words else None
-        if name in LOADERS and type(first) is bytes:
-            yield f"{name} loads a pickle of {len(first):,} bytes:"
-            yield from (f"    {line}" for line in self._inside(first))
-        elif name == "marshal.loads" and type(first) is bytes:
+    def _opened(self, it: Node) -> Iterator[str]:
+        is_plain = self._values.is_plain(it)
+        if it.kind == SETSTATE:
+            if not is_plain:
+                yield shown(f"the state is {text_of(self._values.at(it, it.items[1]))}", _WIDTH)
+            return
+        function, words = self._values.called(it)
+        name, given = name_of(function), list(map(data_of, words[:_WORDS]))
+        why = _why(name)
+        pickled = next((word for word in given if type(word) is bytes), None)
+        code = next((word for word in given if type(word) in (str, bytes, Compiled)), None)
+        if why == _LOADS and pickled:
+            yield f"{name} loads a pickle of {len(pickled):,} bytes:"
+            yield from (f"    {line}" for line in self._inside(pickled))
+        elif name == "marshal.loads" and pickled is not None:
             yield "marshalled code:"
-            yield from _code_lines(_code_of(first))
+            yield from _code_lines(code_of(pickled))
         elif type(function) is Compiled:
             yield "it runs:"
             yield from _code_lines(function.code)
-        elif name in RUNNERS and type(first) in (str, bytes, Compiled):
-            if type(first) is Compiled or not self._is_shown(it, first):
+        elif why == _RUNS and code is not None:
+            if type(code) is Compiled or not (is_plain and _is_short(code)):
                 yield f"{name.rpartition('.')[2]} runs:"
-                yield from _code_lines(first.code if type(first) is Compiled else first)
-        elif name and (not self._is_plain(it) or name != _dotted(it.items[0])):
-            row = judged(*name.rpartition(".")[::2])
-            why = f": {row.why}" if row is not None and row.severity != HARMLESS else ""
-            given = ", ".join(map(_repr, words))
-            yield shown(f"calls {name}({given}){why}", _WIDTH)
+                yield from _code_lines(code)
+        elif not is_plain or it.kind in _FORMS and name and name != _dotted(it.items[0]):
+            row = f": {why}" if why else ""
+            yield shown(f"calls {text_of(Made(function, tuple(words)))}{row}", _WIDTH)
 
     def _inside(self, data: bytes) -> Iterator[str]:
         if self._depth >= DEPTH or not self._bill.open():
@@ -160,27 +129,87 @@ class Opener:
         else:
             yield from self._inner(data, self._depth + 1, self._bill)
 
-    def _is_shown(self, it: Node, text: Any) -> bool:
-        """Whether the statement shows the text that it runs."""
-        return self._is_plain(it) and len(text) <= _SHOWN and len(text.splitlines()) < 2
 
-    def _is_plain(self, it: Node) -> bool:
-        """Whether all arguments are written in the statement."""
-        given = it.items[1:]
-        if it.kind != INSTANCE and given and type(given[0]) is Node and given[0].kind == TUPLE:
-            given = given[0].items
-        return not any(type(word) is Node and word.kind in _CALLS for word in given)
+class Values:
+    """What the values of a pickle are, as far as it is known without running anything."""
 
-    # ---- values
+    def __init__(self, followed: Followed, bill: Bill) -> None:
+        self._source, self._bill = followed.source, bill
+        self._answers: Dict[Node, Any] = {}
+        self._changes: Dict[Node, List[Node]] = {}
+        self._calls: List[Node] = []
+        self._holding: Optional[Dict[Node, List[Node]]] = None
+        """The calls that are given a value which has more uses."""
+        for it in followed.events:
+            if it.kind in _CHANGES and type(it.items[0]) is Node:
+                self._changes.setdefault(it.items[0], []).append(it)
+            elif it.kind in CALLS:
+                self._calls.append(it)
+        self._at = 0
+
+    def called(self, it: Node) -> Tuple[Any, List[Any]]:
+        """What is called, and with what."""
+        self._ready(it)
+        found: Tuple[Any, List[Any]] = self._when(it.at, self._called, it)
+        return found
+
+    def at(self, it: Node, value: Any) -> Any:
+        """A value as it is when an event happens."""
+        self._ready(it)
+        return self._when(it.at, self._maybe, value)
+
+    def is_plain(self, it: Node) -> bool:
+        """Whether what an event is given is written in it, and no call makes it."""
+        given = it.items[1:] if it.kind in _FORMS or it.kind == SETSTATE else it.items
+        return all(value.kind in COLLECTED for value in self._within(given, False))
+
+    def is_decoded(self, it: Node) -> bool:
+        """Whether an event is given what a decoder answers."""
+        if self.is_plain(it):
+            return False
+        self._ready(it)
+        given = [self._answers.get(value) for value in self._within(it.items, False)]
+        return any(type(value) in (str, bytes, Compiled) for value in given)
+
+    def _within(self, values: List[Any], is_all: bool) -> Iterator[Node]:
+        """The values in others, each once; in what calls make only if all are wanted."""
+        found: Set[Node] = set()
+        todo = list(values[:_PARTS])
+        while todo:
+            value = todo.pop()
+            if type(value) is not Node or value in found or value.kind == IMPORT:
+                continue
+            self._bill.visit()
+            found.add(value)
+            yield value
+            if is_all or value.kind in COLLECTED:
+                todo += value.items[:_PARTS]
+                for change in self._changes.get(value, ())[:_PARTS]:
+                    todo += change.items[1:_PARTS]
+
+    def _ready(self, it: Node) -> None:
+        """Answers the calls first that a value is made of, for they may lie very deep."""
+        calls = [value for value in self._within(it.items, True) if value.kind in CALLS]
+        for value in sorted(calls, key=lambda it: it.at):
+            self._maybe(value)
+
+    def _when(self, at: int, find: Callable[[Any], Any], value: Any) -> Any:
+        """What is found of a value as it is at a place."""
+        kept, self._at = self._at, at
+        try:
+            return find(value)
+        finally:
+            self._at = kept
 
     def _called(self, it: Node) -> Tuple[Any, List[Any]]:
-        """What is called, and with what."""
-        function = self._value(it.items[0])
+        if it.kind not in (CALL, NEW, INSTANCE):
+            return Named(it.kind), list(map(self._maybe, it.items))
+        function = self._maybe(it.items[0])
         if it.kind == INSTANCE:
-            words = [self._maybe(word) for word in it.items[1:]]
+            words = list(map(self._maybe, it.items[1:]))
         else:
             words = self._words(it.items[1])
-        while type(function) is Partial or type(function) is Named and function.name == _CALLER:
+        while type(function) is Partial or type(function) is Named and function.name == CALLER:
             if type(function) is Partial:
                 function, words = function.function, [*function.words, *words]
             else:
@@ -189,15 +218,16 @@ class Opener:
 
     def _words(self, given: Any) -> List[Any]:
         if type(given) is Node and given.kind in (TUPLE, LIST) and given not in self._changes:
-            return [self._maybe(word) for word in given.items]
-        return list(self._value(given))
+            return list(map(self._maybe, given.items))
+        found = self._maybe(given)
+        return list(found) if type(found) in (list, tuple) else [HIDDEN]
 
     def _maybe(self, value: Any) -> Any:
         """A value, or what stands for one that isn't plain."""
         try:
             return self._value(value)
         except Unknown:
-            return _HIDDEN
+            return HIDDEN
 
     def _value(self, value: Any) -> Any:
         """A plain value. Raises Unknown."""
@@ -210,53 +240,87 @@ class Opener:
             return Named(_named(*value.items))
         if value.kind in COLLECTED:
             return self._collected(value)
+        if value.kind == UNREAD:
+            return self._number(value)
         if value not in self._answers:
-            self._answers[value] = _HIDDEN
-            self._answers[value] = self._answer(value)
-        if self._answers[value] is _HIDDEN:
-            raise Unknown
-        return self._answers[value]
+            self._answers[value] = HIDDEN
+            self._answers[value] = self._when(value.at, self._answer, value)
+        found = self._answers[value]
+        return self._changed(value, found) if type(found) is Partial else found
+
+    def _changed(self, it: Node, found: Partial) -> Partial:
+        """A partial function with the state that it has by now."""
+        for change in self._changes.get(it, ()):
+            if change.kind == SETSTATE and change.at < self._at:
+                state = self._value(change.items[1])
+                found = Partial(state[0], tuple(state[1]))
+        return found
 
     def _answer(self, it: Node) -> Any:
+        if it.kind == "find_class":
+            words = list(map(self._maybe, it.items))
+            is_known = set(map(type, words)) == {str}
+            return Named(_named(*words)) if is_known else Made(Named(it.kind), tuple(words))
+        if it.kind not in CALLS:
+            return HIDDEN
+        function, words = self._called(it)
         try:
-            if it.kind == "find_class":
-                return Named(_named(*map(self._value, it.items)))
-            if it.kind not in _CALLS:
-                raise Unknown
-            function, words = self._called(it)
-            if _is_hidden(words) and type(function) is not Named:
-                raise Unknown
-            self._bill.pay(words)
-            found = self._answered(function, words)
-            self._bill.pay([found])
-            for change in self._changes.get(it, ()):
-                if type(found) is Partial and change.kind == SETSTATE and change.at < self._at:
-                    state = self._value(change.items[1])
-                    found = Partial(state[0], tuple(state[1]))
-            return found
-        except Unknown:
-            return _HIDDEN
-        except Exception:  # (whatever a decoder raises for hostile bytes)
-            return _HIDDEN
+            return self._applied(function, words)
+        except Spent:
+            raise
+        except Exception:  # (Unknown, or whatever a decoder raises for hostile bytes)
+            return Made(function, tuple(words))
+
+    def _applied(self, function: Any, words: List[Any]) -> Any:
+        self._bill.visit()
+        while type(function) is Partial:
+            function, words = function.function, [*function.words, *words]
+        self._bill.pay(words)
+        found = answered(function, words, self._applied)
+        self._bill.pay([found])
+        return found
 
     def _collected(self, it: Node) -> Any:
         if it.kind == LONG:
             return self._long(it.items[0])
+        if it.kind in _MUTABLE and it.uses > 1:
+            self._refuse_changed(it)
         if it.kind == BYTEARRAY:
             return bytes(self._value(it.items[0]))
-        items = list(it.items)
-        for change in self._changes.get(it, ()):
-            if change.at < self._at:
-                items += change.items[1:]
-        values = [self._maybe(part) for part in items]
+        values = list(map(self._maybe, it.items))
         if it.kind not in (LIST, TUPLE) and len(values) > _HASHED:
             raise Unknown  # (hostile keys collide)
-        if it.kind == DICT:
-            return dict(zip(values[::2], values[1::2]))
-        if it.kind == LIST:
-            return values
+        made: Any = dict(zip(values[::2], values[1::2])) if it.kind == DICT else values
+        for change in self._changes.get(it, ()):
+            if change.at < self._at:
+                self._change(made, change, it.kind)
+        if it.kind in (DICT, LIST):
+            return made
         kinds: Dict[str, Any] = {TUPLE: tuple, SET: frozenset, FROZENSET: frozenset}
-        return kinds[it.kind](values)
+        return kinds[it.kind](made)
+
+    def _change(self, made: Any, change: Node, kind: str) -> None:
+        """Puts into a value what a later event puts there."""
+        words = list(map(self._maybe, change.items[1:]))
+        if change.kind == SETITEM:
+            key, value = words
+            made[key] = value
+        elif kind == DICT or change.kind == SETSTATE or len(made) > LARGEST:
+            raise Unknown
+        else:
+            made += words
+
+    def _refuse_changed(self, it: Node) -> None:
+        """Raises Unknown if a call may have changed a value that it was given."""
+        if self._holding is None:
+            self._holding = {}
+            for call in self._calls:
+                for value in itertools.islice(self._within(call.items, False), _HELD):
+                    if value.kind in _MUTABLE and value.uses > 1:
+                        self._holding.setdefault(value, []).append(call)
+        for call in self._holding.get(it, ()):
+            if call.at < self._at and may_change(self._answers.get(call, HIDDEN)):
+                raise Unknown
 
     def _long(self, it: Span) -> Any:
         if it.end - it.begin > LARGEST:
@@ -264,56 +328,12 @@ class Opener:
         raw = self._source.read(it.begin, it.end - it.begin)
         return raw.decode(it.coding, "replace") if it.is_text else raw
 
-    def _answered(self, function: Any, words: List[Any]) -> Any:
-        """What a call of a known function answers."""
-        if type(function) is Method:
-            return of_method(function.held, function.name, words)
-        if type(function) is Asking:
-            return _asked(words[0], function)
-        if type(function) is not Named:
+    def _number(self, it: Node) -> int:
+        """A number of more digits than are shown."""
+        if len(it.items) < 2:
             raise Unknown
-        name = function.name
-        if name in _IMPORTERS and type(words[0]) is str:
-            head = words[0].partition(".")[0]
-            return Named(head if name == "builtins.__import__" and not words[3:] else words[0])
-        if name == "operator.getitem" and type(words[0]) is Named:
-            return self._answered(Named(f"{words[0].name}.__getitem__"), words[1:])
-        if name == "builtins.getattr":
-            return _asked(words[0], Asking((words[1],), None))
-        if name in ("functools.partial", "operator.methodcaller", "operator.attrgetter"):
-            return _made(name, words)
-        if name == "marshal.loads":
-            return Compiled(_code_of(words[0]))
-        if name == "builtins.compile":
-            return Compiled(words[0])
-        if name in ("types.FunctionType", "types.LambdaType", "builtins.function"):
-            return words[0]
-        if name in ("types.CodeType", "builtins.code"):
-            return Compiled(_code_made(words))
-        if name in DECODERS and not _is_hidden(words):
-            return DECODERS[name](*words)
-        head, _, last = name.rpartition(".")
-        if head.endswith(".__dict__") and last in ("get", "__getitem__") and type(words[0]) is str:
-            return Named(f"{head[: -len('.__dict__')]}.{words[0]}")
-        if head not in ("builtins.str", "builtins.bytes", "builtins.bytearray"):
-            raise Unknown
-        held, *words = [b"", *words] if last == "fromhex" else words
-        return of_method(held, last, words)
-
-
-class _Hidden:
-    """A value that isn't plain."""
-
-    def __repr__(self) -> str:
-        return "..."
-
-
-_HIDDEN = _Hidden()
-_CALLER = "operator.call"
-
-
-def _is_hidden(words: List[Any]) -> bool:
-    return any(it is _HIDDEN for it in words)
+        raw = self._long(it.items[1])
+        return int.from_bytes(raw, "little", signed=True)
 
 
 def _named(module: str, name: str) -> str:
@@ -328,60 +348,29 @@ def _dotted(value: Any) -> str:
     return _named(*value.items) if type(value) is Node and value.kind == IMPORT else ""
 
 
-def _asked(held: Any, asking: Asking) -> Any:
-    """An attribute, or what a method answers."""
-    if type(held) is Named:
-        found: Any = Named(".".join((held.name, *asking.names)))
-        if asking.words is not None:
-            raise Unknown
-        return found
-    if asking.words is not None:
-        return of_method(held, asking.names[0], list(asking.words))
-    if type(held) in (str, bytes, list, tuple, dict) and len(asking.names) == 1:
-        return Method(held, asking.names[0])
-    raise Unknown
+def _why(name: str) -> str:
+    """What the catalogue says of a dotted name, or of the class that has this method. The last two
+    words count, for modules have one another.
+    """
+    words = name.partition("()")[0].split(".")
+    for module, last in ((".".join(words[:-1]), words[-1]), (".".join(words[-2:-1]), words[-1])):
+        row: Optional[Row] = judged(module, last)
+        if row is not None:
+            return "" if row.severity == HARMLESS else row.why
+    return ""
 
 
-def _made(name: str, words: List[Any]) -> Any:
-    if name == "functools.partial":
-        return Partial(words[0], tuple(words[1:]))
-    if name == "operator.methodcaller":
-        return Asking((words[0],), tuple(words[1:]))
-    return Asking(tuple(words[0].split(".")), None)
-
-
-def _code_of(data: bytes) -> Any:
-    try:
-        return code_in(data)
-    except NotRead:
-        return f"code of {len(data):,} bytes, not read"
-
-
-def _code_made(words: List[Any]) -> Any:
-    """What the arguments of CodeType say."""
-    place = next((at for at, it in enumerate(words) if type(it) is bytes), -1)
-    if place < 0 or len(words) < place + 5:
-        raise Unknown
-    constants, names = words[place + 1], words[place + 2]
-    if type(constants) is not tuple or type(names) is not tuple:
-        raise Unknown
-    names = tuple(it for it in names if type(it) is str)
-    texts = [it for it in words[place + 3 :] if type(it) is str]
-    return Code("code", texts[-1] if texts else "?", names, constants)
+def _is_short(text: Any) -> bool:
+    """Whether a statement shows a text that it is given."""
+    return len(text) <= _SHOWN and len(text.splitlines()) < 2
 
 
 def _code_lines(code: Any) -> Iterator[str]:
     """Code as a text, or by its names and constants."""
-    if type(code) is Compiled:
+    while type(code) is Compiled:
         code = code.code
     if type(code) is Code:
         yield from (shown(line, 2 * _WIDTH) for line in code.lines("    "))
         return
     text = code.decode("utf-8", "replace") if type(code) is bytes else str(code)
     yield from (f"    {shown(line, _WIDTH)}" for line in text.splitlines())
-
-
-def _repr(value: Any) -> str:
-    if type(value) is Named:
-        return value.name
-    return brief(value)

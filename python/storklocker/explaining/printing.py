@@ -2,20 +2,25 @@
 
 from __future__ import annotations
 
+import io
 import itertools
-from typing import Any, Dict, Iterable, Iterator, List, NamedTuple, Tuple
+from typing import Any, Dict, Iterable, Iterator, List, NamedTuple, Optional, Tuple
 
 from ..scanning.colour import Paint, plain
+from ..scanning.report import shown
+from ..scanning.source import source_of
 from .judged import HIDDEN, Name, names_in, row_of
 from .nodes import BAD, COMMENTS, IMPORT, Node
 from .payloads import Bill, Opener
-from .pickles import Followed, followed_bytes
+from .pickles import Followed, followed_in
 from .writing import Statement, Writer
 
 LINES, BAD_LINES = 400, 40
 """The most statements of a pickle that are written, and of those the dangerous ones that come
 first, unless all are asked for.
 """
+_INNER = 16
+"""The most pickles of a payload that are explained."""
 _INDENT = "#     "
 
 
@@ -91,17 +96,21 @@ class Part(NamedTuple):
 def part_of(followed: Followed, is_full: bool) -> Part:
     """The explanation of pickles."""
     opener = Opener(followed, _inner)
-    worst = tuple(_worst(followed, opener)) if any(map(is_bad, followed.events)) else ()
-    lines = _lines(followed, opener, is_full)
+    is_worse = any(map(is_bad, followed.events))
+    worst = tuple(_worst(followed, opener)) if is_worse else ()
+    lines = _lines(followed, opener if is_worse else None, is_full)
     names, unlisted = names_in(followed.events)
     return Part(followed.path, followed.kind, tuple(names), unlisted, worst, lines)
 
 
 def _inner(data: bytes, depth: int, bill: Bill) -> Iterator[str]:
     """The explanation of a pickle in a payload."""
-    followed = followed_bytes(data, False)
-    for line in _lines(followed, Opener(followed, _inner, depth, bill), False):
-        yield from line.written()
+    source = source_of(io.BytesIO(data))
+    for followed in itertools.islice(followed_in("", source, False), _INNER):
+        if followed.path:
+            yield shown(f"# {followed.path}  {followed.kind}")
+        for line in _lines(followed, Opener(followed, _inner, depth, bill), False):
+            yield from line.written()
 
 
 def _worst(followed: Followed, opener: Opener) -> Iterator[Line]:
@@ -117,15 +126,17 @@ def is_bad(it: Node) -> bool:
     return it.severity in BAD and it.kind != IMPORT
 
 
-def _line(it: Statement, opener: Opener) -> Line:
+def _line(it: Statement, opener: Optional[Opener]) -> Line:
     is_named = it.event.kind == IMPORT or it.event.kind in HIDDEN
     note = row_of(it.event).note if is_named else ""
-    opened = tuple(opener.lines(it.event)) if is_bad(it.event) else ()
+    opened = tuple(opener.lines(it.event, is_bad(it.event))) if opener else ()
     return Line(it.at, "".join(it.pieces), it.event.severity, note, opened)
 
 
-def _lines(followed: Followed, opener: Opener, is_full: bool) -> Iterator[Line]:
-    """All statements, up to a number of them, and where readers stop."""
+def _lines(followed: Followed, opener: Optional[Opener], is_full: bool) -> Iterator[Line]:
+    """All statements, up to a number of them, and where readers stop. What they hide is opened if
+    there is an opener.
+    """
     statements = Writer(followed.source, is_full, followed.is_stream).statements(followed.events)
     fault, why = followed.refusal
     count = left = 0
