@@ -1,5 +1,5 @@
-"""`storklocker scan amqp://..` on a real RabbitMQ: what is read stays, in its order, and a worker of
-Celery gets it afterwards. The control has the hostile message run where kombu reads it.
+"""`storklocker scan amqp://..` on a real RabbitMQ: what is read stays, in its order, and a consumer
+gets it afterwards. The control has the hostile message run where kombu reads it.
 
 Topics of Kafka are read from a stand-in for its client, because no server of it is packaged.
 """
@@ -95,7 +95,7 @@ def of_queue(url):
         assert not list(common.MARKS.iterdir())
         assert got[1].payload == 0 and got[4].payload == {"args": [0]}  # the control
         (common.MARKS / "command").unlink()
-    for wrong, why in (("", "names no queue"), ("?queue=none", "can't be read"), ("?q=a", "behind")):
+    for wrong, why in (("", "no queue"), ("?queue=none", "can't be read"), ("?q=a", "behind")):
         raises(url + wrong, why)
 
 

@@ -1,6 +1,6 @@
-"""`storklocker scan` of objects on a server of ranges, on one without, and on those that lie: what a
-server gives otherwise than it has told is a finding with its place. The control reads the same
-objects through fsspec alone, which takes some of the lies for the object.
+"""`storklocker scan` of objects on a server of ranges, on one without, and on those that lie: what
+they give otherwise than they have told is a finding with its place. The control reads such an
+object through fsspec alone, which takes it for what it isn't.
 """
 
 import contextlib

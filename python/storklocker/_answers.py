@@ -301,6 +301,8 @@ class Misused(pickle.UnpicklingError):
 
     is_told = False
     """Whether it was reported to a guard's `on_refusal`."""
+    is_reported = False
+    """Whether it was reported to `storklocker.telemetry`."""
 
 
 def told(value: "Any") -> str:

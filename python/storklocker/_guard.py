@@ -383,10 +383,11 @@ class Guard(Loads):
             self._is_begun = True
             its.begin(self)
         how = its.Judged(is_old, self._takes_any)
-        if self._on_refusal is None:
+        try:
             return its.loads(data, self._allow, how, *told, **words)
-        with _later("_telling").Misuses(self, data):
-            return its.loads(data, self._allow, how, *told, **words)
+        except pickle.UnpicklingError:
+            with _later("_telling").Misuses(self, data):
+                raise
 
 
 _SETTINGS = (

@@ -31,6 +31,7 @@ class Refusal:
     size: the number of these bytes.
     sha256: their SHA-256, in hexadecimal; computed on first access.
     missing: `missing` of the verdict.
+    reason: the name of the reason, as `Counts` counts it.
     context: the value of `context` around the call; if there is none, the name of the file.
     enforced: False if the pickle is loaded in spite of the refusal.
     misused: how the pickle misuses a listed name, if `Misused` stopped the load of an accepted
@@ -63,6 +64,16 @@ class Refusal:
     def missing(self) -> Tuple[Import, ...]:
         """The imports off the list; `verdict.missing_is_cut` says whether some are left out."""
         return self.verdict.missing
+
+    @property
+    def reason(self) -> str:
+        """The name of the reason; `MoreBytes` if more bytes followed, `Misused` if a load was
+        stopped.
+        """
+        if self.misused:
+            return "Misused"
+        reason = self.verdict.reason
+        return "MoreBytes" if reason is None else reason.name
 
     def __repr__(self) -> str:
         why = self.misused or self.verdict.line(64)

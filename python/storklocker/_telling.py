@@ -10,6 +10,7 @@ from ._hints import hint_of
 from ._lists import STANDARD, within
 from ._name_hints import origin_of
 from ._refusal import CONTEXT, Refusal
+from .telemetry import report
 
 if TYPE_CHECKING:
     from ._guard import Guard
@@ -20,8 +21,10 @@ def told(guard: Guard, verdict: Verdict, data: bytes, length: int, start: int) -
     `data` is only its front, `start` what the verdict counts its first byte as.
     """
     context = CONTEXT.get()
+    refusal = Refusal(verdict, data, context, guard._enforce)
+    report(refusal)
     if guard._on_refusal is not None:
-        guard._on_refusal(Refusal(verdict, data, context, guard._enforce))
+        guard._on_refusal(refusal)
     origin = origin_of(context)
     if verdict.accepted:
         return MoreBytes(verdict, length or len(data), origin)
@@ -54,8 +57,13 @@ class Misuses:
 
     def __exit__(self, kind: Any, error: Any, trace: Any) -> None:
         hook = self._guard._on_refusal
-        if hook is None or not isinstance(error, Misused) or error.is_told:
+        if not isinstance(error, Misused) or error.is_told or hook is None and error.is_reported:
             return
-        error.is_told = True  # (the block may be in another one)
         verdict = self._guard._judge(self._data)
-        hook(Refusal(verdict, self._data, CONTEXT.get(), True, str(error)))
+        refusal = Refusal(verdict, self._data, CONTEXT.get(), True, str(error))
+        if not error.is_reported:
+            error.is_reported = True  # (the block may be in another one)
+            report(refusal)
+        if hook is not None:
+            error.is_told = True
+            hook(refusal)

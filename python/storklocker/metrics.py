@@ -13,14 +13,16 @@
 
 from __future__ import annotations
 
+import functools
 import os
 import threading
 import weakref
-from typing import Any, Callable, Dict, Optional, Tuple, cast
+from typing import Any, Callable, Dict, Optional, Tuple, Type, cast
 
 from ._answers import Refused
 from ._guard import Guard
 from ._refusal import Refusal
+from .telemetry import count
 
 
 _all: weakref.WeakSet[Counts] = weakref.WeakSet()
@@ -61,16 +63,13 @@ class Counts:
         """Counts an accepted pickle."""
         with self._lock:
             self._accepted += 1
+        count("accepted")
 
     def refuse(self, refusal: Refusal) -> None:
         """Counts a refused pickle, or the misuse of an accepted one. Can be the `on_refusal` of any
         guard.
         """
-        reason = refusal.verdict.reason
-        name = "MoreBytes" if reason is None else reason.name
-        if refusal.misused:
-            name = "Misused"
-        self.refuse_for(name)
+        self.refuse_for(refusal.reason)
 
     def refuse_for(self, name: str) -> None:
         """Counts a refused pickle under this name of a reason."""
@@ -91,15 +90,51 @@ class Counts:
         return "\n".join(lines) + "\n"
 
 
+class SharedCounts(Counts):
+    """Counts that `prometheus_client` has too, where all guards of a process are added up; and all
+    processes, in its multiprocess mode. Raises ImportError without it.
+    """
+
+    def __init__(self) -> None:
+        super().__init__()
+        _shared()
+
+    def accept(self) -> None:
+        """Counts an accepted pickle."""
+        super().accept()
+        _shared()[0].inc()
+
+    def refuse_for(self, name: str) -> None:
+        """Counts a refused pickle under this name of a reason."""
+        super().refuse_for(name)
+        _shared()[1].labels(name).inc()
+
+
+@functools.lru_cache(maxsize=None)
+def _shared() -> Tuple[Any, Any]:
+    """The counters of `prometheus_client`."""
+    try:
+        from prometheus_client import Counter
+    except ImportError:
+        needed = "needs prometheus_client: pip install 'storklocker[metrics]'"
+        raise ImportError(f"SharedCountingGuard {needed}") from None
+    accepted, refused = "Pickles that guards accepted.", "Pickles that guards refused, by reason."
+    return (
+        Counter("storklocker_accepted", accepted),
+        Counter("storklocker_refused", refused, ["reason"]),
+    )
+
+
 class CountingGuard(Guard):
     """A `Guard` that counts in `counts`. A copy in another process has its own counts, from 0."""
 
     __slots__ = ("counts", "_hook", "_here")
+    _kind: Type[Counts] = Counts
 
     def __init__(
         self, *given: Any, on_refusal: Optional[Callable[[Refusal], Any]] = None, **named: Any
     ) -> None:
-        self.counts = Counts()
+        self.counts = self._kind()
         self._hook = on_refusal
         self._here = threading.local()
         super().__init__(*given, on_refusal=self._hear, **named)
@@ -148,3 +183,12 @@ class CountingGuard(Guard):
         self.counts.refuse(refusal)
         if self._hook is not None:
             self._hook(refusal)
+
+
+class SharedCountingGuard(CountingGuard):
+    """A `CountingGuard` whose counts `prometheus_client` has too: its multiprocess mode adds up the
+    children of a prefork server, as `examples/serving/prefork.py` shows.
+    """
+
+    __slots__ = ()
+    _kind = SharedCounts
