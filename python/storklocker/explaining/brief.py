@@ -24,8 +24,8 @@ class Brief:
     places.
     """
 
-    def __init__(self, parts: Callable[[Any], Tuple[Any, ...]]) -> None:
-        self._others, self._room = parts, _ROOM
+    def __init__(self, parts: Callable[[Any], Tuple[Any, ...]], room: int = _ROOM) -> None:
+        self._others, self._room = parts, room
 
     def text(self, value: Any) -> str:
         """A value as it is written, or cut."""

@@ -54,7 +54,7 @@ _STATUSES = """exit status:
 def main(words: Optional[Sequence[str]] = None) -> int:
     """Runs the command with these arguments, and returns its status."""
     words = sys.argv[1:] if words is None else words
-    if words and words[0] in program.COMMANDS:
+    if program.is_of_program(words):
         return program.become_program(words)
     parser = command_parser(words[0] if words else "")
     asked = parser.parse_args(words)

@@ -16,6 +16,8 @@ COMMANDS = {
 }
 """What each does. The program reads their arguments, and prints their help."""
 PROGRAM = Path(__file__).resolve().parent.parent / "pktool"
+STACK = "--stack"
+"""The option of `dis` that the program doesn't have."""
 _FAULT = 2
 
 
@@ -27,6 +29,28 @@ def add_command(
     it.add_argument("file", metavar="FILE", help="the pickle; /dev/stdin to read a pipe")
     if name == "optimize":
         it.add_argument("out", metavar="OUT", help="where to write the optimized pickle")
+    if name == "dis":
+        told = "also the stack and the memo after each, as `explain` follows them"
+        it.add_argument(STACK, action="store_true", help=told)
+        it.set_defaults(run=_list)
+
+
+def is_of_program(words: Sequence[str]) -> bool:
+    """Whether the program reads these arguments."""
+    return bool(words) and words[0] in COMMANDS and not (words[0] == "dis" and STACK in words)
+
+
+def _list(asked: argparse.Namespace) -> int:
+    if not asked.stack:
+        return become_program(["dis", "--", asked.file])
+    from ..explaining.stacks import list_with_stacks
+
+    try:
+        return list_with_stacks(PROGRAM, asked.file)
+    except OSError as error:
+        if error.filename != str(PROGRAM):
+            raise
+        return _cannot_run(error)
 
 
 def become_program(words: Sequence[str]) -> int:
@@ -38,7 +62,11 @@ def become_program(words: Sequence[str]) -> int:
     try:
         os.execv(PROGRAM, ["storklocker", *words])
     except OSError as error:
-        print(f"storklocker: cannot run {PROGRAM}: {_advice(error)}", file=sys.stderr)
+        return _cannot_run(error)
+
+
+def _cannot_run(error: OSError) -> int:
+    print(f"storklocker: cannot run {PROGRAM}: {_advice(error)}", file=sys.stderr)
     return _FAULT
 
 
