@@ -22,6 +22,8 @@ from worked import ROOT
 COMPILERS = {"C": "cc", "Rust": "cargo", "Go": "go", "Node": "node"}
 # Older ones weren't tried with bindings/.
 OLDEST = {"Rust": (1, 48), "Go": (1, 15), "Node": (12, 17)}
+# Of the scripts in tests/, which await at their top and take `File` from node:buffer.
+OLDEST_OF_SCRIPTS = (18, 13)
 COMMANDS = re.compile(r"(?ms)^```sh\n(.*?)^```$")
 # Pickles on standard input, and what a program says about them.
 ANSWERS = {
@@ -59,13 +61,23 @@ def lack_of(language: str) -> str:
     for it in (compiler, "cc"):  # with which the others link
         if not shutil.which(it) and (it, language) != ("cc", "Node"):
             return f"without {it}"
-    if language in OLDEST:
-        word = "version" if language == "Go" else "--version"
-        said = subprocess.run([compiler, word], stdout=subprocess.PIPE, text=True).stdout
-        found = re.search(r"(\d+)\.(\d+)", said)
-        if found is None or tuple(map(int, found.groups())) < OLDEST[language]:
-            return f"{compiler} is too old: {said.strip()}"
-    return ""
+    told = "rustc" if language == "Rust" else compiler  # (Debian's cargo has another number)
+    return too_old(told, OLDEST[language]) if language in OLDEST else ""
+
+
+def lack_of_node() -> str:
+    """Why the scripts in tests/ can't run here, or an empty text."""
+    return too_old("node", OLDEST_OF_SCRIPTS) if shutil.which("node") else "there is no node"
+
+
+def too_old(compiler: str, oldest: Tuple[int, int]) -> str:
+    """That a compiler is older than one that works, or an empty text."""
+    word = "version" if compiler == "go" else "--version"
+    said = subprocess.run([compiler, word], stdout=subprocess.PIPE, text=True).stdout
+    found = re.search(r"(\d+)\.(\d+)", said)
+    if found is not None and tuple(map(int, found.groups())) >= oldest:
+        return ""
+    return f"{compiler} is too old: {said.strip()}; {oldest[0]}.{oldest[1]} is wanted"
 
 
 def fault_of(folder: Path, commands: str, library: Path) -> str:

@@ -4,6 +4,7 @@ an answer that is one; whatever else happens is none.
 
 import http.server
 import os
+import re
 import shutil
 import subprocess
 import tempfile
@@ -67,19 +68,28 @@ def built(folder):
         has = subprocess.run(["node", "-e", "process.exit(typeof fetch === 'function' ? 0 : 1)"])
         if has.returncode == 0:
             yield "Node", ["node", CLIENTS / "node/client.js"]
+        else:
+            print("skipped: Node: node is too old: 18 is wanted, which has `fetch`")
     caches = {**os.environ, "GOCACHE": str(folder / "cache"), "GOFLAGS": "-mod=mod"}
     for language, tool, words in (
         ("Go", "go", ["build", "-o", folder / "go-client", "."]),
         ("Rust", "rustc", ["--edition=2021", "-o", folder / "rust-client", "main.rs"]),
     ):
         name = language.lower()
-        if shutil.which(tool):
+        if language == "Rust" and shutil.which(tool) and rust_version() < (1, 61):
+            print("skipped: Rust: rustc is too old: 1.61 is wanted, which has `ExitCode`")
+        elif shutil.which(tool):
             place = folder / name
             shutil.copytree(CLIENTS / name, place)
             subprocess.run([tool, *map(str, words)], cwd=place, env=caches, check=True)
             yield language, [folder / f"{name}-client"]
         else:
             print(f"skipped: {language}: there is no {tool}")
+
+
+def rust_version():
+    said = subprocess.run(["rustc", "--version"], stdout=subprocess.PIPE, text=True).stdout
+    return tuple(map(int, re.findall(r"\d+", said)[:2]))
 
 
 class liar:

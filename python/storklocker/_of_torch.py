@@ -99,7 +99,7 @@ def _sparse(reader: Reader, *given: Any) -> Any:
     *held, size = given[1] or (None,)
     if type(size) is bool and len(held) == 3:  # (since PyTorch 2.1: whether it is coalesced)
         size = held.pop()
-    layouts = {torch.sparse_coo: 2, torch.sparse_csr: 3}
+    layouts = {torch.sparse_coo: 2, getattr(torch, "sparse_csr", None): 3}  # (not in PyTorch 1.7)
     is_known = type(given[0]) is torch.layout and layouts.get(given[0]) == len(held)
     is_known = is_known and (len(given[1]) == len(held) + 1 or len(held) == 2)
     if not is_known or any(type(it) is not torch.Tensor for it in held):

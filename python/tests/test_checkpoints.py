@@ -1,6 +1,6 @@
 """`scan` on torch's distributed checkpoints: zip files one behind another, and their places."""
 
-import importlib
+import importlib.util
 import io
 import json
 import pathlib
@@ -35,6 +35,7 @@ def dataclass(made=None, _real=dataclasses.dataclass, **how):
         how["unsafe_hash"] = True  # which Python 3.11 wants of the default of a field
     return _real(made, **how)
 
+dataclass.__kwdefaults__ = dataclasses.dataclass.__kwdefaults__  # torch 2.6 asks for `kw_only`
 dataclasses.dataclass = dataclass
 import torch
 try:
@@ -46,7 +47,7 @@ asked = []
 sys.addaudithook(lambda event, words: event == "pickle.find_class" and asked.append(words[1]))
 
 def value_of(action, hidden):
-    return print if action == "save print" else {"step": 3, "text": hidden.decode("latin-1")}
+    return print if action == "save print" else hidden.decode("latin-1")
 
 def save(folder, state):
     writer = checkpoint.FileSystemWriter(folder, single_file_per_rank=True)
@@ -96,6 +97,13 @@ MOVES = (
 )
 
 
+def has_checkpoints():
+    """Whether torch has distributed checkpoints. (An import of them fails on Python 3.11.)"""
+    torch = importlib.util.find_spec("torch")
+    places = (torch and torch.submodule_search_locations) or ()
+    return any(pathlib.Path(it, "distributed/_shard/checkpoint").exists() for it in places)
+
+
 class Checkpoints(unittest.TestCase):
     def setUp(self):
         made = tempfile.TemporaryDirectory()
@@ -116,6 +124,7 @@ class Checkpoints(unittest.TestCase):
         return any(it.is_finding and it.kind != "pickle" for it in list(found))
 
     @needs("module:torch")
+    @unittest.skipUnless(has_checkpoints(), "torch has distributed checkpoints since 1.13")
     def test_what_torch_saves(self):
         folders = [str(self.folder / name) for name in ("honest", "object")]
         steps = zip(folders, ("save", "save print"), (bytes(range(40)), bytes(40)))
@@ -124,6 +133,7 @@ class Checkpoints(unittest.TestCase):
         self.assertEqual([self.is_red(folder) for folder in folders], [False, True])
 
     @needs("module:torch")
+    @unittest.skipUnless(has_checkpoints(), "torch has distributed checkpoints since 1.13")
     def test_places_elsewhere(self):
         steps = []
         for number, (action, hidden) in enumerate(MOVES):

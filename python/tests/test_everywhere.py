@@ -32,7 +32,7 @@ def asked(name, path, *mode):
     """What a child prints that loads a file through a reader."""
     environment = {**os.environ, "PYTHONPATH": str(common.IMPORTED_FROM)}
     words = [sys.executable, str(Path(everywhere.__file__)), name, str(path), *mode]
-    ran = subprocess.run(words, capture_output=True, text=True, env=environment, timeout=120)
+    ran = subprocess.run(words, capture_output=True, text=True, env=environment, timeout=900)
     assert ran.returncode == 0, (name, ran.stderr[-2000:])
     return ran.stdout.strip()
 

@@ -66,7 +66,13 @@ class Widened(unittest.TestCase):
 class Numpy(Widened):
     def test_honest(self):
         np = self.module("numpy")
-        self.are_honest("numpy", [np.poly1d([1, 2]), np.add, np.sum, np.ma.masked,
+        added = pickle.dumps(np.add)
+        if b"_ufunc_reconstruct" in added:  # (which NumPy 1.19 writes, and imports any module)
+            with self.assertRaises(Refused):
+                self.load("numpy", added)
+        else:
+            self.are_honest("numpy", [np.add])
+        self.are_honest("numpy", [np.poly1d([1, 2]), np.sum, np.ma.masked,
                                   np.matrix([[1]]), np.rec.array([(1, 2.0)], names="a,b"),
                                   np.polynomial.Polynomial([1, 2]), np.linalg.LinAlgError("why")])
 
@@ -75,7 +81,8 @@ class Numpy(Widened):
         data = whole(called("numpy", "concatenate", b"](]K\1a]K\2ae") + b"0N")
         self.assertIsNone(pickle.loads(data))
         self.is_misused("numpy", data)
-        core = type(np.add).__module__ and pickle.dumps(np.add, 0).split(b"\n")[0][1:].decode()
+        core, name = pickle.dumps(np.add, 0).decode().split("\n")[:2]
+        core = core[1:] if name == "add" else "numpy"  # (NumPy 1.19 names what looks it up)
         self.assertEqual(pickle.loads(whole(called(core, "add", b"K\1K\2"))), 3)
         self.is_misused("numpy", whole(called(core, "add", b"K\1K\2")))
 
@@ -155,6 +162,8 @@ class Pandas(Widened):
         frame = pd.DataFrame(np.ones((2, 3)))
         held = frame._mgr.blocks[0]
         make, places = held.__reduce__()[0], np.array([2, 0, 1])
+        if not make.__module__.startswith("pandas."):
+            self.skipTest("blocks have a function that makes them since pandas 1.3")
         data = pickle.dumps((places, _Called(make, held.values, places, 2)), 4)
         found = {}
         for load in (pickle.loads, functools.partial(self.load, "pandas")):
@@ -228,7 +237,8 @@ def bare_load(data):
     """What PyTorch makes of a checkpoint with any names, as before 2.6 by default."""
     import torch
 
-    words = {"weights_only": False} if "weights_only" in torch.load.__kwdefaults__ else {}
+    has_word = "weights_only" in (torch.load.__kwdefaults__ or ())
+    words = {"weights_only": False} if has_word else {}
     return torch.load(io.BytesIO(data), **words)
 
 
@@ -253,8 +263,10 @@ class Torch(Widened):
 
     def test_honest(self):
         torch = self.module("torch")
-        kinds = (torch.sparse_coo_tensor([[0], [1]], [2.0], (2, 3)), torch.eye(2).to_sparse_csr(),
-                 torch.quantize_per_tensor(torch.ones(3), 0.1, 2, torch.quint8))
+        kinds = [torch.sparse_coo_tensor([[0], [1]], [2.0], (2, 3)),
+                 torch.quantize_per_tensor(torch.ones(3), 0.1, 2, torch.quint8)]
+        if hasattr(torch.Tensor, "to_sparse_csr"):  # (not in PyTorch 1.7)
+            kinds.append(torch.eye(2).to_sparse_csr())
         for value in (*kinds, torch.float16, torch.device("cpu"), torch.Size([1])):
             self.assertEqual(repr(self.of(value)[0]), repr(value))
         module = torch.nn.Sequential(torch.nn.Linear(3, 2), torch.nn.ReLU())

@@ -2,6 +2,7 @@
 // of the page in FOLDER, and on standard input what the worker has of words and names. Prints a
 // line for each file: its name, and the kinds of its parts.
 
+import { File } from "node:buffer";
 import { readFileSync, readdirSync } from "node:fs";
 import { join } from "node:path";
 import { pathToFileURL } from "node:url";

@@ -13,7 +13,6 @@ from __future__ import annotations
 
 import argparse
 import re
-import shutil
 import subprocess
 import sys
 import tempfile
@@ -93,8 +92,8 @@ def main() -> int:
             page = Path(folder, "storklocker.html")
             subprocess.run([sys.executable, ROOT / "page" / "make", module, page], check=True)
             found = in_browser(page, asked.pictures or Path(folder))
-        if shutil.which("node") is None:
-            skipped.append("damaged containers: there is no node")
+        if sentences.lack_of_node():
+            skipped.append(f"damaged containers: {sentences.lack_of_node()}")
         elif module is not None:
             found["containers that are damaged"] = containers.fault(module)
         why = sentences.lacking()

@@ -10,6 +10,7 @@ import json
 import os
 import shutil
 import subprocess
+import sys
 import tempfile
 from pathlib import Path
 from types import ModuleType
@@ -17,6 +18,10 @@ from typing import Any, Dict, Iterator, List, Set, Tuple
 
 HERE = Path(__file__).resolve().parent
 ROOT = HERE.parent.parent
+sys.path.append(str(HERE.parent))
+
+from languages import lack_of_node  # noqa: E402
+
 _ENDS = ("", ".__init__", ".a", ".y.z")
 _FRONTS = ("__class__.", "_a.", "x.os.system.")
 _OTHERS = {("", ""), ("os", ""), ("", "os.system"), ("x", "a." * 20 + "b"), ("a." * 2000, "c"),
@@ -27,11 +32,9 @@ Pair = Tuple[str, str]
 
 def lacking() -> str:
     """What is missing here to compare them, or nothing."""
-    if shutil.which("node") is None:
-        return "there is no node"
     if importlib.util.find_spec("storklocker") is None:
         return "the package isn't here"
-    return ""
+    return lack_of_node()
 
 
 def maker() -> ModuleType:

@@ -2,6 +2,7 @@
 // in FOLDER, and on standard input what the page has of names and words, and lists. Prints JSON:
 // under each list for each file its parts, each with path, word, kind, why and findings.
 
+import { File } from "node:buffer";
 import { readFileSync, readdirSync } from "node:fs";
 import { join } from "node:path";
 import { pathToFileURL } from "node:url";

@@ -31,6 +31,7 @@ sys.path.insert(0, str(HERE.parent))
 
 import mutations  # noqa: E402
 import program  # noqa: E402
+from languages import lack_of_node  # noqa: E402
 
 SECONDS = 900
 LISTINGS = 400
@@ -165,6 +166,8 @@ def lacking(target: Target) -> str:
     for word in (target.compiler, target.runner):
         if word and shutil.which(word) is None:
             return f"there is no {word}"
+    if target.runner == "node":
+        return lack_of_node()
     if not target.runner and platform.machine() != "x86_64":
         return "this is no x86-64 machine"
     return ""
