@@ -17,7 +17,7 @@ from storklocker.scanning import pacing, redis_values, scan
 from storklocker.scanning.files import Files
 from storklocker.scanning.judging import Question
 
-NEEDS = ("redis", "rq", "kombu", "cachelib", "$redis-server")
+NEEDS = ("redis", "rq", "kombu", "cachelib", "distributed", "$redis-server")
 READER = ("ACL", "SETUSER", "reader", "on", ">secret", "~*", "-@all", "+@read", "+ping", "+select")
 WATCHING = ("+watch", "+unwatch", "+multi", "+exec")
 HARM, GOOD_VALUE = pickle.dumps(common.Command(), 2), pickle.dumps(common.good(1), 4)
@@ -37,6 +37,7 @@ def run():
         in_parts(client, url)
         unreadable(client, url)
         command(client, url)
+        in_cluster(client, url, folder)
         following(client, url)
     common.nothing_ran()
 
@@ -195,6 +196,23 @@ def command(client, url):
         assert more[:1] != ("--rate",) or time.monotonic() - began >= 1
         said.append(ran.stdout)
     assert said[0] == said[1] == said[2]
+
+
+def in_cluster(client, url, folder):
+    """Workers get the values with the names; a second run knows them."""
+    from distributed import LocalCluster
+
+    for number in range(600):
+        client.set(f"key{number}", pickle.dumps(number))
+    alone = scanned(url)
+    words = {"n_workers": 2, "threads_per_worker": 1, "dashboard_address": None}
+    with LocalCluster(host="127.0.0.1", **words) as local:
+        for _ in range(2):
+            means = scan.Means(cluster=local.scheduler_address, resume=f"{folder}/kept")
+            found = scan.scan(Files([url]), Question(), means)
+            said = {it.path.split("/", 3)[3]: it._replace(verdict=None) for it in found}
+            assert said == {path: it._replace(verdict=None) for path, it in alone.items()}
+    assert len(alone) == 621
 
 
 def following(client, url):

@@ -106,7 +106,7 @@ def _add_means(it: argparse.ArgumentParser) -> None:
         help="scan on the workers of the dask.distributed cluster with this scheduler",
     )
     it.add_argument(
-        "--rate", type=float, default=0, metavar="N", help="scan at most N files a second"
+        "--rate", type=_rate, default=0, metavar="N", help="scan at most N files a second"
     )
     it.add_argument(
         "--follow",
@@ -140,6 +140,16 @@ def _add_output(it: argparse.ArgumentParser) -> None:
         help="colour a table: by default on a terminal, unless NO_COLOR is set",
     )
     it.add_argument("-q", "--quiet", action="store_true", help="print nothing but errors")
+
+
+def _rate(word: str) -> float:
+    try:
+        rate = float(word)
+    except ValueError:
+        rate = 0
+    if not 0.001 <= rate <= 1_000_000:
+        raise argparse.ArgumentTypeError("expected a number from 0.001 to 1000000")
+    return rate
 
 
 def _jobs(word: str) -> int:
