@@ -9,6 +9,7 @@ which a request was due, so that a wait counts for each one that it delays.
 import argparse
 import asyncio
 import contextlib
+import io
 import os
 import pickle
 import random
@@ -20,6 +21,8 @@ import time
 from pathlib import Path
 
 import storklocker
+from storklocker.scanning.answering import Checking
+from storklocker.scanning.judging import Question, reports_of
 
 LISTED = [("datetime", "datetime"), ("collections", "OrderedDict")]
 GOOD, BAD = b"ccollections\nOrderedDict\n.", b"cos\nsystem\n."
@@ -98,16 +101,23 @@ async def soak(port, seconds, most):
             data = bytearray(pickle.dumps(value(chance), chance.randrange(6)))
             if chance.randrange(2):
                 data[chance.randrange(len(data))] = chance.randrange(256)
-            # (a row whose first pickle is all of it is what the command says yes to)
-            verdict = storklocker.check_row(bytes(data), allow)
+            wanted = 200 if is_accepted(bytes(data), allow) else 422
             status = await client.status(bytes(data))
             counts[0] += 1
-            if (status == 200) != bool(verdict):
+            if status != wanted:
                 counts[1] += 1
-                print(f"differs: {bytes(data)!r}: {status}, {verdict}")
+                print(f"differs: {bytes(data)!r}: {status}, not {wanted}")
 
     await asyncio.gather(*map(ask, range(most)))
     print(f"soak: {counts[0]} verdicts in {seconds} s, {counts[1]} differ")
+
+
+def is_accepted(data, allow):
+    """Whether the command `check` says yes to a file that is these bytes."""
+    told = Checking()
+    for _ in told.lines(reports_of("-", io.BytesIO(data), Question(allow, as_program=True)), "-"):
+        pass
+    return told.status == 0
 
 
 def value(chance):

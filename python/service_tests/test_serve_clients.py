@@ -70,6 +70,10 @@ def built(folder):
             yield "Node", ["node", CLIENTS / "node/client.js"]
         else:
             print("skipped: Node: node is too old: 18 is wanted, which has `fetch`")
+    if shutil.which("java"):
+        yield "Java", ["java", CLIENTS / "java/Client.java"]
+    else:
+        print("skipped: Java: there is no java")
     caches = {**os.environ, "GOCACHE": str(folder / "cache"), "GOFLAGS": "-mod=mod"}
     for language, tool, words in (
         ("Go", "go", ["build", "-o", folder / "go-client", "."]),
