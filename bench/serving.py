@@ -127,7 +127,7 @@ def value(chance):
 
 
 async def hostile(port, count):
-    """Cut, huge, pipelined and malformed requests, twenty at a time."""
+    """Slow, cut, huge, pipelined and malformed requests, twenty at a time."""
     chance, gate = random.Random(1), asyncio.Semaphore(20)
     whole = b"POST /check HTTP/1.1\r\nContent-Length: %d\r\n\r\n" % len(GOOD) + GOOD
     chunks = b"POST /check HTTP/1.1\r\nTransfer-Encoding: chunked\r\n\r\n"
@@ -150,7 +150,12 @@ async def hostile(port, count):
         async with gate:
             with contextlib.suppress(ConnectionError, asyncio.TimeoutError):
                 reader, writer = await asyncio.open_connection("127.0.0.1", port)
-                writer.write(made())
+                data = made()
+                if chance.randrange(6) == 0:
+                    writer.write(data[: len(data) // 2])
+                    await asyncio.sleep(2 * chance.random())
+                    data = data[len(data) // 2 :]
+                writer.write(data)
                 writer.write_eof()
                 await asyncio.wait_for(reader.read(), 20)
                 writer.close()
