@@ -89,10 +89,15 @@ class Hidden(unittest.TestCase):
             ("lzma", pickle.dumps(call(exec, call(lzma.decompress, lzma.compress(much))))),
             ("join", pickle.dumps(call(exec, deep))),
             ("pickles in pickles", inner),
+            ("many that are broken", pickle.dumps([call(exec, call(
+                zlib.decompress, zlib.compress(bytes(4_000_000), 9)[:-1] + bytes([it])
+            )) for it in range(99)])),
             ("a tuple doubled", front + b"(K\x01" + b"2\x86" * 60 + b"tRtR."),
         ):
             with self.subTest(name):
                 self.assertLess(len(said(data)), MOST)
+        bomb = pickle.dumps(call(exec, call(zlib.decompress, zlib.compress(much, 9))))
+        self.assertIn("exec(more than 4,194,304 bytes of zlib.decompress(", said(bomb))
 
     def test_changed_lists(self):
         """A value is shown as it is when it is used, and one that a call may change isn't shown."""
@@ -114,6 +119,16 @@ class Hidden(unittest.TestCase):
             data += b"\x8e\x09" + bytes(7) + b" print(1)" + b"\x85R" * count + b"tR."
             with self.subTest(count=count):
                 self.assertIn(text, said(data))
+
+    def test_what_is_opened_first(self):
+        """What harmless statements hide doesn't use up what opening may cost."""
+        call = explained_hostile.Call
+        large = zlib.compress(bytes(4_000_000), 9)
+        many = [call(len, call(zlib.decompress, large + bytes(it))) for it in range(9)]
+        code = call(exec, call(base64.b64decode, base64.b64encode(b"print(4711)")))
+        found = said(pickle.dumps([*many, code]))
+        self.assertIn("print(4711)", found)
+        self.assertIn("too much to open", found)
 
     def test_numbers(self):
         """A number of many digits is never written in decimal, which takes the square of them."""

@@ -19,13 +19,13 @@ from encodings.aliases import aliases
 from typing import Any, Callable, Dict, FrozenSet
 
 from ..scanning.packed import bzip2
-from .values import Unknown
+from .values import Large, Unknown
 
 LARGEST = 1 << 22
 """The most bytes that something is unpacked or joined to."""
-_SLOW, _ROOM, _QUADRATIC = 1 << 18, 1 << 27, 1000
-"""The most bytes that Python itself decodes, the most memory of a decoder, and the most bytes of
-what takes the square of their number.
+_SLOW, _WEIGHT, _ROOM, _QUADRATIC = 1 << 17, 32, 1 << 27, 1000
+"""The most bytes that Python itself decodes, how much slower that is, the most memory of a decoder,
+and the most bytes of what takes the square of their number.
 """
 _PACKINGS: Dict[str, str] = {
     "zlib": "zlib.decompress", "zlibcodec": "zlib.decompress", "zip": "zlib.decompress",
@@ -61,19 +61,19 @@ def unzipped(data: bytes, bits: int = 15, *_: Any) -> Any:
 def small(found: Any) -> Any:
     """What isn't large."""
     if len(found) > LARGEST:
-        raise Unknown
+        raise Large
     return found
 
 
-def slow(decode: Callable[..., Any], most: int = _SLOW) -> Callable[..., Any]:
+def slow(decode: Callable[..., Any]) -> Callable[..., Any]:
     """A decoder in Python, for what is short."""
 
-    def decoded(data: Any, *words: Any) -> Any:
-        if len(data) > most:
+    def decoded_slowly(data: Any, *words: Any) -> Any:
+        if len(data) > _SLOW:
             raise Unknown
         return decode(data, *words)
 
-    return decoded
+    return decoded_slowly
 
 
 @functools.lru_cache(maxsize=None)
@@ -120,32 +120,36 @@ def _by_lines(data: bytes) -> bytes:
     return b"".join(map(binascii.a2b_uu, data.splitlines()))
 
 
-def _unquoted(data: Any, *words: Any) -> Any:
-    return urllib.parse.unquote(data, *words)
-
-
+_IN_PYTHON: Dict[str, Callable[..., Any]] = {
+    "base64.b32decode": base64.b32decode, "base64.b85decode": base64.b85decode,
+    "base64.a85decode": base64.a85decode, "html.unescape": html.unescape,
+    "urllib.parse.unquote": urllib.parse.unquote,
+    "urllib.parse.unquote_plus": urllib.parse.unquote_plus,
+    "urllib.parse.unquote_to_bytes": urllib.parse.unquote_to_bytes, "json.loads": json.loads,
+}
+"""Decoders that Python itself runs, or that build many objects."""
+if hasattr(base64, "b32hexdecode"):  # (since 3.10)
+    _IN_PYTHON["base64.b32hexdecode"] = base64.b32hexdecode
 DECODERS: Dict[str, Callable[..., Any]] = {
     "base64.b64decode": base64.b64decode, "base64.standard_b64decode": base64.standard_b64decode,
-    "base64.urlsafe_b64decode": base64.urlsafe_b64decode,
-    "base64.b32decode": slow(base64.b32decode), "base64.b16decode": base64.b16decode,
-    "base64.b85decode": slow(base64.b85decode), "base64.a85decode": slow(base64.a85decode),
+    "base64.urlsafe_b64decode": base64.urlsafe_b64decode, "base64.b16decode": base64.b16decode,
     "base64.decodebytes": base64.decodebytes, "binascii.unhexlify": binascii.unhexlify,
     "base64.decodestring": base64.decodebytes, "base64.encodebytes": base64.encodebytes,
     "base64.b64encode": base64.b64encode, "binascii.hexlify": binascii.hexlify,
     "binascii.a2b_hex": binascii.unhexlify, "binascii.a2b_base64": binascii.a2b_base64,
     "binascii.a2b_uu": _by_lines, "binascii.a2b_qp": binascii.a2b_qp,
-    "quopri.decodestring": quopri.decodestring, "html.unescape": slow(html.unescape),
-    "urllib.parse.unquote": slow(_unquoted), "urllib.parse.unquote_plus": slow(
-        urllib.parse.unquote_plus),
-    "urllib.parse.unquote_to_bytes": slow(urllib.parse.unquote_to_bytes),
-    "json.loads": slow(json.loads, 1 << 16), "ast.literal_eval": _literal,
+    "quopri.decodestring": quopri.decodestring, "ast.literal_eval": _literal,
     "zlib.decompress": unzipped, "gzip.decompress": unpacked(lambda: zlib.decompressobj(31)),
     "bz2.decompress": unpacked(bzip2), "lzma.decompress": unpacked(lzma_unpacker),
     "codecs.decode": decoded, "codecs.encode": encoded,
     "codecs.escape_decode": codecs.escape_decode, "codecs.latin_1_encode": codecs.latin_1_encode,
     "codecs.utf_8_decode": codecs.utf_8_decode, "codecs.utf_8_encode": codecs.utf_8_encode,
     "codecs.latin_1_decode": codecs.latin_1_decode, "codecs.ascii_decode": codecs.ascii_decode,
+    **{name: slow(decode) for name, decode in _IN_PYTHON.items()},
 }
 """Functions by their names, without the underscores in front of modules."""
-if hasattr(base64, "b32hexdecode"):  # (since 3.10)
-    DECODERS["base64.b32hexdecode"] = slow(base64.b32hexdecode)
+
+
+def weight_of(name: str) -> int:
+    """How many bytes it costs to decode one by this function."""
+    return _WEIGHT if name in _IN_PYTHON else 1

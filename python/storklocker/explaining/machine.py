@@ -39,6 +39,7 @@ class Machine(Valued):
         self.events: List[Node] = []
         """What happens, and values where they are used first."""
         self.pickles = 0
+        self._known_names: Dict[Tuple[bytes, Names], Tuple[Any, Any, str]] = {}
         self.gets_members = False
         """Whether `getattr` is only asked for members of enums."""
 
@@ -156,14 +157,22 @@ class Machine(Valued):
             made.severity = DANGER
 
     def _imported(self, names: Names) -> Any:
+        key = (self._front, names)
+        if key not in self._known_names:
+            self._known_names[key] = self._judged(names)
+        module, name, severity = self._known_names[key]
+        made = self._event(IMPORT, [module, name])
+        made.severity = severity
+        return made
+
+    def _judged(self, names: Names) -> Tuple[Any, Any, str]:
+        """A name as Python 3 has it, and how bad it is."""
         (today,) = named_today([names], self._front)
         module, name = pair_of(today)
-        made = self._event(IMPORT, [module, name])
         row = judged(module or "", name or "")
-        made.severity = UNKNOWN if row is None else row.severity
         if self.gets_members and f"{module}.{name}" == GETATTR:
-            made.severity = HARMLESS
-        return made
+            return module, name, HARMLESS
+        return module, name, UNKNOWN if row is None else row.severity
 
     # ---- values
 

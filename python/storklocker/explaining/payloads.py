@@ -13,7 +13,7 @@ from ..scanning.lenient import ANY
 from ..scanning.report import shown
 from ..scanning.valued import DICT, FROZENSET, LIST, SET, TUPLE
 from .answers import CALLER, answered, code_of, may_change
-from .decoding import LARGEST
+from .decoding import DECODERS, LARGEST, weight_of
 from .marshalled import Code
 from .nodes import (
     ADD, APPEND, BYTEARRAY, CALL, COLLECTED, EXTEND, IMPORT, INSTANCE, LONG, NEW, SETITEM, SETSTATE,
@@ -21,13 +21,13 @@ from .nodes import (
 )
 from .pickles import Followed
 from .values import (
-    HIDDEN, Compiled, Made, Named, Partial, Spent, Unknown, data_of, name_of, text_of
+    HIDDEN, Compiled, Large, Made, Named, Partial, Spent, Unknown, data_of, name_of, text_of
 )
 
 DEPTH = 8
 """How deep payloads are opened."""
 _LINES, _WIDTH, _SHOWN, _HASHED, _WORDS = 40, 400, 160, 1000, 8
-_PARTS, _HELD = 2000, 100
+_PARTS, _HELD, _FAILED = 2000, 100, 1 << 18
 _FORMS = frozenset((CALL, NEW, INSTANCE))
 CALLS = _FORMS | {"persistent_load", "extension"}
 _CHANGES = (APPEND, EXTEND, SETITEM, ADD, SETSTATE)
@@ -49,9 +49,13 @@ class Bill:
         if self._visits < 0:
             raise Spent
 
-    def pay(self, values: Iterable[Any]) -> None:
+    def pay(self, values: Iterable[Any], weight: int = 1) -> None:
         """Counts what is decoded, and what comes of it."""
-        self._bytes -= sum(len(it) for it in values if type(it) in _SIZED)
+        self.spend(weight * sum(len(it) for it in values if type(it) in _SIZED))
+
+    def spend(self, count: int) -> None:
+        """Counts bytes."""
+        self._bytes -= count
         if self._bytes < 0:
             raise Spent
 
@@ -268,6 +272,9 @@ class Values:
             return self._applied(function, words)
         except Spent:
             raise
+        except Large:
+            name = f"more than {LARGEST:,} bytes of {name_of(function)}"
+            return Made(Named(name), tuple(words))
         except Exception:  # (Unknown, or whatever a decoder raises for hostile bytes)
             return Made(function, tuple(words))
 
@@ -275,8 +282,14 @@ class Values:
         self._bill.visit()
         while type(function) is Partial:
             function, words = function.function, [*function.words, *words]
-        self._bill.pay(words)
-        found = answered(function, words, self._applied)
+        name = name_of(function)
+        self._bill.pay(words, weight_of(name))
+        try:
+            found = answered(function, words, self._applied)
+        except Exception:
+            if name in DECODERS:  # (it may have unpacked much before)
+                self._bill.spend(_FAILED)
+            raise
         self._bill.pay([found])
         return found
 

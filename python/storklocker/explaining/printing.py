@@ -45,6 +45,9 @@ class Line(NamedTuple):
             yield f"{_INDENT}{'        ' if place else 'opened: '}{paint(line, self.severity)}"
 
 
+_Written = Tuple[Line, Optional[Node]]
+
+
 class Part(NamedTuple):
     """The explanation of a pickle, or of a stream of pickles."""
 
@@ -96,11 +99,14 @@ class Part(NamedTuple):
 def part_of(followed: Followed, is_full: bool) -> Part:
     """The explanation of pickles."""
     opener = Opener(followed, _inner)
-    is_worse = any(map(is_bad, followed.events))
-    worst = tuple(_worst(followed, opener)) if is_worse else ()
-    lines = _lines(followed, opener if is_worse else None, is_full)
+    if is_full:
+        worst = list(_worst(followed, opener)) if any(map(is_bad, followed.events)) else []
+        written = _lines(followed, _statements(followed, True), True)
+        lines: Iterable[Line] = _opened(written, opener if worst else None)
+    else:
+        worst, lines = _folded(followed, opener)
     names, unlisted = names_in(followed.events)
-    return Part(followed.path, followed.kind, tuple(names), unlisted, worst, lines)
+    return Part(followed.path, followed.kind, tuple(names), unlisted, tuple(worst), lines)
 
 
 def _inner(data: bytes, depth: int, bill: Bill) -> Iterator[str]:
@@ -109,16 +115,49 @@ def _inner(data: bytes, depth: int, bill: Bill) -> Iterator[str]:
     for followed in itertools.islice(followed_in("", source, False), _INNER):
         if followed.path:
             yield shown(f"# {followed.path}  {followed.kind}")
-        for line in _lines(followed, Opener(followed, _inner, depth, bill), False):
+        for line in _folded(followed, Opener(followed, _inner, depth, bill))[1]:
             yield from line.written()
+
+
+def _statements(followed: Followed, is_full: bool) -> Iterator[Statement]:
+    return Writer(followed.source, is_full, followed.is_stream).statements(followed.events)
+
+
+def _folded(followed: Followed, opener: Opener) -> Tuple[List[Line], Tuple[Line, ...]]:
+    """The dangerous statements, and the first of all. What the dangerous ones hide is opened before
+    the others may use up what opening may cost.
+    """
+    worst: List[Line] = []
+    statements = _noted(_statements(followed, False), opener, worst)
+    lines = list(_lines(followed, statements, False))
+    return worst, tuple(_opened(lines, opener if worst else None))
+
+
+def _noted(
+    statements: Iterator[Statement], opener: Opener, worst: List[Line]
+) -> Iterator[Statement]:
+    """The statements, of which the dangerous ones are kept too."""
+    for it in statements:
+        if len(worst) < BAD_LINES and is_bad(it.event):
+            line = _line(it)
+            worst.append(line._replace(opened=tuple(opener.lines(it.event, True))))
+            it = it._replace(pieces=iter([line.text]))
+        yield it
+
+
+def _opened(lines: Iterable[_Written], opener: Optional[Opener]) -> Iterator[Line]:
+    """Lines with what they hide, if there is an opener."""
+    for line, it in lines:
+        if opener and it is not None:
+            line = line._replace(opened=tuple(opener.lines(it, is_bad(it))))
+        yield line
 
 
 def _worst(followed: Followed, opener: Opener) -> Iterator[Line]:
     """The dangerous statements."""
-    writer = Writer(followed.source, False, followed.is_stream)
-    bad = (it for it in writer.statements(followed.events) if is_bad(it.event))
+    bad = (it for it in _statements(followed, False) if is_bad(it.event))
     for it in itertools.islice(bad, BAD_LINES):
-        yield _line(it, opener)
+        yield _line(it)._replace(opened=tuple(opener.lines(it.event, True)))
 
 
 def is_bad(it: Node) -> bool:
@@ -126,35 +165,35 @@ def is_bad(it: Node) -> bool:
     return it.severity in BAD and it.kind != IMPORT
 
 
-def _line(it: Statement, opener: Optional[Opener]) -> Line:
+def _line(it: Statement) -> Line:
     is_named = it.event.kind == IMPORT or it.event.kind in HIDDEN
     note = row_of(it.event).note if is_named else ""
-    opened = tuple(opener.lines(it.event, is_bad(it.event))) if opener else ()
-    return Line(it.at, "".join(it.pieces), it.event.severity, note, opened)
+    return Line(it.at, "".join(it.pieces), it.event.severity, note)
 
 
-def _lines(followed: Followed, opener: Optional[Opener], is_full: bool) -> Iterator[Line]:
-    """All statements, up to a number of them, and where readers stop. What they hide is opened if
-    there is an opener.
-    """
-    statements = Writer(followed.source, is_full, followed.is_stream).statements(followed.events)
+def _lines(
+    followed: Followed, statements: Iterator[Statement], is_full: bool
+) -> Iterator[_Written]:
+    """All statements, up to a number of them, and where readers stop; each with its event."""
     fault, why = followed.refusal
     count = left = 0
     for it in statements:
         if 0 <= fault <= it.at:
-            yield from _stopped(fault, why)
+            yield from ((line, None) for line in _stopped(fault, why))
             fault = -1
         count += 1
-        if count <= LINES or is_full:
-            yield _comment("".join(it.pieces)) if it.event.kind in COMMENTS else _line(it, opener)
-        else:
+        if count > LINES and not is_full:
             left += 1
+        elif it.event.kind in COMMENTS:
+            yield _comment("".join(it.pieces)), None
+        else:
+            yield _line(it), it.event
     if left:
-        yield _comment(f"# ... {left:,} more statements (--full has them)")
+        yield _comment(f"# ... {left:,} more statements (--full has them)"), None
     if fault >= 0:
-        yield _comment(f"# here a reader stops: {why} at {fault}")
+        yield _comment(f"# here a reader stops: {why} at {fault}"), None
     if followed.end:
-        yield _comment(f"# {followed.end}")
+        yield _comment(f"# {followed.end}"), None
 
 
 def _stopped(fault: int, why: str) -> List[Line]:

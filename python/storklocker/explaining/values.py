@@ -13,6 +13,10 @@ class Unknown(Exception):
     """It isn't known what something answers."""
 
 
+class Large(Unknown):
+    """It is more than is opened."""
+
+
 class Spent(Exception):
     """There is too much to open."""
 

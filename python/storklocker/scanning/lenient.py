@@ -24,6 +24,7 @@ STEPS = 100_000
 _LONGEST = 1000
 """Longer texts are names that nobody shows."""
 _ASCII = bytes(range(128))
+_STOP = ord(".")
 
 Names = Tuple[Optional[bytes], Optional[bytes]]
 UNKNOWN: Names = (None, None)
@@ -99,18 +100,22 @@ class Walk(Spelled):
         acts, most = self.acts, self.most
         while True:
             start = self.begun = self.at
-            code = self.take(1)
-            if not code or code[0] not in LENGTHS:
+            place = start - self._base
+            if 0 <= place < len(self._data):  # (as nearly always: a call would take longer)
+                code, self.at = self._data[place], start + 1
+            else:
+                code = next(iter(self.take(1)), -1)
+            if code not in LENGTHS:
                 raise Stop
             self.steps += 1
             if self.steps > most:
                 raise Lost
             frame = self._frame
             try:
-                acts[code[0]](self)
+                acts[code](self)
             finally:  # (the reader in C drops the front of what crosses a frame's end)
                 self.is_misread |= start < frame < self.at
-            if code == b".":
+            if code == _STOP:
                 return
 
     # ---- the stack
