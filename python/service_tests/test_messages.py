@@ -95,7 +95,9 @@ def of_queue(url):
         assert not list(common.MARKS.iterdir())
         assert got[1].payload == 0 and got[4].payload == {"args": [0]}  # the control
         (common.MARKS / "command").unlink()
-    for wrong, why in (("", "no queue"), ("?queue=none", "can't be read"), ("?q=a", "behind")):
+    raises("amqp://guest@[::1", "can't be read")
+    wrongs = {"": "no queue", ":x?queue=a": "be read", "?queue=none": "be read", "?q=a": "behind"}
+    for wrong, why in wrongs.items():
         raises(url + wrong, why)
 
 

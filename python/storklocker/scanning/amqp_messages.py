@@ -29,7 +29,7 @@ def messages_in_queue(asked: Asked) -> Iterator[File]:
             with contextlib.closing(connection.channel()) as channel:
                 channel.auto_decode = False  # (a body is what its readers get)
                 yield from _messages(asked, channel, queue)
-    except (*kinds, kombu.exceptions.KombuError) as error:
+    except (*kinds, kombu.exceptions.KombuError, ValueError) as error:
         raise OSError(f"{asked.shown} can't be read: {type(error).__name__}: {error}") from None
 
 
@@ -45,4 +45,4 @@ def _messages(asked: Asked, channel: Any, queue: str) -> Iterator[File]:
             yield asked.unread(place, "a quorum queue counts what reads it: the rest was not read")
             return
         body = message.body
-        yield asked.value(f"{place}!{number}", body if type(body) is bytes else body.encode())
+        yield asked.value(f"{place}!{number}", body.encode() if isinstance(body, str) else body)

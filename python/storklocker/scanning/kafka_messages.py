@@ -33,7 +33,7 @@ def messages_of_topic(asked: Asked, files: Files) -> Iterator[File]:
             for number in sorted(numbers):
                 partition = kafka.TopicPartition(topic, number)
                 yield from _Partition(asked, consumer, partition, files.positions).messages()
-    except kafka.errors.KafkaError as error:
+    except (kafka.errors.KafkaError, AssertionError, ValueError) as error:
         raise OSError(f"{asked.shown} can't be read: {type(error).__name__}: {error}") from None
 
 

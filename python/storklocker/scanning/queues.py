@@ -55,7 +55,10 @@ class Asked(NamedTuple):
 
 def asked_by(url: str, known: Tuple[str, ...]) -> Asked:
     """What a URL asks for."""
-    parts = urlsplit(url)
+    try:
+        parts = urlsplit(url)
+    except ValueError as error:
+        raise OSError(f"{url.partition('://')[0]}: a URL can't be read: {error}") from None
     words = tuple(parse_qsl(parts.query, keep_blank_values=True, errors="surrogateescape"))
     for name, _ in words:
         if name not in known:
