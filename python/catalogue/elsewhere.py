@@ -14,10 +14,11 @@ import rows
 PACKAGE = rows.HERE.parent / "storklocker"
 WHY = {
     "a substitute, or what judges objects: its code stands beside the names that it is for":
-        "_arrays _builtins _calls _compiled _library _of_estimators _of_numpy _of_packages"
-        " _of_pandas _of_torch _sections _states _uses",
+        "_arrays _builtins _calls _compiled _library _of_django _of_estimators _of_jobs _of_numpy"
+        " _of_packages _of_pandas _of_torch _sections _states _uses",
     "whose calls explain follows, with what they are given":
-        "explaining/decoding explaining/payloads",
+        "explaining/answers explaining/decoding explaining/payloads explaining/texts"
+        " explaining/values",
     "getattr is asked for members of enums": "_learning scanning/command scanning/members",
     "what hostile pickles are made of, and what they do": "judge/objects judge/shapes judge/watch",
     "what a reader of such files does with these names":

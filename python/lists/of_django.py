@@ -64,14 +64,27 @@ def _responses():
 
 def _values():
     from django.contrib.messages.storage.base import Message
-    from django.core import exceptions
+    from django.core import checks, exceptions
+    from django.core.mail import EmailMessage, EmailMultiAlternatives
+    from django.core.paginator import Paginator
     from django.http import QueryDict
+    from django.http.request import HttpHeaders
+    from django.utils import datastructures
     from django.utils.datastructures import ImmutableList, MultiValueDict
+    from django.utils.functional import SimpleLazyObject
     from django.utils.safestring import mark_safe
 
     yield from (mark_safe("<b>"), QueryDict("a=1&a=2"))
     yield from (MultiValueDict({"a": [1]}), Message(10, "a"))
     yield ImmutableList([1])
+    yield datastructures.CaseInsensitiveMapping({"a": "b"})
+    yield datastructures.OrderedSet(["a"])
+    yield from (HttpHeaders({"HTTP_A": "b"}), Paginator([1, 2, 3], 2).page(1))
+    yield from (checks.Error("why", id="a.E1"), SimpleLazyObject(lambda: "a"))
+    mail = EmailMultiAlternatives("a", "b", "c@d.example", ["e@f.example"], headers={"X-A": "b"})
+    mail.attach_alternative("<b>", "text/html")
+    mail.attach("a.txt", "text", "text/plain")
+    yield from (EmailMessage("a", "b", "c@d.example", ["e@f.example"]), mail)
     yield exceptions.ValidationError("why")
 
 

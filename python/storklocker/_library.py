@@ -9,9 +9,12 @@ from __future__ import annotations
 
 import datetime
 import functools
+import re
 from typing import Any, Callable, Dict, Optional, Tuple
 
 from ._answers import Misused
+from ._of_django import STATES
+from ._of_jobs import CALLED
 
 _STATELESS = frozenset(("fractions", "ipaddress", "pathlib", "pathlib._local"))
 """Modules whose objects are pickled with what they are called with."""
@@ -127,7 +130,22 @@ def _are_texts(names: Any) -> bool:
     return all(type(name) is str for name in names)
 
 
+def _has_no_clock(state: Any) -> bool:
+    """Whether a crontab asks Celery what time it is, and no function of the pickle."""
+    return type(state) is dict and all(it is None for it in state.values())
+
+
+def _is_of_selector(state: Any) -> bool:
+    """Whether columns are chosen by a text that is looked for in no more time than it is long."""
+    pattern = state.get("pattern") if type(state) is dict else 0
+    return pattern is None or type(pattern) is str and _QUICK_PATTERN.fullmatch(pattern) is not None
+
+
+_QUICK_PATTERN = re.compile(r"[\w ^$.:/-]{0,200}", re.ASCII)
 KNOWN: Dict[Tuple[str, str], Callable[[Any], bool]] = {
+    **STATES,
+    **dict.fromkeys(CALLED, _refuse),
+    ("celery.schedules", "crontab"): _has_no_clock,
     ("collections", "UserString"): _is_of_text,
     ("dateutil._common", "weekday"): _is_of_weekday,
     ("dateutil.relativedelta", "relativedelta"): _is_of_delta,
@@ -137,6 +155,7 @@ KNOWN: Dict[Tuple[str, str], Callable[[Any], bool]] = {
     ("dateutil.tz.tz", "tzutc"): _are_short,
     ("django.utils.datastructures", "MultiValueDict"): _is_of_lists,
     ("http.cookies", "Morsel"): _is_of_cookie,
+    ("sklearn.compose._column_transformer", "make_column_selector"): _is_of_selector,
     ("uuid", "UUID"): _is_of_uuid,
 }
 """What judges states, by the name of a class."""

@@ -12,12 +12,14 @@ import sys
 import types
 from typing import TYPE_CHECKING, Any, Callable, Dict, Optional, Tuple
 
-from . import _facts, _of_blocks, _of_numpy, _of_offsets, _of_pandas, _of_sklearn, _of_torch
+from . import (
+    _facts, _of_blocks, _of_jobs, _of_numpy, _of_offsets, _of_pandas, _of_sklearn, _of_torch
+)
 from ._answers import Misused
 from ._calls import row, shown, takes_fields, takes_row, takes_text, wrong
 from ._items import SHOWING, judging
 from ._substitute import BECOMES_REAL, Class, Remembering, Substitute, Value, nothing
-from ._weighing import CONTAINERS, keys_of, values
+from ._weighing import CONTAINERS, SCALARS, keys_of, values
 
 if TYPE_CHECKING:
     from ._substitutes import Reader
@@ -203,6 +205,22 @@ def _model(reader: Reader, *given: Any) -> Any:
     return base.model_unpickle(asked)
 
 
+def _unwrapped(reader: Reader, *given: Any) -> Any:
+    """What a lazy object of Django has made: an instance of a model, a visitor, or a value. It gets
+    no second state, because the reader has it too.
+    """
+    from django.contrib.auth.models import AnonymousUser
+    from django.db.models import Model
+
+    if len(given) != 1:
+        raise wrong("unpickle_lazyobject")
+    if type(given[0]) not in SCALARS:
+        if not isinstance(given[0], Model) and type(given[0]) is not AnonymousUser:
+            raise wrong("unpickle_lazyobject")
+        reader.used[id(given[0])] = given[0]
+    return given[0]
+
+
 def judge_signature(reader: Reader, given: Tuple[Any, ...]) -> None:
     """Refuses what no pickler gives for a signature of Celery, which goes through its tasks."""
     if not given or type(given[0]) not in (dict, str):
@@ -261,9 +279,11 @@ TABLE: Dict[Tuple[str, str], Substitute] = {
     **_of_blocks.TABLE,
     **_of_offsets.TABLE,
     **_of_torch.TABLE,
+    **_of_jobs.TABLE,
     **dict(
         [
             row("django.db.models.base", "model_unpickle", _model),
+            row("django.utils.functional", "unpickle_lazyobject", _unwrapped),
             row("celery.canvas", "signature", _signature),
             row("billiard.einfo", "rebuild_exc", _raised),
             row("celery.utils.serialization", "UnpickleableExceptionWrapper", _wrapped),

@@ -12,7 +12,7 @@ import functools
 import sys
 from typing import TYPE_CHECKING, Any, Callable, Dict, Tuple
 
-from .. import lists
+from .. import _of_jobs, lists
 from .._answers import Misused
 from .._attributes import HARMLESS, JUDGES
 from .._calls import takes_row, takes_text
@@ -65,6 +65,7 @@ def class_of(pair: Pair) -> Any:
 _PARTICULAR = (UnicodeError, SyntaxError, ImportError, AttributeError, NameError)
 """Exceptions of which a guard judges what they are made with."""
 CALLED: Dict[Pair, Callable[[Any, Any], None]] = {
+    **_of_jobs.CALLED,
     TOGETHER: judge_together,
     ("celery.canvas", "signature"): judge_signature,
     ("celery.utils.serialization", "UnpickleableExceptionWrapper"): judge_wrapped,
@@ -114,6 +115,7 @@ class Unseen(Substitute):
 
     def new(self, reader: Any, *given: Any) -> Any:
         is_class = self._pair[1].lstrip("_")[:1].isupper() and not is_error(self._pair)
+        is_class = is_class and self._pair not in CALLED  # (picklers only call it)
         if self._pair in _NEWS and self._reader.knows(given):
             _NEWS[self._pair](reader, self.name, given)
         elif given or not is_class or is_enum(self._pair) or not is_in_shipped_list(*self._pair):
