@@ -57,11 +57,11 @@ def lost(folder, files):
     """What objects cost at URLs where a worker is killed in the middle, and at the end another run
     finds all reports.
     """
-    url, kept = f"file://{folder}", f"{folder}.kept"
+    url, store = f"file://{folder}", f"{folder}.kept"
     alone = list(scan(Files([url]), Question()))
     words = {"threads_per_worker": 1, "host": "127.0.0.1", "dashboard_address": None}
     with LocalCluster(n_workers=4, **words) as cluster, Client(cluster) as client:
-        means, spent, found = Means(cluster=cluster.scheduler_address, resume=kept), Spent(), []
+        means, spent, found = Means(cluster=cluster.scheduler_address, resume=store), Spent(), []
         before = spent.look()
         for report in scan(Files([url]), Question(), means):
             found.append(report._replace(verdict=None))
@@ -76,7 +76,8 @@ def lost(folder, files):
     same = found == again == [it._replace(verdict=None) for it in alone]
     each = 1e6 / files / 60
     print(f"{files} objects, four workers, one killed: {'the same' if same else 'OTHER'} reports,")
-    print(f"{took * each:.1f} minutes of a processor a million, {resumed * each:.1f} if all are kept")
+    kept = f"{resumed * each:.1f} if all are kept"
+    print(f"{took * each:.1f} minutes of a processor a million, {kept}")
 
 
 def main():

@@ -148,7 +148,7 @@ async def hostile(port, count):
 
     async def send():
         async with gate:
-            with contextlib.suppress(ConnectionError, asyncio.TimeoutError):
+            with contextlib.suppress(OSError, asyncio.TimeoutError):
                 reader, writer = await asyncio.open_connection("127.0.0.1", port)
                 data = made()
                 if chance.randrange(6) == 0:

@@ -64,17 +64,17 @@ class Server(http.server.BaseHTTPRequestHandler):
         name = self.path.rpartition("/")[2]
         return {"calm": CALM, "harm": HARM, "small": FIRST[:1000]}.get(name, b"")
 
-    def give(self, data, start, last, tag=TAG, told=None, body=None, status=206, more=()):
-        """Answers with a range; there is none of an empty object."""
+    def give(self, data, start, last, **said):
+        """Answers with a range, unless something else is said; there is none of an empty object."""
+        status, body = said.get("status", 206), said.get("body", data[start : last + 1])
+        told, headers = f"bytes {start}-{last}/{len(data)}", dict(said.get("more", ()))
         if not data and status == 206:
-            status, more = 416, [("Content-Range", "bytes */0")]
-        body = data[start : last + 1] if body is None else body
+            status, said = 416, {"told": "bytes */0"}
         self.send_response(status)
-        if status == 206:
-            self.send_header("Content-Range", told or f"bytes {start}-{last}/{len(data)}")
-        self.send_header("ETag", tag)
-        headers = {"Content-Length": str(len(body)), **dict(more)}
-        for name, value in headers.items():
+        if status != 200:
+            self.send_header("Content-Range", said.get("told", told))
+        self.send_header("ETag", said.get("tag", TAG))
+        for name, value in {"Content-Length": str(len(body)), **headers}.items():
             self.send_header(name, value)
         self.end_headers()
         with contextlib.suppress(ConnectionError):
@@ -85,7 +85,7 @@ class Server(http.server.BaseHTTPRequestHandler):
         self.give(data, start, last, body=data, status=200)
 
     def give_short(self, data, start, last):
-        self.give(data, start, last, body=data[start:last] if start else None)
+        self.give(data, start, last, body=data[start:last] if start else data[: last + 1])
 
     def give_cut(self, data, start, last):
         size = {"Content-Length": str(last + 1 - start)}
