@@ -115,6 +115,16 @@ class Server(http.server.BaseHTTPRequestHandler):
     def give_broken(self, data, start, last):
         self.give(data, start, last, status=500 if start else 206)
 
+    def give_silent(self, data, start, last):
+        """Some bytes, and then nothing, for longer than a client waits."""
+        self.send_response(206)
+        self.send_header("Content-Range", f"bytes {start}-{last}/{len(data)}")
+        self.send_header("Content-Length", str(last + 1 - start))
+        self.end_headers()
+        self.wfile.write(data[:7])
+        time.sleep(3)
+        self.close_connection = True
+
     def give_endless(self, data, start, last):
         told = {"Transfer-Encoding": "chunked"}
         self.send_response(206)
@@ -192,6 +202,7 @@ def run():
         control(base)
         honest(base)
         lies(base)
+        silence(base)
         listing(base)
         command(base)
         server.shutdown()
@@ -252,6 +263,17 @@ def lies(base):
                 reports = scanned(f"{base}/{word}/{name}")
                 assert reports[-1].status == "unreadable", (word, reports)
                 assert re.search(said, reports[-1].why), (word, reports[-1].why)
+
+
+def silence(base):
+    """A server that says nothing any more, in a session that waits for a short time."""
+    from fsspec.implementations.http import HTTPFileSystem
+
+    HTTPFileSystem.clear_instance_cache()
+    with mock.patch.object(over_http, "_SILENT", 1):
+        [report] = scanned(f"{base}/silent/calm")
+    HTTPFileSystem.clear_instance_cache()
+    assert report.status == "unreadable" and re.search("at byte 7: |byte 0: ", report.why), report
 
 
 def listing(base):

@@ -2,6 +2,7 @@
 
 from __future__ import annotations
 
+import asyncio
 import functools
 import io
 import re
@@ -27,8 +28,8 @@ async def client(**words: Any) -> Any:
     watch = aiohttp.TraceConfig()
     watch.on_request_redirect.append(_on_redirect)
     limits = aiohttp.ClientTimeout(total=_SECONDS, sock_connect=_SILENT, sock_read=_SILENT)
-    kinds = {"response_class": _response(), "trace_configs": [watch], "timeout": limits}
-    return aiohttp.ClientSession(**{**kinds, **words})
+    ours = {"response_class": _response(), "trace_configs": [watch]}
+    return aiohttp.ClientSession(**{"timeout": limits, **words, **ours})
 
 
 async def _on_redirect(_session: Any, _context: Any, asked: Any) -> None:
@@ -68,8 +69,9 @@ async def _copy(response: Any, copy: IO[bytes], most: int, at: int = 0) -> None:
             if not part:
                 return
             size += copy.write(part)
-    except aiohttp.ClientError as error:
-        raise OSError(f"the server ended it at byte {at + size:,}: {error}") from None
+    except (aiohttp.ClientError, asyncio.TimeoutError) as error:
+        what = f"{type(error).__name__}: {error}"
+        raise OSError(f"the server ended it at byte {at + size:,}: {what}") from None
     raise OSError(f"the server gives more than {most:,} bytes, from byte {at:,} on")
 
 
@@ -121,7 +123,7 @@ class _Asked:
 
         try:
             answer: _Answer = sync(self._system.loop, self._answered, start, end)
-        except aiohttp.ClientError as error:
+        except (aiohttp.ClientError, asyncio.TimeoutError) as error:
             what = f"{type(error).__name__}: {error}"
             raise OSError(f"the server doesn't give byte {start:,}: {what}") from None
         return answer
