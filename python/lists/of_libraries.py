@@ -17,7 +17,7 @@ from storklocker import _of_torch as _of_torchs
 from storklocker import _random, lists
 from storklocker._names import renamed
 from storklocker._objects import found as found_object
-from storklocker._substitutes import TABLE, substitute_of
+from storklocker._table import TABLE, substitute_of
 from storklocker.scanning.dangers import danger_of
 
 sys.path += [str(Path(__file__).resolve().parents[1] / it) for it in ("tests", "catalogue")]

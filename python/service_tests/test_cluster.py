@@ -19,7 +19,7 @@ from pathlib import Path
 from unittest import mock
 
 import common
-from storklocker.scanning import cluster, scan
+from storklocker.scanning import cluster, one_file, scan
 from storklocker.scanning.files import Files
 from storklocker.scanning.judging import Question
 
@@ -208,9 +208,9 @@ def resumed(alone, address):
         assert kept(store) > len(alone) // 4
         assert scanned(folder, cluster=address, resume=store) == alone
         assert kept(store) == len(alone)
-        scan.scan_file, real = None, scan.scan_file  # all are known
+        one_file.scan_file, real = None, one_file.scan_file  # all are known
         assert scanned(folder, resume=store) == alone
-        scan.scan_file = real
+        one_file.scan_file = real
 
 
 def kept(store):

@@ -35,7 +35,7 @@ harmless, or that loading succeeds. See docs/PYTHON.md.
 """
 
 # In these modules annotations are in quotes, because importing `__future__` would take 0.2 ms.
-from ._answers import ListFault, Misused, MoreBytes, Refused, RowVerdict, Verdict
+from ._answers import Import, ListFault, Misused, MoreBytes, Refused, RowVerdict, Verdict
 from ._limits import Limits
 from ._lists import STANDARD, AllowList
 from ._guard import Guard
@@ -44,10 +44,10 @@ from ._storklocker import version as __version__
 
 TYPE_CHECKING = False
 if TYPE_CHECKING:
-    from typing import Any, List
+    from typing import Any, List, Tuple
 
     from ._checking import check, check_row
-    from ._imports import Import, imports, missing
+    from ._imports import imports, missing
     from ._reasons import Reason
     from ._refusal import Refusal, context
     from .everywhere import Installed, Unlisted, install, installed, trusted
@@ -87,7 +87,6 @@ __all__ = [
 _LATER = {
     "check": "_checking",
     "check_row": "_checking",
-    "Import": "_imports",
     "imports": "_imports",
     "missing": "_imports",
     "Reason": "_reasons",
@@ -102,6 +101,23 @@ _LATER = {
     "trusted": "everywhere",
 }
 """The modules of names that a guard doesn't need, which are imported on first use."""
+
+
+def _hint_for(pair: "Tuple[str, str]") -> str:
+    from ._name_hints import hint_of  # reading what is known of names takes a while
+
+    return hint_of(pair)
+
+
+def _guard_of(*given: "Any") -> Guard:
+    from ._reloading import guard_of  # few guards have a file
+
+    return guard_of(*given)
+
+
+# What lower layers ask of higher ones.
+Refused.hint_for = staticmethod(_hint_for)
+Guard.of_file = staticmethod(_guard_of)
 
 
 def __getattr__(name: str) -> "Any":

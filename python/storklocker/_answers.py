@@ -6,9 +6,8 @@ import pickle
 
 TYPE_CHECKING = False  # importing `typing` would take half the time of importing the package
 if TYPE_CHECKING:
-    from typing import Any, Dict, Iterable, Optional, Tuple, Type, TypeVar
+    from typing import Any, ClassVar, Dict, Iterable, List, Optional, Tuple, Type, TypeVar
 
-    from ._imports import Import
     from ._reasons import Reason
 
     _Tuple = Tuple[Any, ...]
@@ -50,6 +49,19 @@ class Named(_Tuple):
 
     def __getnewargs__(self) -> "Tuple[Any, ...]":
         return tuple(self)
+
+
+class Import(Named):
+    """An import of a pickle. Both fields are None if the pickle doesn't reveal the pair."""
+
+    __slots__ = ()
+    __match_args__ = ("module", "name")
+
+    module: "Optional[str]"
+    name: "Optional[str]"
+
+    def __new__(cls, module: "Optional[str]", name: "Optional[str]") -> "Import":
+        return cls._make((module, name))
 
 
 LIST_FAULTS = {
@@ -147,13 +159,18 @@ class Verdict(Named):
         """
         asked = self._asked
         if self._missing is None:
-            from ._imports import Import, missing_of
-
-            found, self.missing_is_cut = missing_of(*asked) if asked else ([], False)
+            found: "List[Import]" = []
+            if asked:
+                data, allow, settings = asked
+                found, self.missing_is_cut = allow.missing_in(data, settings)
             own = () if self.pair is None else (Import(*self.pair),)
             self._missing = tuple(found) or own
             self._asked = ()
         return self._missing
+
+    def ask(self, data: bytes, allow: "Any") -> None:
+        """Has `missing` check these bytes under a list by themselves."""
+        self._asked = (data, allow, None)
 
     def __getstate__(self) -> "Optional[Dict[str, Any]]":
         # A copy keeps the imports that were found, but not the bytes.
@@ -202,6 +219,11 @@ class Refused(pickle.UnpicklingError):
     data.
     """
 
+    hint_for: "ClassVar[Any]"
+    """What to do about a refused name. `storklocker/__init__.py` sets it: what is known of names is
+    in a layer above.
+    """
+
     if TYPE_CHECKING:  # without an `__init__` of its own the exception is faster to raise
 
         def __init__(self, verdict: Verdict, hint: str = "", origin: str = "") -> None: ...
@@ -216,11 +238,9 @@ class Refused(pickle.UnpicklingError):
     def hint(self) -> str:
         """What to do about it, or an empty string."""
         hint: str = self.args[1] if len(self.args) > 1 else ""
-        if hint or self.pair is None:
-            return hint
-        from ._name_hints import hint_of
-
-        return hint_of(self.pair)
+        if not hint and self.pair is not None:
+            hint = self.hint_for(self.pair)
+        return hint
 
     @property
     def origin(self) -> str:

@@ -9,7 +9,7 @@ from ._answers import Misused
 from ._substitute import BECOMES_REAL, IS_JUDGED, Remembering, Substitute
 
 if TYPE_CHECKING:
-    from ._substitutes import Reader
+    from ._reader import Reader
 
 _CODECS = ("latin1", "latin-1", "ascii", "utf-8")
 

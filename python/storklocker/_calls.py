@@ -17,7 +17,7 @@ from ._substitute import (
 from ._weighing import CONTAINERS, SCALARS, keys_of, values
 
 if TYPE_CHECKING:
-    from ._substitutes import Reader
+    from ._reader import Reader
 
 DIGITS, BITS = 4_300, 1 << 15
 """The most digits of a number that is written as a text, as CPython has it, and bits of another."""

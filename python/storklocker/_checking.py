@@ -59,7 +59,7 @@ def check(
 def _listed_for(data: bytes, allow: AllowList, fix_imports: bool) -> AllowList:
     """The list that applies to the pickle that begins the bytes."""
     if fix_imports and isinstance(allow, AllowList) and isinstance(data, bytes):
-        return allow._listed_for(data)
+        return allow.listed_for(data)
     return allow
 
 
@@ -99,7 +99,7 @@ def check_row(
     """
     keeps_memo = flag("one_unpickler", one_unpickler)
     settings = settings_of(allow, limits, old_strings, build, keeps_memo)
-    new, old = (allow._for_loading(), allow._for_old_names()) if fix_imports else (allow, allow)
+    new, old = (allow.for_loading(), allow.for_old_names()) if fix_imports else (allow, allow)
     if new is old or not isinstance(data, bytes):
         return _row(data, new, settings)
     runs = [*_runs(data)] or [(0, True)]
@@ -125,7 +125,7 @@ def _rows(data: bytes, runs: List[Tuple[int, AllowList]], settings: bytes) -> Ro
 
 def _row(data: bytes, allow: AllowList, settings: bytes) -> RowVerdict:
     if type(data) is bytes and len(data) >= INTERRUPTIBLE_FROM:
-        from ._waiting import interruptible
+        from ._waiting import interruptible  # few rows are long
 
         return interruptible(row_verdict, data, allow, settings)
     return row_verdict(data, allow, settings)

@@ -13,7 +13,7 @@ from ._substitute import BECOMES_REAL, EMPTY, OF_ONE, Class, Remembering, Substi
 from ._weighing import keys_of
 
 if TYPE_CHECKING:
-    from ._substitutes import Reader
+    from ._reader import Reader
 
 
 def _pairs(reader: Reader, name: str, given: Tuple[Any, ...]) -> Tuple[Any, ...]:

@@ -17,7 +17,7 @@ from ._answers import Misused, told
 from ._weighing import CONTAINERS, values
 
 if TYPE_CHECKING:
-    from ._substitutes import Reader
+    from ._reader import Reader
 
 LEVELS = 100
 """How many exceptions may lie within one another."""

@@ -3,17 +3,20 @@
 import functools
 import pickle
 
-from . import _names
 from ._answers import Refused, Verdict
-from ._limits import Limits, flag, number
-from ._lists import AllowList, has_substitutes, settings_of
+from ._limits import Limits
+from ._lists import AllowList
+from ._plain import LOADS
 from ._plain import loads as plain_loads
-from ._storklocker import Loads, begin_loads, verdict
+from ._rules import SETTINGS, Rules
+from ._storklocker import begin_loads
 
 TYPE_CHECKING = False
 if TYPE_CHECKING:
     import os
-    from typing import Any, Callable, ContextManager, Iterable, Optional, Tuple, Type, Union
+    from typing import (
+        Any, Callable, ClassVar, ContextManager, Iterable, Optional, Tuple, Type, Union
+    )
 
     from ._refusal import Refusal
     from ._unpickler import GuardedUnpickler
@@ -24,16 +27,6 @@ MAX_BYTES = 1 << 30
 ASYNC_FROM = 1 << 16
 """The least size in bytes for which `loads_async` uses a thread."""
 
-_loads = pickle.loads
-
-
-@functools.lru_cache(maxsize=None)
-def _later(module: str) -> "Any":
-    """A module of this package that few guards need, imported on first use."""
-    from importlib import import_module
-
-    return import_module(f"{__package__}.{module}")
-
 
 def _view_of(data: "Any") -> memoryview:
     try:
@@ -42,7 +35,7 @@ def _view_of(data: "Any") -> memoryview:
         raise TypeError(f"data must be bytes or another buffer, not {type(data)!r}") from None
 
 
-class Guard(Loads):
+class Guard(Rules):
     """A replacement for the module `pickle` that loads only pickles which a proved checker accepts.
 
         >>> import io
@@ -87,23 +80,15 @@ class Guard(Loads):
     dump = staticmethod(pickle.dump)
     dumps = staticmethod(pickle.dumps)
     __name__ = "storklocker.Guard"
+    of_file: "ClassVar[Any]"
+    """Makes the guard of a list file. `storklocker/__init__.py` sets it: one that looks at its file
+    again is a subclass.
+    """
     __slots__ = (
-        "_allow",
-        "_limits",
-        "_old_strings",
-        "_fix_imports",
-        "_on_refusal",
-        "_enforce",
-        "_max_bytes",
-        "_build",
-        "_is_plain",
-        "_has_substitutes",
-        "_new",
-        "_old",
         "_unpickler",
         "_is_begun",
         # (PyPy gives the base class one)
-        *(() if hasattr(Loads, "__weakref__") else ("__weakref__",)),
+        *(() if hasattr(Rules, "__weakref__") else ("__weakref__",)),
     )
 
     def __init__(
@@ -118,26 +103,18 @@ class Guard(Loads):
         max_bytes: int = MAX_BYTES,
         build: str = "made",
     ) -> None:
-        settings = settings_of(allow, limits, old_strings, build)
-        if on_refusal is not None and not callable(on_refusal):
-            raise TypeError(f"on_refusal must be callable, not {on_refusal!r}")
-        self._allow = allow
-        self._limits = limits
-        self._old_strings = old_strings
-        self._fix_imports = flag("fix_imports", fix_imports)
-        self._on_refusal = on_refusal
-        self._enforce = flag("enforce", enforce)
-        self._max_bytes = number("max_bytes", max_bytes)
-        self._build = build
-        _later("_unjudged").look_at(allow)
-        self._has_substitutes = has_substitutes(allow)
-        self._is_plain = not len(allow) and old_strings != "bytes"
-        self._new = allow._for_loading()._under(settings)
-        self._old = allow._for_old_names()._under(settings) if fix_imports else self._new
+        values = (limits, old_strings, fix_imports, on_refusal, enforce, max_bytes, build)
+        super().__init__(allow, dict(zip(SETTINGS, values)))
+        if len(allow):
+            from ._unjudged import look_at  # an empty list says nothing of names
+
+            look_at(allow)
         self._unpickler: Optional[Type[GuardedUnpickler]] = None
         self._is_begun = False
-        new, old = (None, None) if old_strings == "bytes" else (self._new, self._old)
-        begin_loads(self, new, old, _loads, len(allow) > 0)
+        new = old = None
+        if old_strings != "bytes":
+            new, old = self.list_for(False), self.list_for(True)
+        begin_loads(self, new, old, LOADS, len(allow) > 0)
 
     @classmethod
     def from_file(
@@ -153,7 +130,7 @@ class Guard(Loads):
             or inode has changed, the new list applies from that load on, even if it has fewer
             names. A broken file changes nothing, and is logged once.
         """
-        made: Guard = _later("_reloading").guard_of(cls, file, reload, settings)
+        made: Guard = cls.of_file(cls, file, reload, settings)
         return made
 
     def learning(self, file: "Union[str, os.PathLike[str]]", *, enforce: bool = False) -> "Guard":
@@ -162,26 +139,17 @@ class Guard(Loads):
 
         Unless `enforce` is true, the guard LOADS WHAT IT REFUSES: use it where no stranger writes.
         """
+        from ._learning import Learner  # few guards learn
+
         own = getattr(self, "_hook", self._on_refusal)
-        hook = _later("_learning").Learner(file, own, self._fix_imports)
-        return self._like(on_refusal=hook, enforce=enforce)
-
-    @property
-    def allow(self) -> AllowList:
-        """The allow list."""
-        return self._allow
-
-    @property
-    def enforce(self) -> bool:
-        """Whether refused pickles stay unloaded."""
-        return self._enforce
+        hook = Learner(file, own, self._fix_imports)
+        return self.like(on_refusal=hook, enforce=enforce)
 
     def __repr__(self) -> str:
         return f"Guard({self._allow!r})"
 
     def __reduce__(self) -> "Tuple[Any, ...]":
-        settings = [getattr(self, f"_{name}") for name in _SETTINGS]
-        return (_guard_of, (type(self), self._allow, *settings))
+        return (_guard_of, (type(self), self._allow, *self.settings.values()))
 
     def _loads(
         self,
@@ -196,25 +164,27 @@ class Guard(Loads):
         """`loads` of what isn't bytes, or otherwise not plain."""
         if type(data) is not bytes:
             data = self._copied(data)
-        no = self._listed_for(data)._refusal(data)
+        no = self.listed_for(data).refusal(data)
         if no is not None:
             if self._enforce:
-                raise self._told(no, data)  # a variable of it would make a cycle with this frame
-            self._told(no, data)
-        return self._loaded(data, self._decoding(encoding, errors), buffers, no is None)
+                raise self.told(no, data)  # a variable of it would make a cycle with this frame
+            self.told(no, data)
+        return self._loaded(data, self.decoding(encoding, errors), buffers, no is None)
 
     def _loads_refused(self, data: bytes, no: Verdict) -> "Any":
         """`loads` of a pickle that is refused."""
-        self._refuse(no, data)
+        self.refuse(no, data)
         return self._loads_accepted(data, False)
 
     def _loads_accepted(self, data: bytes, is_accepted: bool = True, *told: "Told") -> "Any":
         """`loads` of a pickle that is accepted, or loaded all the same, given what its uses are."""
-        return self._loaded(data, self._decoding(None, None), None, is_accepted, *told)
+        return self._loaded(data, self.decoding(None, None), None, is_accepted, *told)
 
     def _loads_stopped(self, data: bytes, error: BaseException) -> None:
         """Raises what has stopped a load, and tells of it if the pickle is misused."""
-        with _later("_telling").Misuses(self, data):
+        from ._telling import Misuses  # few loads are stopped
+
+        with Misuses(self, data):
             raise error
 
     def load(
@@ -231,7 +201,7 @@ class Guard(Loads):
         Raises EOFError at the end of the file, Refused (and seeks back, if the file can), and
         otherwise what `pickle.load` raises.
         """
-        encoding, errors = self._decoding(encoding, errors)
+        encoding, errors = self.decoding(encoding, errors)
         data = self._next_in(file) if self._enforce else None
         if data is None:
             return self.Unpickler(file, encoding=encoding, errors=errors, buffers=buffers).load()
@@ -249,13 +219,13 @@ class Guard(Loads):
 
     def check(self, data: bytes) -> Verdict:
         """Checks the pickle at the front of `data`, a bytes object, as `loads` does."""
-        return self._judge(data)
+        return self.judge(data)
 
     @property
     def Unpickler(self) -> "Type[GuardedUnpickler]":
         """The guarded replacement for `pickle.Unpickler`. It can be subclassed."""
         if self._unpickler is None:
-            from ._unpickler import kind_of
+            from ._unpickler import kind_of  # few guards read with one
 
             self._unpickler = kind_of(self, len(self._allow) > 0 or self._enforce)
         return self._unpickler
@@ -263,76 +233,48 @@ class Guard(Loads):
     @staticmethod
     def context(value: "Any") -> "ContextManager[None]":
         """`storklocker.context`."""
-        held: ContextManager[None] = _later("_refusal").context(value)
-        return held
+        from ._refusal import context  # few services name what they load
 
-    def _has_old_names(self, data: bytes) -> bool:
-        """Whether the pickle uses names of Python 2, as its first instruction decides."""
-        return self._fix_imports and _names.are_old(data)
+        return context(value)
 
-    def _listed_for(self, data: bytes) -> AllowList:
-        """The list that applies to a pickle."""
-        return self._old if self._has_old_names(data) else self._new
-
-    def _judge(self, data: bytes) -> Verdict:
-        """The verdict on the pickle at the front of `data`."""
-        return verdict(data, self._listed_for(data) if type(data) is bytes else self._new, None)
-
-    def _decoding(self, encoding: "Optional[str]", errors: "Optional[str]") -> "Tuple[str, str]":
-        """The encoding and errors for Python 2 strings: those of `old_strings`, or if that is
-        unknown those of the caller.
-        """
-        if self._old_strings == "unknown":
-            return (encoding or "ASCII", errors or "strict")
-        held = "bytes" if self._old_strings == "bytes" else "ASCII"
-        if encoding not in (None, held) or errors not in (None, "strict"):
-            raise ValueError(
-                f"old_strings={self._old_strings!r} requires encoding={held!r} "
-                "and errors='strict'"
-            )
-        return (held, "strict")
-
-    def _told(self, verdict: Verdict, data: bytes, length: int = 0, start: int = 0) -> Refused:
+    def told(self, verdict: Verdict, data: bytes, length: int = 0, start: int = 0) -> Refused:
         """Reports a refusal to `on_refusal`, and returns its exception."""
-        refused: Refused = _later("_telling").told(self, verdict, data, length, start)
-        return refused
+        from ._telling import told  # most guards refuse little
 
-    def _refuse(self, verdict: Verdict, data: bytes, start: int = 0) -> None:
+        return told(self, verdict, data, length, start)
+
+    def refuse(self, verdict: Verdict, data: bytes, start: int = 0) -> None:
         """Reports a refusal, and raises it unless it isn't enforced."""
         if self._enforce:
-            raise self._told(verdict, data, start=start)
-        self._told(verdict, data)
+            raise self.told(verdict, data, start=start)
+        self.told(verdict, data)
 
-    def _refusal_of(self, data: bytes) -> "Optional[Refused]":
+    def refusal_of(self, data: bytes) -> "Optional[Refused]":
         """The exception for `data`, reported to `on_refusal`, or None if it is one accepted pickle.
         """
-        verdict = self._listed_for(data)._refusal(data)
-        return None if verdict is None else self._told(verdict, data)
+        verdict = self.listed_for(data).refusal(data)
+        return None if verdict is None else self.told(verdict, data)
 
     def _copied(self, data: "Any") -> bytes:
         """A copy of a buffer as bytes."""
-        copied: bytes = _later("_reading").copied(self, _view_of(data))
-        return copied
+        from ._reading import copied  # most loads are of bytes
 
-    @property
-    def _takes_any(self) -> bool:
-        """Whether BUILD may take what the pickle hasn't made."""
-        return (self._allow._build or self._build) == "any" and not self._has_substitutes
+        return copied(self, _view_of(data))
 
-    def _like(self, **changed: "Any") -> "Guard":
+    def like(self, **changed: "Any") -> "Guard":
         """The same guard with other settings."""
-        settings = {name: getattr(self, f"_{name}") for name in ("allow", *_SETTINGS)}
-        return type(self)(**{**settings, **changed})
+        words: Any = {"allow": self._allow, **self.settings, **changed}
+        return type(self)(**words)
 
-    def _now(self) -> "Guard":
+    def now(self) -> "Guard":
         """The guard that has the list as it is now, for all that one load asks."""
         return self
 
-    def _admitted(self, admit: "Callable[[], int]") -> int:
+    def admitted(self, admit: "Callable[[], int]") -> int:
         """Has an Unpickler check its next pickle."""
         return admit()
 
-    def _loads_front(
+    def loads_front(
         self,
         data: "Any",
         encoding: "Optional[str]",
@@ -344,24 +286,31 @@ class Guard(Loads):
         """
         if type(data) is not bytes:
             data = bytes(_view_of(data))
-        no = self._listed_for(data)._refusal(data)
+        no = self.listed_for(data).refusal(data)
         if no is not None and not no.accepted:
-            self._refuse(no, data, 0)
-        decoding = self._decoding(encoding, errors)
+            self.refuse(no, data, 0)
+        decoding = self.decoding(encoding, errors)
         return self._loaded(data, decoding, buffers, no is None or no.accepted)
 
-    def _for_children(self) -> "Guard":
+    def load_accepted(self, data: bytes) -> "Any":
+        """The object of a pickle that this guard has accepted. IT CHECKS NOTHING: for readers that
+        check more than one pickle before they load any.
+        """
+        return self._loads_accepted(data)
+
+    def for_children(self) -> "Guard":
         """The guard for another process: without its hook if that can't be pickled."""
         try:
             pickle.dumps(self._on_refusal)
         except Exception:
-            return self._like(on_refusal=None)
+            return self.like(on_refusal=None)
         return self
 
     def _next_in(self, file: "Any") -> "Optional[bytes]":
         """Bytes that begin with the next, accepted pickle; None if an Unpickler has to read it."""
-        data: Optional[bytes] = _later("_reading").next_in(self, file)
-        return data
+        from ._reading import next_in  # most loads are of bytes
+
+        return next_in(self, file)
 
     def _loaded(
         self,
@@ -375,26 +324,23 @@ class Guard(Loads):
         loaded though it is refused is judged only where names have substitutes.
         """
         words: Any = {"encoding": decoding[0], "errors": decoding[1], "buffers": buffers}
-        is_old = self._has_old_names(data)
+        is_old = self.has_old_names(data)
         if not (len(self._allow) if is_accepted else self._has_substitutes):
             return plain_loads(data, is_old, **words)
-        its: Any = _later("_substitutes")
+        from ._substitutes import Judged, begin, loads  # an empty list needs none
+
         if not self._is_begun:
             self._is_begun = True
-            its.begin(self)
-        how = its.Judged(is_old, self._takes_any)
+            begin(self)
+        how = Judged(is_old, self.takes_any)
         try:
-            return its.loads(data, self._allow, how, *told, **words)
+            return loads(data, self._allow, how, *told, **words)
         except pickle.UnpicklingError:
-            with _later("_telling").Misuses(self, data):
+            from ._telling import Misuses  # few loads are stopped
+
+            with Misuses(self, data):
                 raise
 
 
-_SETTINGS = (
-    *("limits", "old_strings", "fix_imports", "on_refusal", "enforce", "max_bytes"),
-    "build",
-)
-
-
 def _guard_of(kind: "Type[Guard]", allow: AllowList, *settings: "Any") -> Guard:
-    return kind(allow, **dict(zip(_SETTINGS, settings)))
+    return kind(allow, **dict(zip(SETTINGS, settings)))

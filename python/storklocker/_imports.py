@@ -3,39 +3,21 @@
 from __future__ import annotations
 
 from . import _names
-from ._answers import Named, Refused
+from ._answers import Import, Refused
 from ._limits import without_costs
 from ._lists import STANDARD, AllowList, settings_of
+from ._missing import imports_in
 from ._pairs import records, with_room
 from ._storklocker import imports as _imports
-from ._storklocker import verdict
 
 TYPE_CHECKING = False
 if TYPE_CHECKING:
-    from typing import Dict, Iterable, Iterator, List, Optional, Tuple
+    from typing import List, Optional, Tuple
 
     from ._answers import Verdict
     from ._limits import Limits
-    from ._pairs import Names
 
-MOST_NAMES = 1 << 26
-"""The most bytes of names that are reported of a pickle."""
-
-_FEW = 10
 _NOTHING = AllowList([])
-
-
-class Import(Named):
-    """An import of a pickle. Both fields are None if the pickle doesn't reveal the pair."""
-
-    __slots__ = ()
-    __match_args__ = ("module", "name")
-
-    module: Optional[str]
-    name: Optional[str]
-
-    def __new__(cls, module: Optional[str], name: Optional[str]) -> Import:
-        return cls._make((module, name))
 
 
 def imports(
@@ -56,7 +38,7 @@ def imports(
     """
     verdict, room = imports_of(data, _NOTHING, limits, old_strings)
     if not verdict:
-        from ._hints import hint_of
+        from ._hints import hint_of  # few pickles are refused
 
         hint = hint_of(verdict, lambda at, count: data[at : at + count], limits or STANDARD)
         raise Refused(verdict, hint)
@@ -90,8 +72,8 @@ def missing(
     The limits of the list apply. If no list makes the pickle acceptable, these are the imports
     before its fault. If the names take more than 64 MiB, these are only the first of them.
     """
-    listed = allow._listed_for(data, fix_imports)
-    found = missing_of(data, listed, settings_of(allow, limits, old_strings))[0]
+    listed = allow.listed_for(data, fix_imports)
+    found, _ = listed.missing_in(data, settings_of(allow, limits, old_strings))
     return list(dict.fromkeys(_fixed(data, found, fix_imports)))
 
 
@@ -104,44 +86,3 @@ def imports_of(
     settings = without_costs(settings_of(allow, limits, old_strings))
     (verdict,), room = with_room(lambda size: _imports(data, allow, settings, size))
     return verdict, room
-
-
-def missing_of(
-    data: bytes, allow: AllowList, settings: Optional[bytes]
-) -> Tuple[List[Import], bool]:
-    """The imports that the list doesn't permit, each once, and whether some are left out."""
-    own = without_costs(settings or settings_of(allow, None, "unknown"))
-    try:
-        _, room = with_room(lambda size: _imports(data, allow, own, size), MOST_NAMES)
-    except MemoryError:
-        return imports_in(_first_missing(data, allow, own)), True
-    found = dict.fromkeys(it for it in records(room) if not allow._has(it))
-    return imports_in(found), False
-
-
-def _first_missing(data: bytes, allow: AllowList, settings: bytes) -> Iterator[Names]:
-    """The first few imports that the list doesn't permit, within `MOST_NAMES` bytes of names. Each
-    takes a check under a longer list.
-    """
-    listed, room = allow, MOST_NAMES
-    for _ in range(_FEW):
-        pair = verdict(data, listed, settings).pair
-        room -= 0 if pair is None else len(pair[0]) + len(pair[1])
-        if pair is None or room < 0:
-            return
-        names = (pair[0].encode(), pair[1].encode())
-        listed = listed._of((*listed._pairs, names), listed.limits, listed.build)
-        yield names
-
-
-def imports_in(names: Iterable[Names]) -> List[Import]:
-    """The imports with these names. A text that comes again is kept once."""
-    texts: Dict[bytes, str] = {}
-
-    def text(name: bytes) -> str:
-        return texts.get(name) or texts.setdefault(name, name.decode())
-
-    return [
-        Import(None, None) if module is None or name is None else Import(text(module), text(name))
-        for module, name in names
-    ]

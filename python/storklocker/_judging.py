@@ -13,8 +13,9 @@ from pickle import UnpicklingError
 from typing import Any, Dict, FrozenSet, List, Tuple, cast
 
 from . import _compiled, _library, _storklocker
-from ._states import _SHARED, _has_own, _set_state_of, build, judge_made
-from ._substitutes import MOST_FREE, Feed, Piece, Reader
+from ._states import SHARED, build, has_own, judge_made, set_state_of
+from ._reader import MOST_FREE, Feed, Reader
+from ._uses import Piece
 
 _DICTS = frozenset(("own", "unbuilt", "types", "states", "raised", "lent"))
 """Attributes of a `Reader`, which are seldom needed."""
@@ -83,7 +84,7 @@ def _feed_of(pieces: List[Piece]) -> Feed:
     return feed
 
 
-_JUDGED: FrozenSet[Any] = frozenset((BaseException, *_SHARED))
+_JUDGED: FrozenSet[Any] = frozenset((BaseException, *SHARED))
 _IS_OF_PYTHON = 1 << 9
 
 
@@ -100,11 +101,11 @@ def _kind_of(kind: Any) -> Any:
     )
     if not is_known:
         return None
-    set_state = _set_state_of(kind)
+    set_state = set_state_of(kind)
     if _library.judge_of(kind) is not None:
         return _library.uuid_setter() if kind.__module__ == "uuid" else None
     if set_state is None:
-        return _has_own(kind) or None
+        return has_own(kind) or None
     is_own = any(vars(base).get("__setstate__") is set_state for base in kind.__mro__)
     return set_state if is_own and type(set_state) is types.FunctionType else None
 

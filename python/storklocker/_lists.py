@@ -15,6 +15,7 @@ TYPE_CHECKING = False
 if TYPE_CHECKING:
     from typing import Any, Iterable, Iterator, List, Mapping, Optional, Tuple, Type, Union
 
+    from ._answers import Import
     from ._meant import Meant
     from ._pairs import Item, Names, Pair
     from ._substitute import Substitute
@@ -55,16 +56,18 @@ class AllowList(_Pairs):
         leaves that to the check or the guard.
     """
 
+    _pairs: "Tuple[Tuple[bytes, bytes], ...]"  # which C keeps, sorted
     # (PyPy gives the base class a `__weakref__`)
     __slots__ = (
-        *("_limits", "_build", "_loaded", "_fixed", "_guard", "_meant"),
+        *("_limits", "_build", "_loaded", "_fixed", "kept", "_meant"),
         *(() if hasattr(_Pairs, "__weakref__") else ("__weakref__",)),
     )
     _limits: "Optional[Limits]"
     _build: "Optional[str]"
     _loaded: "Optional[AllowList]"
     _fixed: "Optional[AllowList]"
-    _guard: "Any"
+    kept: "Any"
+    """What `storklocker.loads` keeps with the list: its guard."""
     _meant: "Optional[Meant]"
 
     def __new__(
@@ -78,29 +81,30 @@ class AllowList(_Pairs):
     ) -> "AllowList":
         own = _limits_in(limits)
         said = None if build is None else _build_in(build)
-        return cls._saying(cls._of(encoded(pairs), own, said), substitutes, dangerous)
+        return cls._saying(cls.of_encoded(encoded(pairs), own, said), substitutes, dangerous)
 
     @classmethod
     def _saying(cls, made: "AllowList", substitutes: "Any", dangerous: "Any") -> "AllowList":
         """The list, which also says this of its names."""
         if substitutes or dangerous:
-            from ._meant import meant_of
+            from ._meant import meant_of  # few lists say more than names
 
             made._meant = meant_of(made, substitutes, dangerous)
         return made
 
     @classmethod
-    def _of(
+    def of_encoded(
         cls,
         pairs: "Iterable[Tuple[bytes, bytes]]",
         limits: "Optional[Limits]",
         build: "Optional[str]",
         settings: "Optional[bytes]" = None,
     ) -> "AllowList":
+        """The list of these encoded pairs, with settings for the calls that name none."""
         own = packed(STANDARD if limits is None else limits, "unknown", False, build or "made")
         made = pairs_of(cls, tuple(sorted(set(pairs))), settings or own)
         made._limits, made._build = limits, build
-        made._loaded = made._fixed = made._guard = made._meant = None
+        made._loaded = made._fixed = made.kept = made._meant = None
         return made
 
     @classmethod
@@ -132,9 +136,9 @@ class AllowList(_Pairs):
         has_limits, _, *are_said, is_ruled = said
         heard = map(_heard, COSTS, costs, are_said)
         own = limits_of(*numbers)._replace(**dict(zip(COSTS, heard)))
-        made = cls._of(pairs, own if has_limits else None, BUILDS[builds] if is_ruled else None)
-        if made._for_loading() is not made:
-            from ._old_lines import tell
+        made = cls.of_encoded(pairs, own if has_limits else None, BUILDS[builds] if is_ruled else None)
+        if made.for_loading() is not made:
+            from ._old_lines import tell  # few files have such names
 
             tell(made, data, file)
         return cls._saying(made, *_substitutes_in(data, rows))
@@ -159,11 +163,11 @@ class AllowList(_Pairs):
         """The union of lists of `storklocker.lists`, such as "torch" and "pandas". Raises
         ValueError for an unknown name.
         """
-        from . import lists
+        from ._shipped import name_of  # few programs ask for any
 
         made = cls([])
-        for found in (getattr(lists, lists.name_of(name)) for name in names):
-            made = made | found
+        for name in names:
+            made = made | shipped_list(name_of(name))
         return made
 
     def to_text(self) -> str:
@@ -171,13 +175,13 @@ class AllowList(_Pairs):
 
         Raises ValueError if it has a substitute that no list file can name.
         """
-        from ._writing import text_of
+        from ._writing import text_of  # few programs write lists
 
         return text_of(self)
 
     def to_file(self, file: "Union[str, os.PathLike[str]]") -> None:
         """Writes the list file, whole or not at all. An existing file keeps its mode."""
-        from ._writing import replace, text_of
+        from ._writing import replace, text_of  # few programs write lists
 
         replace(file, text_of(self))
 
@@ -185,6 +189,11 @@ class AllowList(_Pairs):
     def limits(self) -> "Optional[Limits]":
         """The limits of the list; None if it has none."""
         return self._limits
+
+    @property
+    def meant(self) -> "Optional[Meant]":
+        """What it says of its names, beside that they may be imported; None if that is nothing."""
+        return self._meant
 
     @property
     def build(self) -> "Optional[str]":
@@ -201,9 +210,9 @@ class AllowList(_Pairs):
     def __contains__(self, pair: "Any") -> bool:
         if not is_pair(pair):
             return False
-        return self._has(bytes_of_pair(pair))
+        return self.has(bytes_of_pair(pair))
 
-    def _has(self, names: "Names") -> bool:
+    def has(self, names: "Names") -> bool:
         """Whether it contains a pair of encoded names. The names of an unknown import are None, and
         no list contains them.
         """
@@ -214,9 +223,26 @@ class AllowList(_Pairs):
         place = bisect_left(self._pairs, names)
         return place < len(self._pairs) and self._pairs[place] == names
 
-    def _permits(self, names: "Names") -> bool:
+    refusal = _Pairs._refusal
+    """The Verdict on what isn't one accepted pickle; None if it is one."""
+
+    def with_one(self, names: "Tuple[bytes, bytes]") -> "AllowList":
+        """The list with one more pair of encoded names."""
+        return self.of_encoded((*self._pairs, names), self._limits, self._build)
+
+    def missing_in(
+        self, data: bytes, settings: "Optional[bytes]" = None
+    ) -> "Tuple[List[Import], bool]":
+        """The imports of a pickle that it doesn't contain, each once, and whether some are left
+        out.
+        """
+        from ._missing import missing_of  # few pickles are refused
+
+        return missing_of(data, self, settings or settings_of(self, None, "unknown"))
+
+    def permits(self, names: "Names") -> bool:
         """Whether a guard imports a pair of encoded names, as Python 3 has them."""
-        return self._for_loading()._has(names)
+        return self.for_loading().has(names)
 
     def __or__(self, other: object) -> "AllowList":
         """The union of the pairs, under the limits of both."""
@@ -224,9 +250,9 @@ class AllowList(_Pairs):
             return NotImplemented
         limits, builds = within(self._limits, other._limits), (self._build, other._build)
         build = "made" if "made" in builds else builds[0] or builds[1]
-        made = type(self)._of(self._pairs + other._pairs, limits, build)
+        made = type(self).of_encoded(self._pairs + other._pairs, limits, build)
         if self._meant or other._meant:
-            from ._meant import both
+            from ._meant import both  # few lists say more than names
 
             made._meant = both(self, other)
         return made
@@ -252,13 +278,13 @@ class AllowList(_Pairs):
         said = ({}, ()) if self._meant is None else tuple(self._meant)
         return (_list_of, (type(self), self._pairs, self._limits, *said, self._build))
 
-    def _under(self, settings: bytes) -> "AllowList":
+    def under(self, settings: bytes) -> "AllowList":
         """The list with these settings for the calls that name none."""
         if settings == settings_of(self, None, "unknown"):
             return self
-        return self._of(self._pairs, self._limits, self._build, settings)
+        return self.of_encoded(self._pairs, self._limits, self._build, settings)
 
-    def _for_loading(self) -> "AllowList":
+    def for_loading(self) -> "AllowList":
         """The pairs that this Python can import: those of modules that only Python 2 has, under the
         names that Python 3 has given them.
         """
@@ -267,32 +293,32 @@ class AllowList(_Pairs):
             self._loaded = _AS_IT_IS if not lost else self._renaming(lost)
         return self if self._loaded is _AS_IT_IS else self._loaded
 
-    def _for_old_names(self) -> "AllowList":
+    def for_old_names(self) -> "AllowList":
         """The pairs that CPython maps to a pair of this list, with `fix_imports`."""
         if self._fixed is None:
-            own = self._for_loading()
+            own = self.for_loading()
             pairs = [bytes_of_pair(old) for pair in own for old in _names.old_names(pair)]
             is_same = sorted(set(pairs)) == sorted(set(self._pairs))
-            self._fixed = _AS_IT_IS if is_same else self._of(pairs, self._limits, self._build)
+            self._fixed = _AS_IT_IS if is_same else self.of_encoded(pairs, self._limits, self._build)
         return self if self._fixed is _AS_IT_IS else self._fixed
 
-    def _listed_for(self, data: bytes, fix_imports: bool = True) -> "AllowList":
+    def listed_for(self, data: bytes, fix_imports: bool = True) -> "AllowList":
         """The list that applies to the pickle that begins the bytes."""
         if fix_imports and _names.are_old(data):
-            return self._for_old_names()
-        return self._for_loading() if fix_imports else self
+            return self.for_old_names()
+        return self.for_loading() if fix_imports else self
 
     def _renaming(self, lost: "List[Pair]") -> "AllowList":
         left = set(self._pairs) - {bytes_of_pair(pair) for pair in lost}
         left.update(bytes_of_pair(_names.renamed(pair)) for pair in lost)
-        return self._of(left, self._limits, self._build)
+        return self.of_encoded(left, self._limits, self._build)
 
 
 def _fault_of(text: bytes, fault: str) -> Exception:
     """The error for a text that is no list file."""
     if fault == "OutOfMemory":
         return MemoryError()
-    from ._places import place_of
+    from ._places import place_of  # few files have a fault
 
     return ListFault(fault, "", *place_of(text, fault))
 
@@ -309,19 +335,27 @@ def _substitutes_in(text: bytes, rows: bytes) -> "Tuple[Any, Any]":
     """The substitutes of a list file, and the names that are meant to be dangerous."""
     if not rows:
         return {}, ()
-    from ._sections import said_in
+    from ._sections import said_in  # few files have such a section
 
     pairs = [((name or b"").decode(), (its or b"").decode()) for name, its in records(rows)]
     return said_in(text, pairs)
+
+
+@functools.lru_cache(maxsize=None)
+def shipped_list(name: str) -> AllowList:
+    """A list of `storklocker.lists`, by its name there."""
+    from ._shipped import file_of  # few programs ask for any
+
+    return AllowList.from_file(file_of(name))
 
 
 def has_substitutes(allow: AllowList) -> bool:
     """Whether a list has a name that is loaded through a substitute."""
     if allow._meant is not None and allow._meant.substitutes:
         return True
-    from ._substituted import has_any
+    from ._substituted import has_any  # a check needs none of these names
 
-    return has_any(allow._for_loading()._pairs)
+    return has_any(allow.for_loading()._pairs)
 
 
 def _list_of(
@@ -332,7 +366,7 @@ def _list_of(
     dangerous: "Any" = (),
     build: "Optional[str]" = None,
 ) -> AllowList:
-    return kind._saying(kind._of(pairs, limits, build), substitutes, dangerous)
+    return kind._saying(kind.of_encoded(pairs, limits, build), substitutes, dangerous)
 
 
 @functools.lru_cache(maxsize=64)

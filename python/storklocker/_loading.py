@@ -43,9 +43,9 @@ def loads(
 
 def _plain_guard(allow: AllowList) -> "Guard":
     """The guard of a list without other settings, which the list caches."""
-    if isinstance(allow, AllowList) and allow._guard is not None:
-        held: Guard = allow._guard
+    if isinstance(allow, AllowList) and allow.kept is not None:
+        held: Guard = allow.kept
         return held
     guard = Guard(allow)
-    allow._guard = guard
+    allow.kept = guard
     return guard

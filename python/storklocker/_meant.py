@@ -2,12 +2,16 @@
 
 from __future__ import annotations
 
-from typing import Any, Dict, FrozenSet, Iterable, Iterator, Mapping, NamedTuple, Tuple
+from typing import (
+    TYPE_CHECKING, Any, Dict, FrozenSet, Iterable, Iterator, Mapping, NamedTuple, Tuple
+)
 
 from ._facts import EVERYTHING as _NAMES
-from ._lists import AllowList
 from ._names import today
 from ._substitute import Substitute
+
+if TYPE_CHECKING:
+    from ._lists import AllowList
 
 Pair = Tuple[str, str]
 
@@ -53,7 +57,7 @@ def both(one: AllowList, other: AllowList) -> Meant:
     """What the union of two lists says. The substitutes for a name become one, which permits what
     either does. Raises ValueError if there is none.
     """
-    from .substitutes import both as both_of
+    from .substitutes import both as both_of  # few lists declare any
 
     mine, its = of(one), of(other)
     said = {**mine.substitutes, **its.substitutes}
@@ -67,7 +71,7 @@ def both(one: AllowList, other: AllowList) -> Meant:
 
 def of(allow: AllowList) -> Meant:
     """What a list says of its names."""
-    return allow._meant or Meant({}, frozenset())
+    return allow.meant or Meant({}, frozenset())
 
 
 def require(allow: AllowList) -> None:
@@ -76,7 +80,7 @@ def require(allow: AllowList) -> None:
     """
     held = of(allow)
     said = {today(pair) for pair in (*held.substitutes, *held.dangerous)}
-    listed = allow._for_loading()
+    listed = allow.for_loading()
     for pair in sorted(EVERYTHING - said - held.substitutes.keys() - held.dangerous):
         if pair in listed or pair in allow:
             name = ".".join(pair)

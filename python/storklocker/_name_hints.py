@@ -16,7 +16,7 @@ def hint_of(pair: Tuple[str, str]) -> str:
     words = [*module.split("."), *name.split(".")]
     if not all(word.isascii() and word.isidentifier() for word in words):
         return ""
-    from ._purposes import known_of, said_of
+    from ._purposes import known_of, said_of  # (reading the lists takes a while)
     from .scanning.dangers import danger_of  # (reading its table takes a while)
 
     said = said_of(pair)

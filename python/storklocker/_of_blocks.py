@@ -14,7 +14,7 @@ from ._substitute import BECOMES_REAL, Remembering, Substitute, nothing
 from ._weighing import keys_of
 
 if TYPE_CHECKING:
-    from ._substitutes import Reader
+    from ._reader import Reader
 
 _MOST = 1 << 48
 _MANAGERS = "pandas.core.internals.managers"

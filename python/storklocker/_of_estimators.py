@@ -16,7 +16,7 @@ from ._of_sklearn import array_of, check_children, whole
 from ._versions import version_of
 
 if TYPE_CHECKING:
-    from ._substitutes import Reader
+    from ._reader import Reader
 
 _MOST = 1 << 31
 

@@ -20,7 +20,7 @@ from ._of_sklearn import whole
 from ._substitute import Class, Substitute
 
 if TYPE_CHECKING:
-    from ._substitutes import Reader
+    from ._reader import Reader
 
 _OFFSETS = "pandas._libs.tslibs.offsets"
 _INTERVALS = "pandas._libs.interval"

@@ -22,7 +22,7 @@ from ._substitute import BECOMES_REAL, Class, Remembering, Substitute, Value, no
 from ._weighing import CONTAINERS, SCALARS, keys_of, values
 
 if TYPE_CHECKING:
-    from ._substitutes import Reader
+    from ._reader import Reader
 
 PACKAGES = tuple(it for it in _facts.PACKAGES if it != "numpy")
 """The packages of which any name may have a substitute, beside NumPy."""

@@ -18,7 +18,7 @@ from ._substitute import Substitute
 from ._weighing import SCALARS, items_as_keys, keys_of
 
 if TYPE_CHECKING:
-    from ._substitutes import Reader
+    from ._reader import Reader
 
 _MOST = 1 << 48
 I8 = (1 << 63) - 1

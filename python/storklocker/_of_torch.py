@@ -15,7 +15,7 @@ from ._calls import row, wrong
 from ._substitute import Class, Substitute, Value
 
 if TYPE_CHECKING:
-    from ._substitutes import Reader
+    from ._reader import Reader
 
 _MOST = 1 << 48
 _DIMENSIONS = 64

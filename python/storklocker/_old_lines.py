@@ -4,10 +4,12 @@ from __future__ import annotations
 
 import logging
 import re
-from typing import Set, Tuple
+from typing import TYPE_CHECKING, Set, Tuple
 
 from . import _names
-from ._lists import AllowList
+
+if TYPE_CHECKING:
+    from ._lists import AllowList
 
 _LOG = logging.getLogger("storklocker")
 _KEY = re.compile(r"""\s*(?:"([^"]*)"|'([^']*)'|([\w-]+))\s*=""")

@@ -53,7 +53,7 @@ def encoded(given: "Any") -> "Iterator[Tuple[bytes, bytes]]":
         )
     for words, pair in _pairs_in(given):
         if not is_pair(pair):
-            from ._objects import KINDS, pair_of
+            from ._objects import KINDS, pair_of  # most lists are of names
 
             if not isinstance(pair, KINDS):
                 raise TypeError(

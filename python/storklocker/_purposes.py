@@ -6,7 +6,8 @@ import functools
 import re
 from typing import Dict, List, Tuple
 
-from . import _names, lists
+from . import _names, _shipped
+from ._lists import shipped_list
 
 Pair = Tuple[str, str]
 _MOST = 3
@@ -17,8 +18,8 @@ _MOST = 3
 def _held() -> Dict[Pair, List[str]]:
     """The lists that have each name, by Python 3's names."""
     found: Dict[Pair, List[str]] = {}
-    for name, word in zip(lists.__all__, lists.words()):
-        for pair in getattr(lists, name)._for_loading():
+    for name, word in zip(_shipped.names(), _shipped.words()):
+        for pair in shipped_list(name).for_loading():
             found.setdefault(pair, []).append(word)
     return found
 
@@ -26,7 +27,7 @@ def _held() -> Dict[Pair, List[str]]:
 @functools.lru_cache(maxsize=1)
 def _purposes() -> Dict[str, str]:
     """What names are for that begin with a front."""
-    text = lists.file_of("purposes").with_suffix(".txt").read_text(encoding="utf-8")
+    text = _shipped.file_of("purposes").with_suffix(".txt").read_text(encoding="utf-8")
     rows = (line.partition("  ") for line in text.splitlines() if line[:1] not in ("", "#"))
     return {front: words for front, _, words in rows}
 
@@ -55,7 +56,7 @@ def lists_with(pair: Pair) -> List[str]:
 @functools.lru_cache(maxsize=64)
 def _version_of(package: str, word: str) -> str:
     """The version of a package which a list was tested with, as its head says it."""
-    head = lists.file_of(lists.name_of(word)).read_text(encoding="utf-8").partition("version =")[0]
+    head = _shipped.file_of(_shipped.name_of(word)).read_text(encoding="utf-8").partition("version =")[0]
     found = re.search(rf"(?i)\b({re.escape(package)}) (\d[\d.]*\d)", head)
     return f" ({found[1]} {found[2]})" if found else ""
 

@@ -36,9 +36,9 @@ def copied(guard: Guard, view: memoryview) -> bytes:
     """A copy of a buffer as bytes. Checks the front of a long buffer before copying all of it."""
     if view.nbytes > 2 * _FRONT and view.c_contiguous and view.ndim == 1:
         front = bytes(pickle.PickleBuffer(view).raw()[:_FRONT])
-        verdict = guard._judge(front)
-        if verdict.reason is not Reason.Truncated and guard._enforce:
-            raise guard._told(verdict, front, view.nbytes)
+        verdict = guard.judge(front)
+        if verdict.reason is not Reason.Truncated and guard.enforce:
+            raise guard.told(verdict, front, view.nbytes)
     return bytes(view)
 
 
@@ -60,7 +60,7 @@ def next_in(guard: Guard, file: Any) -> Optional[bytes]:
     """Bytes that begin with the next pickle of a file, which the guard accepts. None if the file
     can't step back.
     """
-    found = next_pickle(file, guard._max_bytes, guard._judge)
+    found = next_pickle(file, guard.max_bytes, guard.judge)
     if found is None:
         return None
     data, verdict = found
@@ -70,7 +70,7 @@ def next_in(guard: Guard, file: Any) -> Optional[bytes]:
         from ._refusal import loaded_from, name_of  # (a refusal may cost)
 
         with loaded_from(name_of(file)):
-            raise guard._told(verdict, data)
+            raise guard.told(verdict, data)
     return data
 
 

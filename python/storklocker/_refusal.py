@@ -7,8 +7,7 @@ import contextvars
 import os
 from typing import Any, Iterator, Tuple
 
-from ._answers import Verdict
-from ._imports import Import
+from ._answers import Import, Verdict
 
 CONTEXT: contextvars.ContextVar[Any] = contextvars.ContextVar(
     "storklocker.context", default=None

@@ -8,7 +8,7 @@ import time
 from typing import Any, Dict, NamedTuple, Optional, Tuple, Type, Union
 
 from ._answers import Verdict
-from ._guard import _SETTINGS, Guard
+from ._guard import Guard
 from ._lists import AllowList
 
 _LOG = logging.getLogger("storklocker")
@@ -64,12 +64,12 @@ class ReloadingGuard(Guard):
     def __init__(
         self, held: Guard, file: str, every: float, look: Optional[_Look] = None
     ) -> None:
-        super().__init__(_NOTHING, **{name: getattr(held, f"_{name}") for name in _SETTINGS})
+        super().__init__(_NOTHING, **held.settings)
         self._held, self._file, self._every, self._look = held, file, every, look
         self._told_of: Optional[_Look] = None
         self._due = 0.0 if look is None else time.monotonic() + every
 
-    def _now(self) -> Guard:
+    def now(self) -> Guard:
         if time.monotonic() >= self._due:
             self._renew()
         return self._held
@@ -86,7 +86,7 @@ class ReloadingGuard(Guard):
             look, text = _read(self._file)
             if look is None:
                 return  # (it is being written: the next look finds it whole)
-            held = self._held._like(allow=AllowList.from_text(text))
+            held = self._held.like(allow=AllowList.from_text(text))
         except (OSError, ValueError, MemoryError) as error:
             if isinstance(error, ValueError):
                 self._look = look  # (what can't be read may be readable later)
@@ -101,7 +101,7 @@ class ReloadingGuard(Guard):
     def __getattr__(self, name: str) -> Any:
         if name in ReloadingGuard.__slots__:
             raise AttributeError(name)
-        return getattr(self._now(), name)
+        return getattr(self.now(), name)
 
     def __repr__(self) -> str:
         return f"Guard.from_file({self._file!r}, reload={self._every!r})"
@@ -109,41 +109,41 @@ class ReloadingGuard(Guard):
     def __reduce__(self) -> Tuple[Any, ...]:
         return (ReloadingGuard, (self._held, self._file, self._every))
 
-    def _like(self, **changed: Any) -> Guard:
-        return ReloadingGuard(self._held._like(**changed), self._file, self._every, self._look)
+    def like(self, **changed: Any) -> Guard:
+        return ReloadingGuard(self._held.like(**changed), self._file, self._every, self._look)
 
-    def _for_children(self) -> Guard:
-        return ReloadingGuard(self._held._for_children(), self._file, self._every)
+    def for_children(self) -> Guard:
+        return ReloadingGuard(self._held.for_children(), self._file, self._every)
 
     @property
     def allow(self) -> AllowList:
         """The allow list, as it is now."""
-        return self._now().allow
+        return self.now().allow
 
     def loads(self, data: Any, /, **named: Any) -> Any:
         """`Guard.loads` under the list as it is now."""
-        return self._now().loads(data, **named)
+        return self.now().loads(data, **named)
 
     def load(self, file: Any, **named: Any) -> Any:
         """`Guard.load` under the list as it is now."""
-        return self._now().load(file, **named)
+        return self.now().load(file, **named)
 
     async def loads_async(self, data: Any, /, **named: Any) -> Any:
         """`Guard.loads_async` under the list as it is now."""
-        return await self._now().loads_async(data, **named)
+        return await self.now().loads_async(data, **named)
 
     def check(self, data: bytes) -> Verdict:
         """`Guard.check` under the list as it is now."""
-        return self._now().check(data)
+        return self.now().check(data)
 
     @property
     def Unpickler(self) -> Any:
         """`Guard.Unpickler`. Each takes the list as it is when it is made."""
         if self._unpickler is None:
-            from ._unpickler import kind_of
+            from ._unpickler import kind_of  # few guards read with one
 
             plain: Any = kind_of(self, True)
-            now = self._now
+            now = self.now
 
             class Unpickler(plain):  # type: ignore[misc]
                 def __init__(self, file: Any, **named: Any) -> None:
@@ -153,14 +153,18 @@ class ReloadingGuard(Guard):
             self._unpickler = Unpickler
         return self._unpickler
 
-    def _told(self, verdict: Verdict, data: bytes, length: int = 0, start: int = 0) -> Any:
-        return self._now()._told(verdict, data, length, start)
+    def told(self, verdict: Verdict, data: bytes, length: int = 0, start: int = 0) -> Any:
+        return self.now().told(verdict, data, length, start)
 
-    def _refusal_of(self, data: bytes) -> Any:
-        return self._now()._refusal_of(data)
+    def refusal_of(self, data: bytes) -> Any:
+        return self.now().refusal_of(data)
 
-    def _loads_front(self, data: Any, *words: Any) -> Any:
-        return self._now()._loads_front(data, *words)
+    def load_accepted(self, data: bytes) -> Any:
+        """`Guard.load_accepted` under the list as it is now."""
+        return self.now().load_accepted(data)
+
+    def loads_front(self, data: Any, *words: Any) -> Any:
+        return self.now().loads_front(data, *words)
 
 
 _ABSENT = _Look(0, 0, 0)

@@ -24,7 +24,7 @@ def said_in(text: bytes, rows: Iterable[Tuple[str, str]]) -> Said:
         if value == "dangerous":
             found[1].add(name)
         elif made is None:
-            from ._places import line_of
+            from ._places import line_of  # few files have a fault
 
             hint = f"no substitute for {name} is called {value!r}" if make else f"{name} has none"
             raise ListFault(_FAULT, "", line_of(text, "substitutes", name), hint)

@@ -21,15 +21,15 @@ def told(guard: Guard, verdict: Verdict, data: bytes, length: int, start: int) -
     `data` is only its front, `start` what the verdict counts its first byte as.
     """
     context = CONTEXT.get()
-    refusal = Refusal(verdict, data, context, guard._enforce)
+    refusal = Refusal(verdict, data, context, guard.enforce)
     report(refusal)
-    if guard._on_refusal is not None:
-        guard._on_refusal(refusal)
+    if guard.on_refusal is not None:
+        guard.on_refusal(refusal)
     origin = origin_of(context)
     if verdict.accepted:
         return MoreBytes(verdict, length or len(data), origin)
     if verdict.pair is not None:
-        hint = _names.hint_of(verdict.pair, guard._allow, guard._fix_imports)
+        hint = _names.hint_of(verdict.pair, guard.allow, guard.fix_imports)
     else:
         hint = _hint_for(guard, verdict, data, start)
     return Refused(verdict, hint, origin)
@@ -37,10 +37,10 @@ def told(guard: Guard, verdict: Verdict, data: bytes, length: int, start: int) -
 
 def _hint_for(guard: Guard, verdict: Verdict, data: bytes, start: int) -> str:
     """What to do about a refusal that isn't about a name."""
-    if verdict.taken or len(data) >= guard._max_bytes:
-        return f"it is longer than the guard's max_bytes, {guard._max_bytes:,}"
-    limits = within(guard._limits, guard._allow.limits) or STANDARD
-    has_substitutes = guard._has_substitutes
+    if verdict.taken or len(data) >= guard.max_bytes:
+        return f"it is longer than the guard's max_bytes, {guard.max_bytes:,}"
+    limits = within(guard.limits, guard.allow.limits) or STANDARD
+    has_substitutes = guard.has_substitutes
     return hint_of(
         verdict, lambda at, count: data[at : at + count], limits, start, has_substitutes
     )
@@ -56,10 +56,10 @@ class Misuses:
         pass
 
     def __exit__(self, kind: Any, error: Any, trace: Any) -> None:
-        hook = self._guard._on_refusal
+        hook = self._guard.on_refusal
         if not isinstance(error, Misused) or error.is_told or hook is None and error.is_reported:
             return
-        verdict = self._guard._judge(self._data)
+        verdict = self._guard.judge(self._data)
         refusal = Refusal(verdict, self._data, CONTEXT.get(), True, str(error))
         if not error.is_reported:
             error.is_reported = True  # (the block may be in another one)

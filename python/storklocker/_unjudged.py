@@ -31,11 +31,11 @@ def look_at(allow: AllowList) -> None:
 
 
 def _unjudged(allow: AllowList) -> List[str]:
-    from .scanning.dangers import judged
+    from .scanning.dangers import judged  # (reading its table takes a while)
 
     held = of(allow)
     said = held.substitutes.keys() | held.dangerous
-    pairs = (pair for pair in allow._for_loading() if pair not in said)
+    pairs = (pair for pair in allow.for_loading() if pair not in said)
     return [".".join(pair) for pair in pairs if judged(*pair) is None]
 
 

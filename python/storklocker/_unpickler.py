@@ -17,28 +17,12 @@ from ._reasons import Reason
 from ._refusal import loaded_from, name_of
 from ._storklocker import verdict, walked
 from ._substitute import Substitute
-from ._substitutes import Reader
+from ._reader import Reader
 from ._telling import Misuses
 from ._walking import Walk
 
 if TYPE_CHECKING:
     from ._guard import Guard
-
-
-class _Renaming(pickle.Unpickler):
-    """Imports each pair under its Python 3 name.
-
-    `pickle` renames by the current protocol, which a second PROTO can change. Then the names that
-    are loaded would not be those that were checked.
-    """
-
-    def find_class(self, module: str, name: str, /) -> Any:
-        return super().find_class(*_names.renamed((module, name)))
-
-
-def loads_renaming(data: bytes, **named: Any) -> Any:
-    """`pickle.loads`, which imports each pair under its Python 3 name."""
-    return _Renaming(io.BytesIO(data), **named).load()
 
 
 PEEKED = 1 << 17
@@ -80,12 +64,12 @@ class GuardedUnpickler(pickle.Unpickler):
         steps_back = can_step_back(file)
         if not all([hasattr(file, name) for name in ("read", "readline")]):
             raise TypeError("file must have 'read' and 'readline' attributes")
-        encoding, errors = self.guard._decoding(encoding, errors)
+        encoding, errors = self.guard.decoding(encoding, errors)
         feed = _Feed()
         super().__init__(feed, fix_imports=False, encoding=encoding, errors=errors, buffers=buffers)
         self._feed, self._file = feed, file
         self._steps_back = steps_back
-        self._most = self.guard._max_bytes if self.guard._enforce else sys.maxsize
+        self._most = self.guard.max_bytes if self.guard.enforce else sys.maxsize
         self._lock = threading.Lock()
         self._is_spent = False
         self._bytes = b""  # all pickles loaded so far, and what was read ahead
@@ -133,7 +117,7 @@ class GuardedUnpickler(pickle.Unpickler):
             raise pickle.UnpicklingError("a load of this Unpickler failed: create a new one")
         self._find_place()
         try:
-            return self.guard._admitted(self._admitted)
+            return self.guard.admitted(self._admitted)
         except BaseException:  # also an interrupt: the next `load` starts from the same byte
             self._put_back()
             raise
@@ -169,20 +153,20 @@ class GuardedUnpickler(pickle.Unpickler):
             self._walk()
         if len(self._bytes) == self._taken:
             raise EOFError("Ran out of input")
-        self._kinds.add(self.guard._has_old_names(self._bytes[self._taken : self._taken + 2]))
+        self._kinds.add(self.guard.has_old_names(self._bytes[self._taken : self._taken + 2]))
         verdict = self._judged()
         while verdict.reason is Reason.Truncated and self._read_on():
             verdict = self._judged()
         end, _ = walked(self._bytes, self._taken)
-        verdict = too_long(verdict, end - self._taken, self.guard._max_bytes)
+        verdict = too_long(verdict, end - self._taken, self.guard.max_bytes)
         if verdict:
             return end
         self._put_back()
         guard, data = self.guard, self._bytes[self._taken :]
         if self._pickles:  # lets `missing` check the pickle on its own, not as part of the row
-            verdict._asked = (data, guard._listed_for(data), None)
+            verdict.ask(data, guard.listed_for(data))
         with loaded_from(name_of(self._file)):
-            guard._refuse(verdict, data, self._taken)
+            guard.refuse(verdict, data, self._taken)
         while self._read_on():  # not enforced: everything is loaded
             pass
         return walked(self._bytes, self._taken)[0]
@@ -201,10 +185,10 @@ class GuardedUnpickler(pickle.Unpickler):
     def _asked(self, data: bytes, is_old: bool) -> Verdict:
         """Checks the pickles loaded so far and the bytes after them."""
         guard = self.guard
-        allow = guard._old if is_old else guard._new
+        allow = guard.list_for(is_old)
         if self._pickles == 0:
             return verdict(data, allow, None)
-        words: Any = {name: getattr(guard, f"_{name}") for name in JUDGING}
+        words: Any = {name: getattr(guard, name) for name in JUDGING}
         return check_row(data, allow, one_unpickler=True, fix_imports=False, **words)
 
     def _find_place(self) -> None:
@@ -237,9 +221,9 @@ class GuardedUnpickler(pickle.Unpickler):
         self._bytes += walk.taken()
 
     def _is_hopeless(self, data: bytes) -> bool:
-        if not self.guard._enforce:
+        if not self.guard.enforce:
             return False
-        verdict = self._asked(self._bytes + data, self.guard._has_old_names(data))
+        verdict = self._asked(self._bytes + data, self.guard.has_old_names(data))
         return not verdict and verdict.reason is not Reason.Truncated
 
 
@@ -247,7 +231,7 @@ class _Inner(Reader):
     """Reads what another Unpickler has admitted, and asks it for classes and persistent objects."""
 
     def __init__(self, outer: SubstitutingUnpickler, **named: Any) -> None:
-        super().__init__(outer.guard._allow, **named)
+        super().__init__(outer.guard.allow, **named)
         self._outer = weakref.ref(outer)
 
     def find_class(self, module: str, name: str, /) -> Any:
@@ -266,9 +250,9 @@ class SubstitutingUnpickler(GuardedUnpickler):
         super().__init__(file, buffers=buffers, **named)
         named.pop("fix_imports", None)
         words = ("encoding", "errors")
-        encoding, errors = self.guard._decoding(*(named.get(word) for word in words))
+        encoding, errors = self.guard.decoding(*(named.get(word) for word in words))
         self._reader = _Inner(self, encoding=encoding, errors=errors, buffers=buffers)
-        self._reader._uses.takes_any = self.guard._takes_any
+        self._reader.take_any(self.guard.takes_any)
 
     if not TYPE_CHECKING and not _IS_PYTHON:  # (what is said of `pickle` differs in this)
 
@@ -284,7 +268,7 @@ class SubstitutingUnpickler(GuardedUnpickler):
     def _loaded(self, feed: _Feed, end: int) -> Any:
         data, at = self._bytes, self._taken
         with Misuses(self.guard, data[at:end]):
-            return self._reader.loaded(data, at, self.guard._has_old_names(data[at : at + 2]))
+            return self._reader.loaded(data, at, self.guard.has_old_names(data[at : at + 2]))
 
 
 class OldUnpickler(GuardedUnpickler):
@@ -299,6 +283,6 @@ class OldUnpickler(GuardedUnpickler):
 def kind_of(guard: Guard, is_judging: bool) -> Type[GuardedUnpickler]:
     """The Unpickler of a guard."""
     kind = SubstitutingUnpickler if is_judging else GuardedUnpickler
-    kinds = (OldUnpickler, kind) if guard._fix_imports else (kind,)
+    kinds = (OldUnpickler, kind) if guard.fix_imports else (kind,)
     words = {"guard": guard, "__module__": "storklocker._guard"}
     return type("Unpickler", kinds, words)

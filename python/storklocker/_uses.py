@@ -13,18 +13,19 @@ from typing import Any, Dict, FrozenSet, List, Mapping, Optional, Tuple
 
 from . import _names
 from ._answers import Misused
-from ._guard import Guard, _loads
 from ._storklocker import begin_judging, begin_uses, uses
 from ._objects import found
+from ._plain import LOADS
 from ._substitute import (
     ANSWERS, IS_JUDGED, IS_WRAPPER, NUMBERED, Substitute, pickles_by_value
 )
-from ._substitutes import Piece, substitute_of
+from ._table import substitute_of
 
 Pair = Tuple[str, str]
+Piece = Tuple[bytes, int, int]
+"""Bytes, and the begin and the end of what counts of them."""
 Told = Tuple[List[Piece], bool, int, int, int]
 """What is told of a pickle, as `walk.h` has it."""
-
 
 
 class _Numbers:
@@ -134,7 +135,7 @@ class Uses:
         return self._numbers.number(pair, role) + (_MEANT if is_meant else 0)
 
 
-def begin(guard: Guard, judges: Any) -> None:
+def begin(guard: Any, judges: Any) -> None:
     """Has a guard find out by itself which reader a pickle needs, and load what needs no
     substitutes.
     """
@@ -176,5 +177,5 @@ def named_by(module: bytes, name: bytes, is_old: bool) -> Pair:
     if module[:1] == b"c":
         first, second = module[1:-1].decode().split("\n")
     else:
-        first, second = _loads(module + b"."), _loads(name + b".")
+        first, second = LOADS(module + b"."), LOADS(name + b".")
     return _names.renamed((first, second)) if is_old else (first, second)

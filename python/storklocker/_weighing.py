@@ -14,7 +14,7 @@ from typing import TYPE_CHECKING, Any, Dict, Iterable, List, Tuple
 from ._answers import Misused
 
 if TYPE_CHECKING:
-    from ._substitutes import Reader
+    from ._reader import Reader
 
 MOST, DEEPEST = 1_000_000, 1_000
 """The most parts and levels of a value, as a tree: those that a key may have by default."""

@@ -7,10 +7,12 @@ import os
 import re
 import stat
 from pathlib import Path
-from typing import Any, Dict, Iterator, List, Union
+from typing import TYPE_CHECKING, Any, Dict, Iterator, List, Union
 
 from ._limits import COSTS, costs_said
-from ._lists import AllowList
+
+if TYPE_CHECKING:
+    from ._lists import AllowList
 
 _LONGEST = 100
 _BARE = re.compile(r"[A-Za-z0-9_-]+")
@@ -39,12 +41,12 @@ def _lines(allow: AllowList) -> Iterator[str]:
         yield from (f"{limit} = {it}" for limit, it in costs_said(allow.limits).items())
     if allow.build is not None:
         yield from ("", "[rules]", f'build = "{allow.build}"')
-    if allow._meant is not None:
-        from ._sections import said_of
+    if allow.meant is not None:
+        from ._sections import said_of  # few lists have substitutes
 
         yield from ("", "[substitutes]")
-        said = {pair: "dangerous" for pair in allow._meant.dangerous}
-        said.update((pair, said_of(pair, it)) for pair, it in allow._meant.substitutes.items())
+        said = {pair: "dangerous" for pair in allow.meant.dangerous}
+        said.update((pair, said_of(pair, it)) for pair, it in allow.meant.substitutes.items())
         for pair, what in sorted(said.items()):
             yield f'"{dotted(pair)}" = "{what}"'
 

@@ -162,12 +162,12 @@ class CountingGuard(Guard):
             self.counts.accept()
         return data
 
-    def _like(self, **changed: Any) -> Guard:
-        made: Any = super()._like(**{"on_refusal": self._hook, **changed})
+    def like(self, **changed: Any) -> Guard:
+        made: Any = super().like(**{"on_refusal": self._hook, **changed})
         made.counts = self.counts
         return cast(Guard, made)
 
-    def _admitted(self, admit: Callable[[], int]) -> int:
+    def admitted(self, admit: Callable[[], int]) -> int:
         self._here.refused = False
         end = admit()
         self._count()

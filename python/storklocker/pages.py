@@ -15,7 +15,7 @@ import sys
 import textwrap
 from typing import Iterable, Iterator, List, NamedTuple, Sequence
 
-from . import __version__
+from ._storklocker import version as __version__
 from .scanning.command import command_parser
 
 

@@ -216,10 +216,10 @@ def load_from_bytes(guard: Guard) -> Substitute:
     """For `torch.storage._load_from_bytes`: the storage in the bytes, loaded by the guard."""
 
     def judged(*given: Any) -> Any:
-        from .contrib.torch import load_torch
+        from ._checkpoints import loaded  # few lists declare it
 
         if len(given) != 1 or type(given[0]) is not bytes:
             raise Misused("_load_from_bytes is called with unexpected arguments")
-        return load_torch(given[0], guard)
+        return loaded(given[0], guard.now(), None)
 
     return _Declared(judged, load_from_bytes, guard)

@@ -171,7 +171,7 @@ def main():
     listed = [pair for pair in pairs if all(pair)]
     meant = [".".join(pair) for pair in EVERYTHING.intersection(listed)]
     guard = storklocker.Guard(storklocker.AllowList(listed, dangerous=meant), fix_imports=True)
-    free = guard._like(limits=storklocker.Limits(**NO_COSTS), build="any")
+    free = guard.like(limits=storklocker.Limits(**NO_COSTS), build="any")
     accepted = [data for data in pickles if free.check(data)]
     costly = [data for data in accepted if not guard.check(data)]
     _, guarded, _ = ran(guard)

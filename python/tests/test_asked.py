@@ -34,7 +34,7 @@ CHECKSUMS = (
 def place_of(data, path="file"):
     source = in_memory(io.BytesIO(data))
     # (the time of a large file, since a busy machine may take more than that of a small one)
-    return Place(path, source, Budget(source.size + (1 << 26)))
+    return Place(path, source, Budget(source.size + (1 << 26)), asked)
 
 
 def said(reading, place):

@@ -13,9 +13,9 @@ import zipfile
 from unittest import mock
 
 from storklocker import AllowList
-from storklocker.scanning.files import File
+from storklocker.scanning.file import File
 from storklocker.scanning.judging import Question
-from storklocker.scanning.scan import scan_file
+from storklocker.scanning.one_file import scan_file
 from storklocker.scanning.values import Values
 
 LISTED = AllowList([datetime.datetime])

@@ -72,7 +72,7 @@ class Streams(unittest.TestCase):
                     call(less, make(data + b"more"))
                 self.assertIs(raised.exception.reason, Reason.TooLarge)
         self.assertEqual(less.loads(data), "a" * 5000)
-        self.assertEqual(pickle.loads(pickle.dumps(less))._max_bytes, len(data) - 1)
+        self.assertEqual(pickle.loads(pickle.dumps(less)).max_bytes, len(data) - 1)
         told = []
         open_ = Guard(AllowList([]), max_bytes=10, enforce=False, on_refusal=told.append)
         self.assertEqual(open_.load(Piped(data)), "a" * 5000)

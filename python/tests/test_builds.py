@@ -100,7 +100,7 @@ class Changes(unittest.TestCase):
 
     def loaders(self, guard=None):
         guard = guard or self.guard
-        words = {"build": guard._build, "on_refusal": self.told.append}
+        words = {"build": guard.build, "on_refusal": self.told.append}
         old = Guard(guard.allow, fix_imports=True, **words)
         yield guard.loads
         yield lambda data: guard.loads(bytearray(data))
@@ -178,10 +178,10 @@ class Changes(unittest.TestCase):
     def test_other_guards_keep_the_rule(self):
         data = HOSTILE["method of a class"]
         for guard in (self.guard, self.permitting()):
-            guard = guard._like(on_refusal=None)
+            guard = guard.like(on_refusal=None)
             for other in (copy.copy(guard), pickle.loads(pickle.dumps(guard)),
                           guard.learning(os.devnull, enforce=True)):
-                self.assertEqual(bool(other.check(data)), guard._build == "any")
+                self.assertEqual(bool(other.check(data)), guard.build == "any")
 
     def test_a_list_has_the_last_word(self):
         names = {"job_program": ["Job", "resize"]}

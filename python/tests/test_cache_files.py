@@ -14,7 +14,7 @@ import zlib
 
 from common import needs
 from storklocker import AllowList
-from storklocker.scanning import lenient, readings, spelled
+from storklocker.scanning import lenient, recognized, spelled
 from test_readings import EVIL, RUNS, reports
 
 
@@ -145,9 +145,9 @@ class Soon(unittest.TestCase):
         kinds = (b"a \n\t", b"a\r\f\x85", "\x85\xa0é".encode(), bytes(range(256)))
         fronts = [bytes(chosen.choices(kind, k=8)) for kind in kinds for _ in range(500)]
         fronts += [b"a" * at + bytes([code]) for at in (0, 255, 256) for code in range(256)]
-        said = [readings.is_text(front) for front in fronts]
-        with unittest.mock.patch.object(readings, "_SOON", 0):
-            self.assertEqual(said, [readings.is_text(front) for front in fronts])
+        said = [recognized.is_text(front) for front in fronts]
+        with unittest.mock.patch.object(recognized, "_SOON", 0):
+            self.assertEqual(said, [recognized.is_text(front) for front in fronts])
         self.assertEqual({*said}, {False, True})
 
 

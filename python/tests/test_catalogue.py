@@ -12,7 +12,8 @@ from storklocker import lists
 from storklocker._facts import EVERYTHING, PACKAGES
 from storklocker._names import renamed
 from storklocker._objects import found
-from storklocker._substitutes import TABLE, declared, substitute_of
+from storklocker._reader import declared
+from storklocker._table import TABLE, substitute_of
 from storklocker.scanning import dangers
 
 sys.path.append(str(PYTHON / "catalogue"))

@@ -14,9 +14,10 @@ import zipfile
 
 from common import needs
 from storklocker import AllowList, lists
-from storklocker.scanning import isolated, scan
+from storklocker.scanning import isolated, one_file, scan
 from storklocker.scanning.checkpoint_places import Records
-from storklocker.scanning.files import File, Files
+from storklocker.scanning.file import File
+from storklocker.scanning.files import Files
 from storklocker.scanning.following import NotFollowed
 from storklocker.scanning.judging import Question
 from storklocker.scanning.source import in_memory
@@ -262,7 +263,7 @@ class Places(unittest.TestCase):
             record = RECORD + b")\x81" + state(offset=offset, length=b"K" + size) + b"b."
             memory.pipe("memory://c/.metadata", record)
             (file,) = Files([url])
-            for found in (scan.scan_file(file, Question(ALLOW)), process.scan(file)):
+            for found in (one_file.scan_file(file, Question(ALLOW)), process.scan(file)):
                 self.assertEqual(any(it.is_finding for it in found), is_evil, found)
 
     def all_reports(self, values, places):

@@ -121,7 +121,7 @@ WAYS = {
     "Unpickler": lambda guard, data: guard.Unpickler(io.BytesIO(data)).load(),
     "Unpickler in pieces": lambda guard, data: guard.Unpickler(Piped(data)).load(),
     "Unpickler, second pickle": second_of,
-    "the function": lambda guard, data: storklocker.loads(data, guard.allow, limits=guard._limits),
+    "the function": lambda guard, data: storklocker.loads(data, guard.allow, limits=guard.limits),
     "a shelf": from_shelf,
     "rows": from_row,
 }
@@ -228,7 +228,7 @@ class Defaults(unittest.TestCase):
         for guard in (Guard(NOTHING), Guard(NOTHING, limits=FREE)):
             for other in (
                 copy.copy(guard), copy.deepcopy(guard), pickle.loads(pickle.dumps(guard)),
-                guard.learning(os.devnull, enforce=True), guard._for_children(),
+                guard.learning(os.devnull, enforce=True), guard.for_children(),
             ):
                 with self.subTest(guard=guard):
                     self.assertEqual(bool(other.check(ATTACK)), bool(guard.check(ATTACK)))
@@ -305,12 +305,12 @@ class Imports(unittest.TestCase):
             self.assertEqual(storklocker.missing(data, NOTHING, limits=limits), [("a", "b")])
 
     def test_names_that_are_many_ignore_them(self):
-        from storklocker import _imports
+        from storklocker import _missing
 
-        data, most = ATTACK[:-1] + b"0ca\nb\ncc\nd\n\x86.", _imports.MOST_NAMES
-        _imports.MOST_NAMES = 8
-        self.addCleanup(setattr, _imports, "MOST_NAMES", most)
-        found, is_cut = _imports.missing_of(data * 1000, NOTHING, None)
+        data, most = ATTACK[:-1] + b"0ca\nb\ncc\nd\n\x86.", _missing.MOST_NAMES
+        _missing.MOST_NAMES = 8
+        self.addCleanup(setattr, _missing, "MOST_NAMES", most)
+        found, is_cut = NOTHING.missing_in(data * 1000)
         self.assertEqual(found[:2], [("a", "b"), ("c", "d")])
 
     def test_a_refusal_that_comes_first_is_told(self):

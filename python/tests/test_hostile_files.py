@@ -24,8 +24,8 @@ import zlib
 
 import test_scanning
 from common import IMPORTED_FROM, needs
-from storklocker.scanning import budget, scan
-from storklocker.scanning.files import File
+from storklocker.scanning import budget, one_file
+from storklocker.scanning.file import File
 from storklocker.scanning.judging import Question
 from test_scanning import BAD, GOOD, LIST, npy, tarred, zipped
 
@@ -241,7 +241,7 @@ class HostileFiles(unittest.TestCase):
         changing.start()
         try:
             for _ in range(100):
-                found = scan.scan_file(File(str(path)), Question())
+                found = one_file.scan_file(File(str(path)), Question())
                 self.assertTrue(found)
         finally:
             ends.set()

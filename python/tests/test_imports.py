@@ -6,7 +6,8 @@ import unittest
 
 import storklocker
 from storklocker import Refused
-from storklocker._imports import imports_in, imports_of
+from storklocker._imports import imports_of
+from storklocker._missing import imports_in
 from storklocker._pairs import records
 
 NOTHING = storklocker.AllowList([])

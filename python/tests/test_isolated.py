@@ -11,8 +11,9 @@ from unittest import mock
 
 import common
 import test_scanning
-from storklocker.scanning import files, lacking, scan
-from storklocker.scanning.files import File, Files
+from storklocker.scanning import files, lacking, one_file, scan
+from storklocker.scanning.file import File
+from storklocker.scanning.files import Files
 from storklocker.scanning.isolated import Isolated
 from storklocker.scanning.judging import Question
 from storklocker.scanning.report import report_of
@@ -47,7 +48,7 @@ class Ending(unittest.TestCase):
         for path, found in zip(paths, reports):
             if not path.endswith("ending"):
                 found = [it._replace(verdict=None) for it in found]
-                self.assertEqual(found, scan.scan_file(File(path), Question()))
+                self.assertEqual(found, one_file.scan_file(File(path), Question()))
 
     @staticmethod
     def first(folder):
@@ -57,7 +58,7 @@ class Ending(unittest.TestCase):
     def test_reports_are_the_same_as_json(self):
         for name, data in (("bad", BAD), ("cut", GOOD[:30]), ("none", b""), ("\udc80", GOOD)):
             for allow in (None, test_scanning.storklocker.AllowList([("a", "b")])):
-                found = scan.scan_file(File(self.put(name, data)), Question(allow))
+                found = one_file.scan_file(File(self.put(name, data)), Question(allow))
                 again = [report_of(json.loads(json.dumps(it.as_dict()))) for it in found]
                 self.assertEqual([it._replace(verdict=None) for it in again], found)
 
@@ -68,13 +69,13 @@ class Resuming(unittest.TestCase):
 
     def scans(self, *words):
         """What the command prints, and which files it reads."""
-        read, real = [], scan.scan_file
+        read, real = [], one_file.scan_file
 
         def noted(file, question):
             read.append(os.path.basename(file.path))
             return real(file, question)
 
-        with mock.patch.object(scan, "scan_file", noted):
+        with mock.patch.object(one_file, "scan_file", noted):
             status, out = self.run_command("scan", self.folder / "f", *words)
         return status, out, read
 
@@ -124,7 +125,7 @@ class Resuming(unittest.TestCase):
         (self.folder / "f").mkdir()
         self.put("f/a", GOOD)
         words = ("--resume", self.folder / "store")
-        with mock.patch.object(scan, "_descriptor_of", side_effect=OSError("no answer")):
+        with mock.patch.object(one_file, "_descriptor_of", side_effect=OSError("no answer")):
             self.assertEqual(self.scans(*words)[::2], (2, ["a"]))
         self.assertEqual(self.scans(*words)[::2], (0, ["a"]))
         self.assertEqual(self.scans(*words)[::2], (0, []))

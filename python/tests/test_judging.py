@@ -158,7 +158,7 @@ class Quick(Case):
 
     def test_what_stops_it_is_told(self):
         told, data = [], whole(name("Shared"), NEW, state(a=b"K\1"))
-        guard = self.guard._like(on_refusal=told.append)
+        guard = self.guard.like(on_refusal=told.append)
         guard.noted = []
         pickle.loads(data)
         for count in (1, 2, 3):
@@ -173,7 +173,7 @@ class Quick(Case):
             raise error
 
         with self.assertRaises(KeyError) as raised:
-            guard = guard._like(on_refusal=stop)
+            guard = guard.like(on_refusal=stop)
             guard.noted = []
             guard.loads(whole(name("Job"), NEW, state(a=b"N")))
             guard.loads(data)

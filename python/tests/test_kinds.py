@@ -13,7 +13,7 @@ import zlib
 
 from redis_files import redis
 from storklocker.scanning.judging import Question, reports_of
-from storklocker.scanning.kinds import is_safetensors
+from storklocker.scanning.recognized import is_safetensors
 from storklocker.scanning.redis_dumps import unpacked_by_lzf
 from storklocker.scanning.severity import DANGER, UNRECOGNIZED
 from storklocker.scanning.source import in_memory

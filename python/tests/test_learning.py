@@ -162,7 +162,7 @@ class Logs(Learning):
             with self.assertLogs("storklocker", "WARNING") as logged:
                 for _ in range(3):
                     guard.loads(UNLISTED)
-                    guard._on_refusal._due = 0.0
+                    guard.on_refusal._due = 0.0
         self.assertEqual(len(logged.output), 1)
         self.assertEqual(self.seen()["collections", "Counter"].times, 3)
 

@@ -74,7 +74,7 @@ class Words(unittest.TestCase):
         guard = Guard(AllowList([("__builtin__", "set"), ("builtins", "set")]))
         self.assertIs(pickle.loads(data), set)
         self.assertIs(guard.loads(data), set)
-        guard = guard._like(fix_imports=False)
+        guard = guard.like(fix_imports=False)
         self.assertRaises(Refused, guard.loads, data)  # only Python 2 has that module
 
 
@@ -118,7 +118,7 @@ class Substitutes(unittest.TestCase):
 
     def test_what_is_refused_and_loaded_is_loaded_through_substitutes(self):
         told = []
-        reporting = self.guard._like(on_refusal=told.append, enforce=False)
+        reporting = self.guard.like(on_refusal=told.append, enforce=False)
         reporting.noted = []
         data = b"ccollections\ndeque\n0" + self.LENGTH.replace(b"__builtin__", b"builtins")
         self.assertEqual(pickle.loads(data), bytearray(5))
@@ -175,7 +175,7 @@ class Memory(unittest.TestCase):
     @of_cpython
     def test_references(self):
         for guard, data, kind in CASES:
-            held = [data, guard, pickle.loads, guard._new]
+            held = [data, guard, pickle.loads, guard.list_for(False)]
             if sys.version_info < (3, 12):  # later they are immortal, and their counts may drift
                 held += [None, False]
             found = outcome(guard.loads, data)
@@ -194,7 +194,7 @@ class Memory(unittest.TestCase):
     def test_a_guard_and_its_list_are_collected(self):
         allow = AllowList(LISTED)
         storklocker.loads(b"N.", allow)  # the list keeps a guard, which has the list
-        ends = [weakref.ref(allow), weakref.ref(allow._guard)]
+        ends = [weakref.ref(allow), weakref.ref(allow.kept)]
         allow = None
         gc.collect()
         self.assertEqual([end() for end in ends], [None, None])

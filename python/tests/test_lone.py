@@ -11,11 +11,12 @@ from unittest import mock
 from common import OBJECTS, SEEDS
 from storklocker import AllowList, Limits
 from storklocker.scanning import judging
+from storklocker.scanning.all_readings import asked
 from storklocker.scanning.condensing import condensed
-from storklocker.scanning.files import File
+from storklocker.scanning.file import File
 from storklocker.scanning.judging import Question, reports_of
 from storklocker.scanning.lone import Lone
-from storklocker.scanning.scan import scan_file
+from storklocker.scanning.one_file import scan_file
 from storklocker.scanning.source import BLOCK, whole_of
 from test_asked import files
 
@@ -122,12 +123,12 @@ class Short(unittest.TestCase):
         allow |= AllowList([("collections", "Counter")])
         for value in OBJECTS:
             for listed in (None, allow):
-                self.assertIsNotNone(Lone(listed).told("file", pickle.dumps(value, 4)), value)
+                self.assertIsNotNone(Lone(listed, asked).told("file", pickle.dumps(value, 4)), value)
 
     def test_what_is_not_permitted_takes_the_long_way(self):
         allow = AllowList([*PAIRS, ("joblib.numpy_pickle", "NumpyArrayWrapper")])
         for data in (pickle.dumps(pickle.loads, 4), DEEP, HEAVY, ARRAY, imports(100)):
-            self.assertIsNone(Lone(allow).told("file", data), data[:99])
+            self.assertIsNone(Lone(allow, asked).told("file", data), data[:99])
 
 
 if __name__ == "__main__":

@@ -22,9 +22,9 @@ import urllib.parse
 import zlib
 
 from storklocker import AllowList
-from storklocker.scanning.files import File
+from storklocker.scanning.file import File
 from storklocker.scanning.judging import Question
-from storklocker.scanning.scan import scan_file
+from storklocker.scanning.one_file import scan_file
 from storklocker.scanning.severity import UNREADABLE
 from test_readings import reports
 

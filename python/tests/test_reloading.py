@@ -70,8 +70,8 @@ class Reloading(unittest.TestCase):
             lambda data: guard.load(io.BytesIO(data)),
             lambda data: guard.Unpickler(io.BytesIO(data)).load(),
             lambda data: asyncio.run(guard.loads_async(data)),
-            lambda data: storklocker.Guard.loads(guard._now(), data),
-            lambda data: guard._loads_front(data + b"rest", None, None, None),
+            lambda data: storklocker.Guard.loads(guard.now(), data),
+            lambda data: guard.loads_front(data + b"rest", None, None, None),
         ]
         for after, is_listed in ((BOTH, True), (COUNTERS, False), (BOTH, True)):
             after.to_file(self.path)
@@ -85,7 +85,7 @@ class Reloading(unittest.TestCase):
     def test_what_passes_the_current_list_by_is_refused(self):
         guard = self.guard()
         self.assertFalse(is_loaded(lambda data: Guard.loads(guard, data), COUNTER))
-        self.assertFalse(guard._judge(COUNTER))
+        self.assertFalse(guard.judge(COUNTER))
 
     def test_it_looks_no_more_often(self):
         guard = self.guard()
@@ -172,7 +172,7 @@ class Reloading(unittest.TestCase):
     def test_settings_copies_and_counts(self):
         told = []
         guard = self.guard(0, on_refusal=told.append, fix_imports=True, max_bytes=1000)
-        self.assertEqual((guard.enforce, guard._max_bytes), (True, 1000))
+        self.assertEqual((guard.enforce, guard.max_bytes), (True, 1000))
         self.assertFalse(is_loaded(guard.loads, ORDERED))
         self.assertEqual(told[0].verdict.pair, ("collections", "OrderedDict"))
         for made in (copy.copy(self.guard(0)), pickle.loads(pickle.dumps(self.guard(0)))):

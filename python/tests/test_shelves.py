@@ -11,8 +11,9 @@ import unittest
 
 import test_readings
 from common import needs
-from storklocker.scanning import isolated, scan
-from storklocker.scanning.files import File, Files
+from storklocker.scanning import isolated, one_file, scan
+from storklocker.scanning.file import File
+from storklocker.scanning.files import Files
 from storklocker.scanning.judging import Question
 from storklocker.scanning.names import NOTHING
 from test_scanning import tarred, zipped
@@ -54,7 +55,7 @@ class Shelves(unittest.TestCase):
 
     def check(self, is_evil):
         """That the shelf is a finding, or not, on a disk and in containers."""
-        found = scan.scan_file(File(str(self.part(".dat"))), Question(NOTHING))
+        found = one_file.scan_file(File(str(self.part(".dat"))), Question(NOTHING))
         self.assertEqual(any(it.is_finding for it in found), is_evil, found)
         for data in self.wrapped():
             found = test_readings.reports(data)
@@ -130,11 +131,11 @@ class Shelves(unittest.TestCase):
         (file,) = Files(["memory://shelf.dat"])
         process = isolated.Isolated(Question(NOTHING))
         self.addCleanup(process.end)
-        for found in (scan.scan_file(file, Question(NOTHING)), process.scan(file)):
+        for found in (one_file.scan_file(file, Question(NOTHING)), process.scan(file)):
             self.assertTrue(any(it.is_finding for it in found), found)
         memory.rm("memory://shelf.dir")
         memory.pipe("memory://shelf.dat", pickle.dumps(1, 2))
-        for found in (scan.scan_file(file, Question(NOTHING)), process.scan(file)):
+        for found in (one_file.scan_file(file, Question(NOTHING)), process.scan(file)):
             self.assertEqual([it.status for it in found], ["accepted"])
 
 

@@ -170,7 +170,7 @@ class Alike(Quiet):
             for number, call in enumerate(calls):
                 expected = raised_by(call)
                 with self.subTest(enforce=enforce, number=number):
-                    with storklocker.installed(GUARD._like(enforce=enforce)):
+                    with storklocker.installed(GUARD.like(enforce=enforce)):
                         found = raised_by(call)
                     # (what is no pickle is refused)
                     self.assertIn(found, (expected, "Refused" if expected == "EOFError" else ""))
@@ -211,7 +211,7 @@ class Alike(Quiet):
                 reader.memo = held
             with self.assertRaises(pickle.UnpicklingError):
                 reader.load()
-        with storklocker.installed(GUARD._like(enforce=False)):
+        with storklocker.installed(GUARD.like(enforce=False)):
             first = pickle.Unpickler(io.BytesIO(b"\x80\x04\x8c\x01a\x94."))
             self.assertEqual(first.load(), "a")
             reader = pickle.Unpickler(io.BytesIO(b"\x80\x04h\x00."))
@@ -270,7 +270,7 @@ class Sent(Quiet):
 class Ends(Quiet):
     def test_blocks_end_in_any_order(self):
         for order in itertools.permutations(range(3)):
-            guards = [NOTHING, GUARD, GUARD._like(fix_imports=True)]
+            guards = [NOTHING, GUARD, GUARD.like(fix_imports=True)]
             blocks = [storklocker.installed(guard) for guard in guards]
             for block in blocks:
                 block.__enter__()

@@ -177,14 +177,14 @@ class Values(unittest.TestCase):
 
     def test_an_installed_guard_tells_of_no_name_with_a_substitute(self):
         told = []
-        with storklocker.installed(GUARD._like(on_refusal=told.append)):
+        with storklocker.installed(GUARD.like(on_refusal=told.append)):
             made = pickle.loads(pickle.dumps(functools.partial(note, bytes)))
         self.assertIs(made(), bytes)
         self.assertEqual(told, [])
 
     def test_what_is_not_enforced(self):
         told = []
-        guard = GUARD._like(enforce=False, on_refusal=told.append)
+        guard = GUARD.like(enforce=False, on_refusal=told.append)
         self.assertEqual(guard.loads(pickle.dumps([bytearray, storklocker.Limits])),
                          [bytearray, storklocker.Limits])
         with self.assertRaises(Misused):

@@ -18,7 +18,7 @@ import storklocker
 from common import SEEDS
 from storklocker._facts import PACKAGES, SUBSTITUTED
 from storklocker._storklocker import begin_uses, holds, uses, walked
-from storklocker._substitutes import TABLE, substitute_of
+from storklocker._table import TABLE, substitute_of
 
 LENT = 1 << 14
 
@@ -228,7 +228,7 @@ class Listed(unittest.TestCase):
             self.assertIsNotNone(substitute_of(pair), pair)
         for pair in said | {("pandas", "DataFrame"), ("numpy.linalg", "norm")}:
             guard = storklocker.Guard(storklocker.AllowList([pair]))
-            self.assertTrue(guard._has_substitutes)
+            self.assertTrue(guard.has_substitutes)
         self.assertFalse(storklocker.Guard(storklocker.AllowList([("a", "b")]))._has_substitutes)
 
 

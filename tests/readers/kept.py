@@ -36,9 +36,9 @@ import shapes  # noqa: E402
 import storklocker  # noqa: E402
 from listed import LISTED, may_run  # noqa: E402
 from storklocker import AllowList  # noqa: E402
-from storklocker.scanning.files import File  # noqa: E402
+from storklocker.scanning.file import File  # noqa: E402
 from storklocker.scanning.judging import Question  # noqa: E402
-from storklocker.scanning.scan import scan_file  # noqa: E402
+from storklocker.scanning.one_file import scan_file  # noqa: E402
 from storklocker.scanning.severity import DANGER, NOTE, UNREADABLE, WARNING  # noqa: E402
 from test_lenient import front  # noqa: E402
 from watching import Stopped, Watch  # noqa: E402

@@ -6,8 +6,9 @@ import functools
 import pickle
 from typing import Any, Callable, Dict, NamedTuple, Optional, cast
 
-from .. import Guard
+from .._guard import Guard
 from .._refusal import CONTEXT
+from ._loading import Loader
 
 _FIRST_SAFE = (5, 2, 2)
 """The first Celery that makes only exceptions of what a stored exception names."""
@@ -41,6 +42,17 @@ def guard_results(app: Any, guard: Guard) -> None:
     vars(app._local).pop("backend", None)  # one that was made before
 
 
+def guard_columns(guard: Guard) -> None:
+    """Guards the columns of the result backend `db+`, which SQLAlchemy itself unpickles."""
+    from celery.backends.database import models
+    from sqlalchemy.types import PickleType
+
+    for model in (models.Task, models.TaskSet):
+        for column in model.__table__.columns:
+            if isinstance(column.type, PickleType):
+                column.type.pickler = Loader(guard)
+
+
 def _guard_backend(backend: Any, guard: Guard) -> None:
     kinds = {f"{kind.__module__}.{kind.__name__}" for kind in type(backend).__mro__}
     if "celery.backends.cache.CacheBackend" in kinds and backend.backend != "memory":
@@ -48,9 +60,7 @@ def _guard_backend(backend: Any, guard: Guard) -> None:
             "Celery's backend `cache` can't be guarded: memcached's client unpickles by itself"
         )
     if "celery.backends.database.DatabaseBackend" in kinds:
-        from .kombu import register_database
-
-        register_database(guard)
+        guard_columns(guard)
     reader = _Reader(backend)
     wrappers: Dict[str, Callable[..., Any]] = {
         "decode_result": reader.decoded,

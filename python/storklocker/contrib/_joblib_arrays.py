@@ -6,9 +6,10 @@ import sys
 import weakref
 from typing import Any, Dict, Iterator, List, NamedTuple, Optional, Tuple, Type
 
-from .. import Guard, _names
+from .. import _names
 from .._answers import Misused
-from .._substitutes import Reader
+from .._guard import Guard
+from .._reader import Reader
 from .._telling import Misuses
 from .._types import class_of, known, size_of
 from ..scanning.joblib_cutting import WRAPPERS, Gap
@@ -41,10 +42,10 @@ def loaded(
     """The object of an accepted pickle whose arrays were cut out. Each gap comes with the pickle of
     an array of objects, which is accepted too.
     """
-    encoding, errors = guard._decoding(None, None)
+    encoding, errors = guard.decoding(None, None)
     lent = iter([_Lent(*each) for each in gaps])
     reader = _Reader(guard.allow, encoding=encoding, errors=errors, buffers=lent)
-    reader.is_old = guard._has_old_names(pickled)
+    reader.is_old = guard.has_old_names(pickled)
     reader.wrapper = _wrapper_of(reader, guard, place)
     with Misuses(guard, pickled):
         return reader.loaded(pickled, 0, reader.is_old)
@@ -115,7 +116,7 @@ class _Array:
         if self.has_objects != lent.gap.is_pickle or self.type.hasobject != self.has_objects:
             raise Misused("the type of an array hides objects over raw bytes")
         if lent.gap.is_pickle:
-            array = guard._loaded(lent.pickled, guard._decoding(None, None))
+            array = guard.load_accepted(lent.pickled)
             if not isinstance(array, numpy.ndarray):
                 raise Misused("the pickle of an array of objects isn't an array")
         elif lent.gap.size != self.count * self.type.itemsize:

@@ -10,8 +10,8 @@ import os
 import zlib
 from typing import Any, BinaryIO, Callable, Dict, Iterator, NamedTuple, Optional, Union
 
-from .. import Guard
-from ..scanning.packed import GZIP, ZLIB, bzip2, lzma_alone, unpack, xz
+from .._guard import Guard
+from ..scanning.unpacking import GZIP, ZLIB, bzip2, lzma_alone, unpack, xz
 from ..scanning.source import Source, in_memory
 
 File = Union[str, "os.PathLike[str]", bytes, BinaryIO]
@@ -90,12 +90,12 @@ def _all_of(file: Any, guard: Guard) -> Source:
         data = file.read(_STEP)
         if not data:
             return in_memory(held)
-        if held.write(data) and held.tell() > guard._max_bytes:
+        if held.write(data) and held.tell() > guard.max_bytes:
             raise guard.UnpicklingError(_too_long(guard, "is"))
 
 
 def _too_long(guard: Guard, verb: str) -> str:
-    return f"the file {verb} more than the guard's max_bytes, {guard._max_bytes:,}"
+    return f"the file {verb} more than the guard's max_bytes, {guard.max_bytes:,}"
 
 
 def _unpacked(found: Opened, guard: Guard) -> Opened:
@@ -111,7 +111,7 @@ def _unpacked(found: Opened, guard: Guard) -> Opened:
             break
     else:
         return found
-    left = [guard._max_bytes]
+    left = [guard.max_bytes]
 
     def spend(count: int) -> None:
         left[0] -= count

@@ -5,7 +5,7 @@ from __future__ import annotations
 import pickle
 from typing import Any
 
-from .. import Guard
+from .._guard import Guard
 
 
 class Unloadable(pickle.UnpicklingError):

@@ -10,7 +10,7 @@ import time
 from collections import OrderedDict
 from typing import Any, Iterator
 
-from .. import Guard
+from .._guard import Guard
 from .._answers import Refused
 from .._refusal import CONTEXT
 from ._loading import Loader
@@ -26,7 +26,7 @@ class Misses:
     """
 
     def __init__(self, guard: Guard) -> None:
-        self._is_heard = getattr(guard, "_hook", guard._on_refusal) is not None
+        self._is_heard = getattr(guard, "_hook", guard.on_refusal) is not None
         self._times: OrderedDict[str, float] = OrderedDict()
         self._lock = threading.Lock()
 
@@ -63,7 +63,7 @@ class CacheLoader(Loader):
     def loads(self, data: Any, **words: Any) -> Any:
         """`Loader.loads`, with what a guard without a hook would leave untold."""
         if self._is_silent:
-            refused = self._guard._refusal_of(bytes(data))
+            refused = self._guard.refusal_of(bytes(data))
             if refused is not None:
                 self.misses.tell(CONTEXT.get(), refused)
         return super().loads(data, **words)
@@ -73,7 +73,7 @@ class CacheLoader(Loader):
         """
         data = self._guard.dumps(value, *given, **named)
         if self._check_on_set:
-            refused = self._guard._refusal_of(data)
+            refused = self._guard.refusal_of(data)
             if refused is not None and self._guard.enforce:
                 raise refused
         return data

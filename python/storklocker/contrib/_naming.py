@@ -9,11 +9,11 @@ import sys
 from collections import OrderedDict, deque
 from typing import Any, Callable, Dict, List, Optional, Tuple, cast
 
-from .. import Guard
+from .._guard import Guard
 from .._answers import Refused, Verdict
 from .._reasons import Reason
 from .._refusal import CONTEXT, Refusal
-from .._substitutes import named as substitute_named
+from .._reader import named as substitute_named
 
 _STEADY = (tuple, list, dict, set, frozenset, bytes, bytearray, str, deque, OrderedDict)
 """Types whose iteration gives the same items again."""
@@ -41,7 +41,7 @@ class Names:
     @property
     def _pairs(self) -> Dict[str, List[Tuple[str, str]]]:
         """The pairs of each path."""
-        guard = self._guard._now()
+        guard = self._guard.now()
         if guard is not self._of:
             self._held, self._of = self._paths_of(guard), guard
         return self._held
@@ -63,8 +63,8 @@ class Names:
         guard, verdict = self._guard, Verdict(
             False, reason=Reason.ImportOffList, pair=_pair_of(path)
         )
-        if guard._on_refusal is not None:
-            guard._on_refusal(Refusal(verdict, data, CONTEXT.get(), guard.enforce))
+        if guard.on_refusal is not None:
+            guard.on_refusal(Refusal(verdict, data, CONTEXT.get(), guard.enforce))
         if guard.enforce:
             raise NameRefused(verdict, "a name that the service would import")
 
@@ -117,11 +117,11 @@ class Names:
         """What the guard gives a pickle for a name: perhaps a substitute. It isn't counted."""
         texts = (word.encode() for word in (module, name))
         words = b"".join(b"X" + len(text).to_bytes(4, "little") + text for text in texts)
-        guard, name_alone = self._guard._now(), b"\x80\x04" + words + b"\x93"
-        if not guard._has_substitutes:
+        guard, name_alone = self._guard.now(), b"\x80\x04" + words + b"\x93"
+        if not guard.has_substitutes:
             return Guard.loads(guard, name_alone + b".")
         Guard.loads(guard, name_alone + b"0N.")  # (as a value it would be the real object)
-        return substitute_named(module, name, guard._allow)
+        return substitute_named(module, name, guard.allow)
 
     def _is_listed_method(self, instance: Any, name: Any) -> bool:
         kind = _class_of(instance)

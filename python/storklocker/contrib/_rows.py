@@ -4,9 +4,8 @@ from __future__ import annotations
 
 from typing import Any, Iterable, List, NamedTuple, Optional, Tuple
 
-from .. import Guard
-from .._answers import Refused
-from .._imports import Import
+from .._guard import Guard
+from .._answers import Import, Refused
 from ._loading import Loader
 
 
@@ -38,7 +37,7 @@ def loaded(pairs: Iterable[Tuple[Any, Any]], guard: Guard) -> List[Row]:
 def _checked(key: Any, data: Any, guard: Guard) -> Row:
     try:
         whole = data if type(data) is bytes else bytes(memoryview(data))
-        refused: Optional[Exception] = guard._refusal_of(whole)
+        refused: Optional[Exception] = guard.refusal_of(whole)
     except TypeError as error:
         refused = error
     return Row(key, True) if refused is None else _refused(key, refused)

@@ -15,7 +15,7 @@ from __future__ import annotations
 
 from typing import Any, Callable, TypeVar
 
-from .. import Guard
+from .._guard import Guard
 from .._refusal import CONTEXT
 from ._misses import CacheLoader, about
 from ._rebinding import rebound

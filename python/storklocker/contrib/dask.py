@@ -14,7 +14,7 @@ from __future__ import annotations
 
 from typing import Any
 
-from .. import Guard
+from .._guard import Guard
 from ._rows import checked, loaded
 
 

@@ -18,7 +18,7 @@ import inspect
 import pickle
 from typing import Any, Type
 
-from .. import Guard
+from .._guard import Guard
 from ._loading import Loader, Unloadable
 from ._misses import Misses, about
 from ._rebinding import rebound

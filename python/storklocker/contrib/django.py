@@ -24,7 +24,7 @@ import threading
 import zlib
 from typing import Any, Dict, Iterable, Iterator, NamedTuple, Type
 
-from .. import Guard
+from .._guard import Guard
 from ._loading import Unloadable
 from ._misses import CacheLoader, about
 from ._rebinding import rebound

@@ -14,7 +14,7 @@ from __future__ import annotations
 import functools
 from typing import Any, Callable, Dict, Sequence, Type
 
-from .. import Guard
+from .._guard import Guard
 from ._loading import Loader
 from ._misses import REFUSED, CacheLoader, about
 

@@ -17,7 +17,8 @@ import weakref
 from pathlib import Path
 from typing import Any, List, Optional, Tuple, Union
 
-from .. import AllowList, Guard
+from .._guard import Guard
+from .._lists import AllowList
 from .._checking import JUDGING
 from .._refusal import loaded_from, name_of
 from .._storklocker import walked
@@ -45,7 +46,7 @@ def load_joblib(file: File, guard: Guard, *, mmap_mode: Optional[str] = None) ->
     """
     if mmap_mode not in MODES:
         raise ValueError(f"mmap_mode must be one of {MODES}, not {mmap_mode!r}")
-    guard = guard._now()
+    guard = guard.now()
     with loaded_from(name_of(file)), opened(file, guard) as found:
         source = found.source
         cut, nested = _cut(source, guard)
@@ -53,7 +54,7 @@ def load_joblib(file: File, guard: Guard, *, mmap_mode: Optional[str] = None) ->
             raise guard.UnpicklingError(f"{source.size - cut.end:,} bytes follow the pickle")
         _check(cut.pickle, guard)
         for pickled in filter(None, nested):
-            refused = guard._refusal_of(pickled)
+            refused = guard.refusal_of(pickled)
             if refused is not None and guard.enforce:
                 raise refused
         gaps = list(zip(cut.gaps, nested))
@@ -68,7 +69,7 @@ def _cut(source: Source, guard: Guard) -> Tuple[Cut, List[bytes]]:
     pickles: List[bytes] = []
 
     def length_of(at: int) -> int:
-        pickles.append(_pickle_at(source, at, guard._max_bytes))
+        pickles.append(_pickle_at(source, at, guard.max_bytes))
         return len(pickles[-1])
 
     try:
@@ -99,11 +100,11 @@ def _check(pickled: bytes, guard: Guard) -> None:
     """Checks a pickle whose arrays were cut out, in which joblib's wrapper is a class of ours."""
     if guard not in _LISTING:
         allow = guard.allow | AllowList(WRAPPERS)
-        words = {name: getattr(guard, f"_{name}") for name in JUDGING}
-        _LISTING[guard] = Guard(allow, fix_imports=guard._fix_imports, **words)
-    verdict = _LISTING[guard]._listed_for(pickled)._refusal(pickled)
+        words = {name: getattr(guard, name) for name in JUDGING}
+        _LISTING[guard] = Guard(allow, fix_imports=guard.fix_imports, **words)
+    verdict = _LISTING[guard].listed_for(pickled).refusal(pickled)
     if verdict is not None:
-        guard._refuse(verdict, pickled)
+        guard.refuse(verdict, pickled)
 
 
 def dump_joblib_as_pickle(value: Any, path: Union[str, Path]) -> None:

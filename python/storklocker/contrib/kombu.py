@@ -19,7 +19,8 @@ from __future__ import annotations
 
 from typing import Any, Optional
 
-from .. import Guard
+from .._guard import Guard
+from . import _celery_results, _celery_worker
 from ._loading import Loader
 
 CONTENT_TYPE = "application/x-python-serialize"
@@ -39,8 +40,6 @@ def register(guard: Guard, app: Optional[Any] = None) -> None:
 
     serialization.register("pickle", guard.dumps, decode, CONTENT_TYPE, "binary")
     if app is not None:
-        from . import _celery_results, _celery_worker
-
         _celery_worker.guard_workers(app)
         _celery_results.guard_results(app, guard)
 
@@ -49,10 +48,4 @@ def register_database(guard: Guard) -> None:
     """Guards the columns of Celery's result backend `db+`, which SQLAlchemy itself unpickles.
     `register` with an application does so by itself.
     """
-    from celery.backends.database import models
-    from sqlalchemy.types import PickleType
-
-    for model in (models.Task, models.TaskSet):
-        for column in model.__table__.columns:
-            if isinstance(column.type, PickleType):
-                column.type.pickler = Loader(guard)
+    _celery_results.guard_columns(guard)

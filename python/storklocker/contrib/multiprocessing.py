@@ -21,7 +21,7 @@ import keyword
 from multiprocessing import connection, managers
 from typing import Any, Callable
 
-from .. import Guard
+from .._guard import Guard
 from .._answers import told
 from .._refusal import loaded_from
 

@@ -17,9 +17,9 @@ import operator
 from pathlib import Path
 from typing import Any, BinaryIO, Dict, Union
 
-from .. import Guard
+from .._guard import Guard
 from .._refusal import loaded_from, name_of
-from ._zip import Archive
+from ..scanning.archives import Archive
 
 Source = Union[str, Path, bytes, BinaryIO]
 
@@ -35,7 +35,7 @@ def load_npz(source: Source, guard: Guard) -> Dict[str, Any]:
     UnpicklingError if the file unpacks to more than the bounds of `storklocker scan`.
     """
     with loaded_from(name_of(source)):
-        archive = Archive(bytes_of(source), guard)
+        archive = Archive(bytes_of(source))
         return {name[:-4]: _array_of(archive.read(name), guard) for name in archive.sizes}
 
 

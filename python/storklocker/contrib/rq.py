@@ -15,7 +15,7 @@ from __future__ import annotations
 
 from typing import Any, Dict, Optional, Tuple, Type
 
-from .. import Guard
+from .._guard import Guard
 from .._refusal import CONTEXT
 from ._loading import Loader
 from ._naming import NameRefused, Names

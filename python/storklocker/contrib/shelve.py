@@ -14,7 +14,7 @@ import os
 import shelve as plain
 from typing import Any, Optional, Union
 
-from .. import Guard
+from .._guard import Guard
 from ._misses import about
 from ._rebinding import rebound
 

@@ -12,7 +12,7 @@ from __future__ import annotations
 import functools
 from typing import Any, Callable, Iterable, Iterator, Tuple
 
-from .. import Guard
+from .._guard import Guard
 from ._rows import Row, checked, loaded
 
 Partition = Callable[[Iterable[Tuple[Any, Any]]], Iterator[Row]]

@@ -131,7 +131,7 @@ class _Child:
     """Is part of what a process of multiprocessing loads first, and installs the guard there."""
 
     def __init__(self, state: State) -> None:
-        self._words = (state.guard._for_children(), tuple(state.own))
+        self._words = (state.guard.for_children(), tuple(state.own))
 
     def __reduce__(self) -> Tuple[Any, ...]:
         return (_install_in_child, self._words)

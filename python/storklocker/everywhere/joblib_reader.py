@@ -57,7 +57,7 @@ def load_of(plain: Callable[[Any], Any]) -> Callable[[Any], Any]:
         if not state.guard.enforce:  # each import is reported
             vars(reader).pop("_storklocker_way", None)
             return plain(reader)
-        from ..contrib.joblib import load_joblib
+        from ..contrib.joblib import load_joblib  # few programs have joblib
 
         if reader.mmap_mode is None:
             return load_joblib(reader.file_handle, state.guard)

@@ -71,12 +71,12 @@ def _loaded(
     state = NOW.state
     if state is None or state.frees(frame):
         return unchecked(plain, given, named)
-    guard = state.guard._now()
+    guard = state.guard.now()
     if not guard.enforce:
         _look(guard, *given)
         return reported(plain, given, named)
     words = words_of(given, named, "data")
-    return guard._loads_front(words.source, words.encoding, words.errors, words.buffers)
+    return guard.loads_front(words.source, words.encoding, words.errors, words.buffers)
 
 
 def _look(guard: Guard, data: Any = b"", *_: Any) -> None:
@@ -85,9 +85,9 @@ def _look(guard: Guard, data: Any = b"", *_: Any) -> None:
         data = bytes(memoryview(data))
     except (TypeError, ValueError):  # the reader says what is wrong with it
         return
-    no = guard._listed_for(data)._refusal(data)
+    no = guard.listed_for(data).refusal(data)
     if no is not None and not no.accepted:
-        guard._refuse(no, data)
+        guard.refuse(no, data)
 
 
 def _load_front(*given: Any, **named: Any) -> Any:

@@ -23,16 +23,16 @@ class State:
 
     def __init__(self, guard: Guard, own: Iterable[str]) -> None:
         self.guard, self.own = guard, frozenset(own)
-        self.is_lasting = type(guard)._now is Guard._now
+        self.is_lasting = type(guard).now is Guard.now
         """Whether the list stays as it is."""
-        self._of = (guard._now(), permitted_by(guard.allow))
+        self._of = (guard.now(), permitted_by(guard.allow))
         self.admitting: Dict[Type[Any], Any] = {}
         """For a class of `pickle`, the one that checks what its instances load."""
 
     @property
     def listed(self) -> FrozenSet[Tuple[str, str]]:
         """The names that a reader may import that no guard has checked."""
-        now, (held, listed) = self.guard._now(), self._of
+        now, (held, listed) = self.guard.now(), self._of
         if now is not held:
             listed = permitted_by(now.allow)
             self._of = (now, listed)
@@ -47,7 +47,7 @@ class State:
         """
         if pair in self.listed:
             return True
-        return self.guard._fix_imports and _names.renamed(pair) in self.listed
+        return self.guard.fix_imports and _names.renamed(pair) in self.listed
 
     def frees(self, frame: FrameType) -> bool:
         """Whether a frame may load anything."""
@@ -56,9 +56,9 @@ class State:
     def refuse(self, pair: Tuple[str, str]) -> None:
         """Reports an import of a reader that no guard has checked, and raises Unlisted."""
         guard = self.guard
-        if guard._on_refusal is not None:
+        if guard.on_refusal is not None:
             verdict = Verdict(False, reason=Reason.ImportOffList, pair=pair)
-            guard._on_refusal(Refusal(verdict, b"", CONTEXT.get(), guard.enforce))
+            guard.on_refusal(Refusal(verdict, b"", CONTEXT.get(), guard.enforce))
         named = f"{pair[0]}.{pair[1]}"[:200]
         if guard.enforce:
             raise Unlisted(f"{named} is not on the list, and no guard has checked this pickle")
@@ -67,8 +67,8 @@ class State:
 
 def permitted_by(allow: AllowList) -> FrozenSet[Tuple[str, str]]:
     """The names of a list, but for those that stand for something else while a guard loads."""
-    meant: Iterable[Tuple[str, str]] = allow._meant.substitutes if allow._meant else ()
-    listed = frozenset(allow).union(allow._for_loading())
+    meant: Iterable[Tuple[str, str]] = allow.meant.substitutes if allow.meant else ()
+    listed = frozenset(allow).union(allow.for_loading())
     return listed.difference(meant, map(_names.today, meant))
 
 
@@ -91,5 +91,5 @@ def settle() -> None:
     """Has the innermost guard apply."""
     state = INSTALLED[-1] if INSTALLED else None
     NOW.refusal, NOW.state = None, state
-    if state is not None and state.is_lasting and state.guard.enforce and state.guard._is_plain:
-        NOW.refusal = state.guard._new._refusal
+    if state is not None and state.is_lasting and state.guard.enforce and state.guard.is_plain:
+        NOW.refusal = state.guard.list_for(False).refusal

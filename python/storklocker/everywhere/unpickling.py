@@ -173,8 +173,8 @@ def _begin_guarded(reader: Any, standing: Type[Any], state: State, words: Words)
     made: Callable[..., Any] = kind
     way = Guarded(functools.partial(made, file=words.source, **named), reader)
     _set_way(reader, way)
-    named["encoding"], named["errors"] = state.guard._decoding(words.encoding, words.errors)
-    plain.__init__(reader, way.admitting._feed, fix_imports=False, **named)
+    named["encoding"], named["errors"] = state.guard.decoding(words.encoding, words.errors)
+    plain.__init__(reader, way.admitting.feed, fix_imports=False, **named)
 
 
 def _memo_of(plain: Type[Any]) -> Any:
@@ -224,6 +224,11 @@ def _admitting(guard: Guard, of: Type[Any]) -> Type[Any]:
                 )
             return load(number)
 
+        @property
+        def feed(self) -> Any:
+            """The file that the reader reads."""
+            return self._feed
+
         def found(self, module: str, name: str) -> Any:
             return super().find_class(module, name)
 
@@ -231,7 +236,7 @@ def _admitting(guard: Guard, of: Type[Any]) -> Type[Any]:
             reader: Any = self._reader_of()
             if of is not _IN_PYTHON or reader.dispatch == _IN_PYTHON.dispatch:
                 return super()._loaded(feed, end)
-            if self.guard._has_substitutes:
+            if self.guard.has_substitutes:
                 raise pickle.UnpicklingError(
                     f"{type(reader).__name__} has instructions of its own, which can't be used with"
                     " a list whose names are loaded through substitutes"

@@ -7,7 +7,7 @@ import itertools
 import zipfile
 from typing import Any, Callable, Dict, Iterable, List, Tuple
 
-from ..scanning.packed import bzip2
+from ..scanning.unpacking import bzip2
 from .decoding import DECODERS, LARGEST, decoded, lzma_unpacker, small, unpacked, unzipped
 from .marshalled import Code, NotRead, code_in
 from .texts import METHODS, OBJECTS, TABLES, flat, item, of_method, short

@@ -18,7 +18,7 @@ import zlib
 from encodings.aliases import aliases
 from typing import Any, Callable, Dict, FrozenSet
 
-from ..scanning.packed import bzip2
+from ..scanning.unpacking import bzip2
 from .values import Large, Unknown
 
 LARGEST = 1 << 22

@@ -6,6 +6,7 @@ import io
 from typing import Iterator, List, NamedTuple, Tuple
 
 from .._answers import Verdict
+from ..scanning.all_readings import asked
 from ..scanning.budget import Budget, TooMuch
 from ..scanning.enums import without_members
 from ..scanning.joblib_files import WRAPPER_NAMES, without_arrays
@@ -43,7 +44,7 @@ class Followed(NamedTuple):
 
 def followed_in(path: str, source: Source, is_full: bool) -> Iterator[Followed]:
     """What the pickles in a file do, and in its members."""
-    place = Place(path, source, Budget(source.size))
+    place = Place(path, source, Budget(source.size), asked)
     found, answer, left = examine(place), None, ENDLESS if is_full else _FILE
     is_empty = True
     try:

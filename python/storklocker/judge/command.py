@@ -69,7 +69,7 @@ def _judge(asked: argparse.Namespace) -> int:
 
 
 def _names(asked: argparse.Namespace) -> List[Tuple[str, str]]:
-    from . import cases, judged
+    from . import cases, judged  # no other command needs them
 
     names: List[Tuple[str, str]] = []
     for word in asked.names:
@@ -103,7 +103,7 @@ def _end(found: List[Judged]) -> Iterator[str]:
 
 
 def _told(found: List[Judged]) -> Dict[str, Any]:
-    from . import cases, judged
+    from . import cases, judged  # no other command needs them
 
     return {
         "python": platform.python_version(),

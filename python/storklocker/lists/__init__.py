@@ -25,10 +25,10 @@ with. A list permits what these libraries write. It doesn't cover what the objec
 
 from __future__ import annotations
 
-from pathlib import Path
 from typing import List
 
-from .._lists import AllowList
+from .._lists import AllowList, shipped_list
+from .._shipped import file_of, name_of, words  # noqa: F401 (part of this module)
 
 __all__ = [
     "CELERY",
@@ -66,39 +66,14 @@ TORCH_NN: AllowList
 TORCH_TENSORS: AllowList
 UUID: AllowList
 
-_SHORT = {"SKLEARN": "SCIKIT_LEARN", "TORCH": "TORCH_TENSORS"}
-"""The names by which libraries are known, where a list has another."""
-
 
 def __getattr__(name: str) -> AllowList:
     """Reads a list on first use."""
     if name not in __all__:
         raise AttributeError(f"module {__name__!r} has no attribute {name!r}")
-    made = AllowList.from_file(file_of(name))
+    made = shipped_list(name)
     globals()[name] = made
     return made
-
-
-def name_of(word: str) -> str:
-    """The name here of a list that is called `torch`, `@torch`, `torch-nn` or `TORCH_NN`. Raises
-    ValueError if there is none.
-    """
-    name = word.strip().lstrip("@").replace("-", "_").upper()
-    name = _SHORT.get(name, name)
-    if name not in __all__:
-        raise ValueError(f"{word} isn't one of the lists {', '.join(words())}")
-    return name
-
-
-def words() -> List[str]:
-    """The lists as a command takes them."""
-    short = {name: word for word, name in _SHORT.items()}
-    return [f"@{short.get(name, name).lower().replace('_', '-')}" for name in __all__]
-
-
-def file_of(name: str) -> Path:
-    """The file of a list, by its name here."""
-    return Path(__file__).with_name(f"{name.lower()}.toml")
 
 
 def __dir__() -> List[str]:

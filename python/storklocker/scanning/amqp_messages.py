@@ -9,7 +9,7 @@ from __future__ import annotations
 import contextlib
 from typing import Any, Iterator, Tuple, Type
 
-from .files import File
+from .file import File
 from .queues import SECONDS, Asked, spelled
 
 _COUNTED = "x-delivery-count"

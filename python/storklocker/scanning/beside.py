@@ -8,7 +8,7 @@ import os
 from typing import Optional
 
 from .budget import TooMuch
-from .files import File, is_url
+from .file import File, is_url
 from .places import places_of
 from .source import Source, in_memory
 
@@ -37,7 +37,7 @@ def _of_file(path: str) -> Optional[bytes]:
 
 
 def _of_url(path: str) -> Optional[bytes]:
-    from .remote import opened
+    from .remote import opened  # few files are at URLs
 
     with contextlib.suppress(FileNotFoundError), opened(path) as file:
         return file.read(_MOST + 1)

@@ -9,7 +9,8 @@ import pickle
 import threading
 from typing import Any, Deque, Dict, Iterable, Iterator, List, NamedTuple, Tuple
 
-from .files import File, batches
+from .file import File
+from .files import batches
 from .isolated import Isolated
 from .judging import Question
 from .lacking import needs

@@ -11,7 +11,7 @@ import sys
 from collections import Counter
 from typing import Callable, Dict, Iterable, Iterator, Optional, Sequence, Union
 
-from .. import __version__
+from .._storklocker import version as __version__
 from .._lists import has_substitutes
 from ..explaining.command import add_command as add_explain
 from ..judge.command import add_command as add_judge
@@ -20,10 +20,12 @@ from . import formats, program, showing
 from .answering import FAULT, NO, YES, Checking, Importing, status_of
 from .choosing import Choice
 from .dangers import import_findings, list_findings, table_of
-from .files import File, Files, names_from
+from .file import File
+from .files import Files, names_from
 from .judging import Question
-from .lists import add_commands, list_of, union_of
-from .options import GUARDED, LISTS, PATH, add_descending, add_options
+from .listed import GUARDED, LISTS, list_of, union_of
+from .lists import add_commands
+from .options import PATH, add_descending, add_options
 from .pacing import grown
 from .report import Finding, shown
 from .scan import Means, scan
@@ -325,7 +327,7 @@ def _lint(asked: argparse.Namespace) -> int:
         print(_SUBSTITUTED)
     for line in _lint_lines(found):
         print(line)
-    if GETATTR in allow and not (allow._meant and GETATTR in allow._meant.substitutes):
+    if GETATTR in allow and not (allow.meant and GETATTR in allow.meant.substitutes):
         print(_GETATTR)
     severities = {finding.severity for finding in found}
     if DANGER in severities:

@@ -15,7 +15,7 @@ import sys
 from pathlib import Path
 from typing import Any, Dict, Optional, Tuple
 
-from .files import is_url
+from .file import is_url
 from .report import shown
 
 _FILE, _TABLE = "pyproject.toml", "[tool.storklocker]"

@@ -91,7 +91,7 @@ def _permitting_all(pairs: Tuple[Tuple[bytes, bytes], ...]) -> AllowList:
     texts = [(module.decode("utf-8", "replace"), name.decode("utf-8", "replace"))
              for module, name in pairs]
     old = [bytes_of_pair(it) for pair in texts for it in old_names(pair)]
-    return AllowList._of([*pairs, *old], None, None, _SETTINGS)
+    return AllowList.of_encoded([*pairs, *old], None, None, _SETTINGS)
 
 
 # (the files of a scan mostly import the same names)

@@ -14,10 +14,10 @@ from importlib.machinery import PathFinder
 from pathlib import Path
 from typing import Container, Dict, FrozenSet, Iterable, Iterator, List, Optional, Tuple
 
-from .. import lists
-from .._lists import AllowList
+from .._lists import AllowList, shipped_list
 from .._meant import EVERYTHING
 from .._names import RENAMED, modules_of, renamed
+from .._shipped import names as shipped_names
 from .known import HARMLESS, Known, Row
 from .report import LONGEST, Finding, Pair, shown
 from .severity import DANGER, WARNING
@@ -89,13 +89,13 @@ def known() -> Known:
 @functools.lru_cache(maxsize=None)
 def _listed() -> FrozenSet[Tuple[str, str]]:
     """The names in the shipped lists, but for those that a guard loads otherwise."""
-    held = [getattr(lists, name) for name in lists.__all__]
+    held = map(shipped_list, shipped_names())
     return frozenset(pair for allow in held for pair in allow if pair not in _substituted(allow))
 
 
 def _substituted(allow: AllowList) -> Container[Tuple[str, str]]:
     """The names of a list for which it has substitutes."""
-    return () if allow._meant is None else allow._meant.substitutes
+    return () if allow.meant is None else allow.meant.substitutes
 
 
 def judged(module: str, name: str) -> Optional[Row]:

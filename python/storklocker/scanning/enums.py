@@ -46,6 +46,10 @@ class _Members(Calls):
     def __init__(self, source: Source, at: int) -> None:
         super().__init__(source, at, Walk.most, lambda name, call: None)
 
+    def has_answer(self) -> bool:
+        """Whether `getattr`, or what it answers, is on top."""
+        return type(self._stack[-1]) is _Member or _is_getattr(self._stack[-1])
+
     def _pop(self) -> Any:
         return _passed(super()._pop())
 
@@ -92,7 +96,7 @@ def _is_enum(value: Any) -> bool:
 def _receiving(act: Callable[[Any], object]) -> Callable[[Any], object]:
     def received(walk: _Members) -> None:
         act(walk)
-        if type(walk._stack[-1]) is _Member or _is_getattr(walk._stack[-1]):
+        if walk.has_answer():
             raise _Otherwise
 
     return received

@@ -6,36 +6,16 @@ import itertools
 import operator
 import os
 import sys
-from typing import Callable, Dict, Iterable, Iterator, List, NamedTuple, Optional, Tuple
+from typing import Callable, Dict, Iterable, Iterator, List, Optional
 
 from .choosing import Choice
-from .report import Report
+from .file import File, is_url
 from .places import places_of
 
 _BLOCK = 100_000
 """How many entries of a folder are sorted at once."""
-
-
 _SYSTEM = frozenset(("/dev", "/proc", "/sys"))
 """Folders of devices, and of what looks like files."""
-
-
-class File(NamedTuple):
-    """A file to scan."""
-
-    path: str
-    is_opened: bool = True
-    """Whether to open it: it is a regular file, or it was named on the command line."""
-    size: int = 0
-    """Its size in bytes, where that is known."""
-    stamp: str = ""
-    """What changes whenever the file does, where that is known."""
-    known: Optional[Tuple[Report, ...]] = None
-    """The reports on it, of an earlier scan."""
-    held: str = ""
-    """Where its bytes are, if not in `path`."""
-    value: Optional[bytes] = None
-    """Its bytes, if it is a value of a store or a message of a queue, which come with it."""
 
 
 class Files:
@@ -65,11 +45,9 @@ class Files:
     def __iter__(self) -> Iterator[File]:
         for path in self._paths:
             if scheme_of(path) in QUEUES:
-                from .queues import values_at
-
-                yield from values_at(path, self)
+                yield from _values_at(path, self)
             elif is_url(path):
-                from .remote import files_at
+                from .remote import files_at  # few files are at URLs
 
                 yield from files_at(path, self)
             elif path != "-" and os.path.isdir(path):
@@ -168,9 +146,21 @@ def scheme_of(path: str) -> str:
     return scheme if mark else ""
 
 
-def is_url(path: str) -> bool:
-    """Whether a path is one for fsspec, such as `s3://bucket/folder`."""
-    return "://" in path
+def _values_at(url: str, files: Files) -> Iterator[File]:
+    """The values at a URL of a store or a queue, one after another."""
+    from .queues import asked_by  # few files are such values
+
+    if url.startswith("redis"):
+        from .redis_values import values_in_redis  # (the same)
+
+        return values_in_redis(asked_by(url, ("match",)), files)
+    if url.startswith("amqp"):
+        from .amqp_messages import messages_in_queue  # (the same)
+
+        return messages_in_queue(asked_by(url, ("queue",)))
+    from .kafka_messages import messages_of_topic  # (the same)
+
+    return messages_of_topic(asked_by(url, ()), files)
 
 
 def _measured(path: str) -> File:

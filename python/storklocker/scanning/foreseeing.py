@@ -25,9 +25,10 @@ from .._items import SHOWING
 from .._of_packages import PACKAGES
 from .._states import HAS_ITEMS, HAS_STATE
 from .._substitute import Class, Substitute, Value
-from .._substitutes import STEPS_FREE, TABLE, Piece, Reader, _for_object, meant
+from .._reader import STEPS_FREE, Reader, meant
+from .._table import TABLE, for_object
 from .._types import Kind
-from .._uses import Uses, named_by
+from .._uses import Piece, Uses, named_by
 from .budget import LOOKED_AT, Budget, TooMuch
 from .called import LARGEST
 from .dangers import is_in_shipped_list
@@ -259,7 +260,7 @@ class Foreseer(Reader):
             import numpy  # noqa: F401 # (raises ImportError, where nothing of it is known)
 
         it = found(*pair) if pair[0] in sys.modules or pair[0] in SHOWING else None
-        return _for_object(it)
+        return for_object(it)
 
     def find_class(self, module: str, name: str, /) -> Any:
         pair = renamed((module, name)) if self.is_old else (module, name)

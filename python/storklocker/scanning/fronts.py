@@ -27,7 +27,7 @@ def is_refused(path: Path, allow: Optional[AllowList]) -> bool:
     """Whether a guard with the list refuses every file that begins with these bytes. Where joblib's
     arrays may lie between the instructions, only the whole file tells.
     """
-    if allow is None or any(map(allow._permits, WRAPPER_NAMES)):
+    if allow is None or any(map(allow.permits, WRAPPER_NAMES)):
         return False
     data = path.read_bytes()
     found = check(data, allow)

@@ -16,11 +16,11 @@ import tempfile
 from pathlib import Path
 from typing import Dict, List, NamedTuple, Optional, Sequence
 
-from .files import File, is_url
+from .file import File, is_url
 from .fronts import is_refused
 from .judging import Question
 from .report import Finding, Report, report_of, unreadable
-from .scan import scan_file
+from .one_file import scan_file
 
 TRIES = 2
 """How often a file is read, if each time the process ends."""
@@ -74,7 +74,7 @@ class Isolated:
                 return self._tried(file._replace(held=str(Path(folder, "value"))))
         if not is_url(file.path):
             return self._tried(file)
-        from .remote import held
+        from .remote import held  # few files are at URLs
 
         try:
             with held(file) as copied:

@@ -11,6 +11,7 @@ from typing import TYPE_CHECKING, BinaryIO, Dict, Iterator, List, NamedTuple, Op
 from .._answers import RowVerdict, Verdict
 from .._hints import hint_of
 from .._lists import AllowList, within
+from .all_readings import asked
 from .budget import NAMES, STEP, Budget, TooMuch
 from .called import called_findings
 from .costs import COUNTED, bill_of, cost_finding
@@ -23,13 +24,14 @@ from .kept import NOTHING as KEEPS_NOTHING
 from .kept import told_of_kept
 from .names import pair_of
 from .readings import (
-    Answer, Beside, Found, Nothing, Piece, Place, Reading, Together, Unread, all_asked, examine,
-    examined_value, is_text, nothing,
+    Answer, Beside, Found, Nothing, Piece, Place, Reading, Together, Unread, examine, nothing
 )
+from .recognized import is_text
 from .report import LONGEST, Finding, Pair, Report, judged, unreadable
 from .rows import Row, row_of
 from .severity import DANGER, MILD, UNRECOGNIZED
 from .source import Source, in_memory, source_of
+from .stores import examined_value
 from .words import Word
 
 if TYPE_CHECKING:
@@ -64,7 +66,6 @@ class Question(NamedTuple):
 
 def prepare() -> None:
     """Does what is done with the first file."""
-    all_asked()
     import_findings([("nowhere", "unknown")])  # which is looked for in all tables
 
 
@@ -84,7 +85,7 @@ def reports_of(
     except TooMuch as error:
         yield _too_much(error, path)
         return
-    place = Place(path, source, Budget(source.size), beside=beside)
+    place = Place(path, source, Budget(source.size), asked, beside=beside)
     found = _reports_on(place, question, may_be_lone)
     yield from with_sha256(found, source) if question.with_sha256 else found
 
@@ -95,7 +96,7 @@ def reports_of_value(path: str, value: bytes, question: Question) -> Iterator[Re
     """
     _judge_by(question.dangers)
     source = in_memory(io.BytesIO(value))
-    place = Place(path, source, Budget(source.size), around="value")
+    place = Place(path, source, Budget(source.size), asked, around="value")
     found = _reports_on(place, question, True, examined_value)
     yield from with_sha256(found, source) if question.with_sha256 else found
 
@@ -125,10 +126,10 @@ def _judge_by(dangers: str) -> None:
     global _lone
     if judge_by(dangers):
         _texts_of.cache_clear()
-        _lone = Lone(_lone.allow)
+        _lone = Lone(_lone.allow, asked)
 
 
-_lone = Lone(None)
+_lone = Lone(None, asked)
 """Tells of lone pickles under the list of the last file."""
 
 
@@ -161,7 +162,7 @@ def _with_calls(
     if all(it.severity != DANGER for it in findings):
         return findings
     from .calls import with_calls  # most scans have no need of these
-    from .enums import without_members
+    from .enums import without_members  # (the same)
 
     findings = without_members(findings, source, end, budget)
     if question.members is not None:
@@ -172,7 +173,7 @@ def _with_calls(
 def _lone_under(allow: Optional[AllowList]) -> Lone:
     global _lone
     if _lone.allow is not allow:
-        _lone = Lone(allow)
+        _lone = Lone(allow, asked)
     return _lone
 
 
@@ -276,7 +277,7 @@ def _told_together(it: Together, question: Question, place: Place) -> Report:
 def _counts(row: Row, allow: Optional[AllowList]) -> bool:
     """Whether an import of a broken pickle is off the list; without one, known to do harm."""
     if allow is not None:
-        return not (row.is_complete and all(map(allow._permits, row.names)))
+        return not (row.is_complete and all(map(allow.permits, row.names)))
     found = import_findings(map(pair_of, row.names))
     return not row.is_complete or any(finding.severity not in MILD for finding in found)
 
@@ -386,7 +387,7 @@ def _shown_names(
 ) -> Tuple[Tuple[Pair, ...], Tuple[Pair, ...]]:
     """The imports, and those off the list, as far as there is room for them: the latter first."""
     def is_off(both: "Names") -> bool:
-        return allow is not None and not allow._permits(both)
+        return allow is not None and not allow.permits(both)
 
     kept: Dict["Names", Pair] = {}
     off = () if allow is None or row.refusal is None else filter(is_off, row.names)

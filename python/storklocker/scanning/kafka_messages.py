@@ -6,7 +6,7 @@ import contextlib
 from typing import TYPE_CHECKING, Any, Dict, Iterator, Tuple
 from urllib.parse import urlsplit
 
-from .files import File
+from .file import File
 from .queues import SECONDS, Asked, is_plain, spelled
 
 if TYPE_CHECKING:

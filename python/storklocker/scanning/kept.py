@@ -199,7 +199,7 @@ def told_of_kept(
     findings.append(Finding("differing-readings", said))
     if allow is None or status is Word.REFUSED:
         return status, why
-    if kept.is_complete and all(map(allow._permits, kept.names)):
+    if kept.is_complete and all(map(allow.permits, kept.names)):
         return status, why
     findings.append(Finding("refused", said))
     return Word.REFUSED, f"no: {said}"

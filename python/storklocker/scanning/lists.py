@@ -3,22 +3,19 @@
 from __future__ import annotations
 
 import argparse
-import functools
-import operator
 import re
 import sys
 from pathlib import Path
 from typing import Dict, Iterable, Iterator, List, Tuple
 
-from .. import lists as shipped
-from .._answers import ListFault
+from .. import _shipped as shipped
 from .._limits import COSTS, costs_said
 from .._lists import AllowList
-from .._meant import EVERYTHING, Meant, require
+from .._meant import EVERYTHING
 from .._meant import of as meant_in
 from .._writing import dotted, quoted, replace, row_of
 from .dangers import danger_of
-from .options import LISTS
+from .listed import LISTS, list_of, said_by, union_of
 from .report import shown
 
 Pair = Tuple[str, str]
@@ -53,28 +50,6 @@ def add_commands(commands: "argparse._SubParsersAction[argparse.ArgumentParser]"
         "--dangerous", action="store_true", help="also add names that are known to be dangerous"
     )
     add.set_defaults(run=_add)
-
-
-def list_of(path: str) -> AllowList:
-    """The list of a file, or of names of shipped lists. Raises OSError that locates a fault."""
-    try:
-        return AllowList.from_file(path)
-    except ListFault as error:
-        raise OSError(str(error)) from None
-    except ValueError as error:
-        raise OSError(str(error) if path.startswith("@") else f"{path}: {error}") from None
-
-
-def union_of(given: Iterable[str]) -> AllowList:
-    """The union of these lists, which a guard would take: each is a file, or names of shipped
-    lists, such as `@numpy`.
-    """
-    try:
-        made = functools.reduce(operator.or_, map(list_of, given))
-        require(made)
-    except ValueError as error:  # two substitutes for a name, or a name that permits everything
-        raise OSError(f"{', '.join(given)}: {error}") from None
-    return made
 
 
 def _show(asked: argparse.Namespace) -> int:
@@ -129,13 +104,6 @@ def _limits_of(allow: AllowList) -> Dict[str, str]:
 
 def _rules_of(allow: AllowList) -> Dict[str, str]:
     return {} if allow.build is None else {"build": allow.build}
-
-
-def said_by(meant: Meant) -> Dict[str, str]:
-    from .._sections import said_of
-
-    said = {shown(dotted(pair)): "dangerous" for pair in meant.dangerous}
-    return {**said, **{dotted(it): said_of(it, its) for it, its in meant.substitutes.items()}}
 
 
 def _add(asked: argparse.Namespace) -> int:

@@ -15,7 +15,7 @@ from .dangers import import_findings
 from .joblib_files import WRAPPER_NAMES
 from .marks import is_plain
 from .names import NOTHING, limits_under, named_today, pair_of
-from .readings import all_asked
+from .readings import Asked
 from .report import LONGEST, Finding, Pair, sorted_findings
 from .rows import CLAIM, limits_costs, may_be_listed
 from .severity import MILD
@@ -45,7 +45,8 @@ class Lone:
     what all the readings and a `Row` tell, which take longer.
     """
 
-    def __init__(self, allow: Optional[AllowList]) -> None:
+    def __init__(self, allow: Optional[AllowList], asked: Asked) -> None:
+        self._asked = asked
         self.allow, listed = allow, NOTHING if allow is None else allow
         self._is_limited = limits_costs(listed)
         self._look: Union[foreseeing.Look, called.Look, None] = None
@@ -65,7 +66,7 @@ class Lone:
         """
         if self._is_limited or not CLAIM.match(data):
             return None
-        if not is_plain(path, data) and len(all_asked()(path, in_memory(io.BytesIO(data)))) > 1:
+        if not is_plain(path, data) and len(self._asked(path, in_memory(io.BytesIO(data)))) > 1:
             return None  # others than that of pickles
         verdict, wanted, room = imports(data, NOTHING, self._settings, _ROOM)
         if verdict.taken != len(data) or wanted > _ROOM:
@@ -148,7 +149,7 @@ class Lone:
         if self.allow is not None:
             return self.foresight()
         if self._look is None:
-            from . import called
+            from . import called  # most scans have no need of it
 
             self._look = called.Look()
         return self._look
@@ -159,7 +160,7 @@ class Lone:
         """
         made = tuple(named_today(records(room), front))
         names = tuple(dict.fromkeys(made))
-        is_permitted = may_be_listed if self.allow is None else self.allow._permits
+        is_permitted = may_be_listed if self.allow is None else self.allow.permits
         if not all(map(is_permitted, names)) or WRAPPER_NAMES.intersection(names):
             return None
         pairs = tuple(map(pair_of, names))

@@ -5,13 +5,12 @@ from __future__ import annotations
 import argparse
 from typing import Any, Optional, Sequence, Union
 
+from .listed import GUARDED, LISTS
 from .showing import FORMATS, SHOW
 from .summary import FAIL_ON
 
 PATH = "a file, a folder, or - for standard input"
 _URL = f"{PATH}; or a URL of either that fsspec opens"
-LISTS = "the list file of permitted names, or @NAME,@NAME for shipped lists; several are united"
-GUARDED = "undecided files don't cause status 1: a guard with this list will load them"
 
 
 class _Append(argparse.Action):

@@ -6,7 +6,8 @@ import hashlib
 import time
 from typing import Dict, Iterable, Iterator
 
-from .files import File, Files
+from .file import File
+from .files import Files
 
 _PAUSE, _SHARE = 1.0, 4
 """The seconds after which sources are looked at again; and how many times what the last look took.

@@ -5,8 +5,8 @@ from __future__ import annotations
 import re
 
 from .caches import packed_behind
-from .kinds import is_safetensors
 from .readings import Found, Place, examine
+from .recognized import is_safetensors
 from .stores import is_pickle
 
 _TORCH = b"\x80\x02\x8a\nl\xfc\x9cF\xf9 j\xa8P\x19."

@@ -12,10 +12,11 @@ import sys
 import threading
 from typing import Deque, Iterable, Iterator, List, Tuple
 
-from .files import File, batches
+from .file import File
+from .files import batches
 from .judging import Question, prepare
 from .report import Report
-from .scan import reports_on
+from .one_file import reports_on
 
 _FILES, _BYTES = 32, 1 << 18
 """The most files and bytes in the batch of a process. The latter spreads a few large files."""

@@ -43,7 +43,7 @@ def is_of_program(words: Sequence[str]) -> bool:
 def _list(asked: argparse.Namespace) -> int:
     if not asked.stack:
         return become_program(["dis", "--", asked.file])
-    from ..explaining.stacks import list_with_stacks
+    from ..explaining.stacks import list_with_stacks  # few runs show stacks
 
     try:
         return list_with_stacks(PROGRAM, asked.file)

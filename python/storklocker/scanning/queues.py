@@ -4,15 +4,12 @@ from __future__ import annotations
 
 import hashlib
 import importlib
-from typing import TYPE_CHECKING, Any, Iterator, NamedTuple, Tuple
+from typing import Any, NamedTuple, Tuple
 from urllib.parse import parse_qsl, quote_from_bytes, urlsplit, urlunsplit
 
-from .files import File
+from .file import File
 from .lacking import needs
 from .report import Finding, unreadable
-
-if TYPE_CHECKING:
-    from .files import Files
 
 MOST = 1 << 28
 """The most bytes of a value that are read."""
@@ -76,18 +73,3 @@ def is_plain(name: bytes) -> bool:
 def spelled(name: bytes) -> str:
     """A name of a store, as part of a path."""
     return quote_from_bytes(name, safe=":{}@.-_,=+")
-
-
-def values_at(url: str, files: Files) -> Iterator[File]:
-    """The values at a URL, one after another."""
-    if url.startswith("redis"):
-        from .redis_values import values_in_redis
-
-        return values_in_redis(asked_by(url, ("match",)), files)
-    if url.startswith("amqp"):
-        from .amqp_messages import messages_in_queue
-
-        return messages_in_queue(asked_by(url, ("queue",)))
-    from .kafka_messages import messages_of_topic
-
-    return messages_of_topic(asked_by(url, ()), files)

@@ -13,14 +13,13 @@ for bytes without a pickle. It returns whether its reader takes the file at all.
 
 from __future__ import annotations
 
-import functools
-import re
 from typing import (
-    TYPE_CHECKING, Callable, Generator, List, NamedTuple, Optional, Sequence, Tuple, Union
+    TYPE_CHECKING, Any, Callable, Generator, List, NamedTuple, Optional, Sequence, Tuple, Union
 )
 
 from .budget import DEPTH, STEP, Budget, TooMuch
 from .foreign import Foreign, foreign_of
+from .recognized import name_of
 from .report import LONGEST, Finding
 from .severity import UNRECOGNIZED
 from .source import Source
@@ -97,6 +96,8 @@ class Place(NamedTuple):
     path: str
     source: Source
     budget: Budget
+    asked: "Asked"
+    """Gives the readings that have to be asked about a file."""
     depth: int = DEPTH
     """How many containers may still be opened inside one another."""
     around: str = "pickle"
@@ -116,7 +117,7 @@ class Place(NamedTuple):
     def inside(self, name: str, source: Source, around: str, is_cut: bool = False) -> "Place":
         """A member of this place, or what it unpacks to if there is no name."""
         path = f"{self.path}!{name[:LONGEST]}" if name else self.path
-        return Place(path, source, self.budget, self.depth - 1, around, is_cut)
+        return Place(path, source, self.budget, self.asked, self.depth - 1, around, is_cut)
 
     def foreign(self, it: Foreign) -> Nothing:
         """What this place is that isn't read here."""
@@ -128,6 +129,8 @@ class Place(NamedTuple):
 
 
 Reading = Callable[[Place], Found]
+Asked = Callable[[str, Source], Sequence[Tuple[str, Any]]]
+"""Readings by name, for the path of a file or of a member and its bytes."""
 _SEARCHED = "searched for pickles, not read as its programs read it"
 _ONLY = {
     "npy": "numbers only",
@@ -138,36 +141,13 @@ _ONLY = {
 """What is in a file that a reader takes, and in which it finds no pickle."""
 
 
-def is_text(front: bytes) -> bool:
-    """Whether these first bytes of a file are printable text."""
-    if _CONTROL.search(front, 0, _SOON):
-        return False
-    text = front.decode("utf-8", "ignore").translate(_WHITE)
-    return text.isprintable() and 2 * len(text) >= len(front)
-
-
-_WHITE = {ord(white): " " for white in "\n\r\t\f"}
-_CONTROL, _SOON = re.compile(rb"[\0-\x08\x0b\x0e-\x1f\x7f]"), 256
-"""What no text has, which pickles of protocol 2 and later have soon. Decoding takes longer."""
-
-
-@functools.lru_cache(maxsize=None)
-def all_asked() -> Callable[[str, Source], Sequence[Tuple[str, Reading]]]:
-    """What gives the readings to ask. It is imported late, because they import this module, and
-    once, because that takes as long as some of them.
-    """
-    from .all_readings import asked
-
-    return asked
-
-
 def examine(place: Place) -> Found:
     """All readings of a file or a member. Returns whether any reader takes it."""
     reports = place.budget.reports
     takers: List[str] = []
     if place.depth < 0:
         raise TooMuch(f"containers are nested more than {DEPTH} deep")
-    asked = all_asked()(place.path, place.source)
+    asked = place.asked(place.path, place.source)
     place.budget.spend(2 * STEP * (1 + len(asked)))
     for name, reading in asked:
         if (yield from reading(place)):
@@ -179,21 +159,10 @@ def examine(place: Place) -> Found:
     return bool(takers)
 
 
-def examined_value(place: Place) -> Found:
-    """All readings of a value of a store; if no reader takes it, the pickles that are in it."""
-    from .stores import searched
-
-    if (yield from examine(place)):
-        return True
-    return (yield from searched(place, place.around))
-
-
 def _told_of(place: Place, takers: List[str], reports: int) -> Found:
     """What is told of a file beside its pickles: the code in it; or else what it is, if there is
     nothing else to tell.
     """
-    from .kinds import name_of
-
     for it in foreign_of(place.path, place.source, place.budget.spend):
         yield place.foreign(it)
     if len(takers) < 2 and place.budget.reports == reports:

@@ -7,7 +7,7 @@ import re
 from typing import TYPE_CHECKING, Any, Dict, Iterator, Tuple
 from urllib.parse import urlsplit
 
-from .files import File
+from .file import File
 from .queues import MOST, SECONDS, Asked, is_plain, spelled
 
 if TYPE_CHECKING:

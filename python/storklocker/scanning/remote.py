@@ -7,13 +7,16 @@ import functools
 import shutil
 import tempfile
 from pathlib import Path
-from typing import Any, BinaryIO, Dict, Iterator, List, Tuple
+from typing import TYPE_CHECKING, Any, BinaryIO, Dict, Iterator, List, Tuple
 
 from . import over_http
-from .files import File, Files
+from .file import File
 from .lacking import needs
 from .places import places_of
 from .ranges import in_blocks
+
+if TYPE_CHECKING:
+    from .files import Files
 
 _STAMPS = ("ETag", "etag", "LastModified", "last_modified", "mtime", "updated", "created")
 """What the file systems of fsspec call that which changes with a file."""

@@ -21,7 +21,8 @@ from .kept import apart_in, kept_in, stream_in
 from .names import NOTHING, WIDEST, Imports, imports_within, limits_under
 from .names import named_today, refused_with
 from .reaching import READERS_STOP, reached
-from .readings import Piece, is_text
+from .readings import Piece
+from .recognized import is_text
 from .source import in_memory
 
 if TYPE_CHECKING:
@@ -128,7 +129,7 @@ class Row:
         if not verdict:
             names = dict.fromkeys((*names, *self._refused(verdict, found)))
         self.is_complete &= found.is_complete
-        is_listed = found.is_complete and all(map(self._listed._permits, names))
+        is_listed = found.is_complete and all(map(self._listed.permits, names))
         is_listed = is_listed and is_within and not self._is_limited
         if not (verdict and is_listed) and self.refusal is None:
             self._judge(data, verdict)
@@ -148,7 +149,7 @@ class Row:
         taken, names = found.verdict.taken, found.names
         if taken >= _AT_ONCE or not found.is_complete or self._is_limited:
             return False
-        if not all(map(may_be_listed if self._allow is None else self._allow._permits, names)):
+        if not all(map(may_be_listed if self._allow is None else self._allow.permits, names)):
             return False
         self.names, self.pickles, self.taken = dict(names), 1, taken
         self.imports = found.verdict.imports
@@ -213,7 +214,7 @@ class Row:
         if stream is None:
             return False
         apart = apart_in(self.source, self.taken, self.names, stream, self._budget)
-        if self._allow is not None and not all(map(self._allow._permits, apart)):
+        if self._allow is not None and not all(map(self._allow.permits, apart)):
             return False
         self.names = dict.fromkeys((*stream.names, *apart))
         self.source = in_memory(io.BytesIO(stream.joined))
@@ -340,7 +341,7 @@ class Row:
         """The answer to pickles that may import what was imported, and may cost little."""
         names = [(module, name) for module, name in self.names if module is not None and name]
         under = NOTHING if self._allow is None else self._allow
-        allow = AllowList._of(names, under.limits, under.build)
+        allow = AllowList.of_encoded(names, under.limits, under.build)
         limits, costs = self.limits(len(data)), self.costly is None
         asked = with_costs(limits) if costs else limits
         verdict = check_row(data, allow, limits=asked, build="made" if costs else "any")

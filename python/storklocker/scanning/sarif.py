@@ -9,7 +9,7 @@ import re
 from typing import Any, Dict, Iterable, Iterator, List
 from urllib.parse import quote
 
-from .files import is_url
+from .file import is_url
 from .report import Finding, Report, dotted, shown
 from .severity import (
     DANGER, KINDS, NOTE, REFUSED, SEVERITIES, UNDECIDED, UNKNOWN, UNREADABLE, WARNING

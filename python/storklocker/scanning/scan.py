@@ -2,116 +2,14 @@
 
 from __future__ import annotations
 
-import contextlib
-import errno
-import os
-import stat
-import sys
-from typing import (
-    BinaryIO, ContextManager, Iterable, Iterator, List, NamedTuple, Optional, TextIO, Tuple
-)
+from typing import Iterable, Iterator, List, NamedTuple, Optional, TextIO, Tuple
 
-from .beside import beside
-from .condensing import condensed, is_small
-from .files import File, is_url
-from .judging import Question, lone_report, reports_of, reports_of_value
+from .file import File
+from .judging import Question
+from .one_file import reports_on
 from .pacing import paced
-from .report import Finding, Report, of_one_file, unreadable
-from .source import whole_of
+from .report import Report, of_one_file
 from .summary import Progress
-from .words import Word
-
-_NOTHING = (errno.ENOENT, errno.ENOTDIR, errno.ELOOP)
-
-
-def scan_file(file: File, question: Question) -> List[Report]:
-    """The reports on a file; `-` is standard input."""
-    name = _name_of(file)
-    if not file.is_opened and _is_dangling(name):
-        finding = Finding("dangling-link", "a link to nothing")
-        return [Report(name, "link", Word.NO_PICKLE, finding.why, findings=(finding,), file=name)]
-    reports: List[Report] = []
-    try:
-        if file.value is not None:
-            found = reports_of_value(name, file.value, question)
-            reports += condensed(found)
-        elif file.path == "-" or is_url(file.path) and not file.held:
-            with _opened(file.path) as opened:
-                _examine(opened, file, question, reports)
-        else:
-            _examine_local(file, question, reports)
-        return reports
-    except MemoryError:
-        why = "out of memory"
-    except OSError as error:
-        why = error.strerror or str(error)
-    except Exception as error:  # one file must not stop the scan of the others
-        why = f"cannot read it: {type(error).__name__}: {error}"
-    return [*reports, unreadable(name, "file", Finding("unreadable", why), name)]
-
-
-def _name_of(file: File) -> str:
-    return "standard input" if file.path == "-" else file.path
-
-
-def reports_on(file: File, question: Question) -> List[Report]:
-    """The reports on a file, or those of an earlier scan."""
-    return scan_file(file, question) if file.known is None else list(file.known)
-
-
-def _is_dangling(path: str) -> bool:
-    """Whether it is a link to nothing, where no reader reads anything."""
-    try:
-        os.stat(path)
-    except OSError as error:
-        return error.errno in _NOTHING and os.path.islink(path)
-    return False
-
-
-def _opened(path: str) -> ContextManager[BinaryIO]:
-    if path == "-":
-        return contextlib.nullcontext(sys.stdin.buffer)
-    from .remote import opened
-
-    return opened(path)
-
-
-def _examine_local(file: File, question: Question, reports: List[Report]) -> None:
-    """Adds the reports on a file of this machine, which is opened once: a pipe has one reader."""
-    descriptor = _descriptor_of(file)
-    try:
-        lone = lone_report(file.path, whole_of(descriptor), question)
-        if lone is None:
-            # (buffered if it isn't small; or else it asks for a terminal)
-            with open(descriptor, "rb", 0, closefd=False) as opened:
-                _examine(opened, file, question, reports, False)
-        elif is_small(lone):
-            reports.append(lone)
-        else:
-            reports.extend(condensed([lone]))
-    finally:
-        os.close(descriptor)
-
-
-def _examine(
-    opened: BinaryIO,
-    file: File,
-    question: Question,
-    reports: List[Report],
-    may_be_lone: bool = True,
-) -> None:
-    """Adds the reports on an opened file, one after another: what is told stays, if it fails."""
-    found = reports_of(_name_of(file), opened, question, lambda: beside(file), may_be_lone)
-    for report in condensed(found):
-        reports.append(report)
-
-
-def _descriptor_of(file: File) -> int:
-    if file.is_opened:
-        return os.open(file.held or file.path, os.O_RDONLY)
-    if stat.S_ISDIR(os.stat(file.path).st_mode):
-        raise OSError("a folder of devices, or a link to one or to a folder around it: not entered")
-    raise OSError("not a regular file")  # a pipe could block forever
 
 
 class Means(NamedTuple):
@@ -136,7 +34,7 @@ def scan(
     """Yields the reports on all files, in the order in which they are listed."""
     told, store = Progress(progress), None
     if means.resume:
-        from .store import Store
+        from .store import Store  # few scans go on with another
 
         store = Store(means.resume, question)
         files = store.marked(files)
@@ -158,11 +56,11 @@ def _scanned(
     files: Iterable[File], question: Question, means: Means
 ) -> Iterator[Tuple[File, List[Report]]]:
     if means.cluster:
-        from .cluster import scan_in_cluster
+        from .cluster import scan_in_cluster  # few scans have any
 
         return scan_in_cluster(files, question, means.cluster)
     if means.jobs > 1:
-        from .processes import scan_in_processes
+        from .processes import scan_in_processes  # it needs modules that take long
 
         return scan_in_processes(files, question, means.jobs)
     return ((file, reports_on(file, question)) for file in files)

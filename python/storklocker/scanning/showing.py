@@ -8,10 +8,10 @@ import shlex
 import sys
 from typing import Iterable, Iterator
 
-from .. import __version__
+from .._storklocker import version as __version__
 from . import formats
 from .colour import paint_for
-from .files import is_url
+from .file import is_url
 from .report import Report, shown
 from .severity import DANGER, NOTE, SEVERITIES, UNKNOWN, WARNING
 from .summary import Summary, counted
@@ -36,18 +36,18 @@ def lines(asked: argparse.Namespace, reports: Iterable[Report], told: Summary) -
     if asked.format == "table":
         return _table(asked, reports, told)
     if asked.format in ("sarif", "html"):
-        from ..explaining.reports import explained
+        from ..explaining.reports import explained  # a table has no need of it
 
         reports = explained(reports)
     if asked.format == "sarif":
-        from . import sarif
+        from . import sarif  # (the same)
 
         return sarif.as_sarif(reports, __version__)
     if asked.format == "junit":
-        from . import junit
+        from . import junit  # (the same)
 
         return junit.as_junit(reports, counted(asked.fail_on, asked.guarded))
-    from . import html
+    from . import html  # (the same)
 
     return html.page(reports, __version__)
 

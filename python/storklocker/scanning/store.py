@@ -9,11 +9,11 @@ import os
 import sqlite3
 from typing import Iterable, Iterator, List
 
-from .. import __version__
+from .._storklocker import version as __version__
 from .._meant import of as meant_in
-from .files import File
+from .file import File
 from .judging import Question
-from .lists import said_by
+from .listed import said_by
 from .report import Report, report_of
 
 _TABLES = """

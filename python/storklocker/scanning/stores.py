@@ -26,7 +26,8 @@ from .dangers import may_be_imported, may_be_there
 from .marks import HDF5, LMDB
 from .names import NOTHING, imports_within, verdict_on
 from .reaching import ALL_STOP, reached, reached_within
-from .readings import Found, Piece, Place, Reading, is_text
+from .readings import Found, Piece, Place, Reading, examine
+from .recognized import is_text
 from .source import BLOCK, Source, in_memory
 from .spelled import LENGTHS
 from .trails import Trail, Trails
@@ -118,6 +119,13 @@ def searched(
         yield _piece(place, kind, _start_of(trail, place))
     yield from values.told()
     return True
+
+
+def examined_value(place: Place) -> Found:
+    """All readings of a value of a store; if no reader takes it, the pickles that are in it."""
+    if (yield from examine(place)):
+        return True
+    return (yield from searched(place, place.around))
 
 
 def _packed(place: Place, kind: str, block: Block) -> Found:

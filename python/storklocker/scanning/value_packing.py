@@ -10,10 +10,11 @@ from typing import Any, Callable, Iterable, Iterator, Optional, Sequence, Tuple
 
 from .budget import LOOKED_AT, STEP, Budget
 from .names import NOTHING, imports_within
-from .packed import UNREAD, streams_at, unpack
+from .packed import UNREAD, streams_at
+from .unpacking import unpack
 from .patterns import ANY, NUL, Front, fronts_of
 from .reaching import READERS_STOP
-from .readings import is_text
+from .recognized import is_text
 from .rows import CLAIM
 from .source import Source, in_memory
 from .spelled import LENGTHS

@@ -51,7 +51,7 @@ class Values:
         if self._listed is None:
             pairs = {pair for told in self._told.values() for pair in told.imports}
             names = [bytes_of_pair((module or "", name or "")) for module, name in pairs]
-            self._listed = AllowList._of(names, None, None)
+            self._listed = AllowList.of_encoded(names, None, None)
         self._budget.spend(STEP // 2 + (sum(ends) - sum(begins)) // LOOKED_AT)
         found = self._lone.quiet_of(data, begins, ends, self._listed)
         self._budget.spend(STEP // 2 * found[0] + self._lone.spent())

@@ -15,7 +15,8 @@ from .batches import parts_of
 from .budget import LOOKED_AT, PROBED, STEP
 from .checkpoints import checkpoint_reading
 from .foreign import foreign_members
-from .packed import MEMORY, NO_MODULE, bzip2, unpack
+from .packed import NO_MODULE
+from .unpacking import MEMORY, bzip2, unpack
 from .readings import Found, Place
 from .places import places_of
 from .source import BLOCK, Source, in_memory

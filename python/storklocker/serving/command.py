@@ -30,6 +30,6 @@ def run(asked: argparse.Namespace) -> int:
         why = "serve needs aiohttp, which is not installed: pip install 'storklocker[serve]'"
         print(f"storklocker: {why}", file=sys.stderr)
         return _FAULT
-    from .daemon import run as run_daemon
+    from .daemon import run as run_daemon  # it needs aiohttp
 
     return run_daemon(asked)

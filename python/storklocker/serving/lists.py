@@ -5,10 +5,10 @@ from __future__ import annotations
 import hashlib
 from typing import Dict, List, NamedTuple, Tuple
 
-from .. import __version__
+from .._storklocker import version as __version__
 from .._lists import AllowList
 from ..scanning.judging import Question
-from ..scanning.lists import union_of
+from ..scanning.listed import union_of
 
 DEFAULT = "default"
 """The name of the list that is asked where none is named."""

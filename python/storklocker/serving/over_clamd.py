@@ -9,7 +9,7 @@ import asyncio
 import logging
 from typing import Awaitable, NamedTuple
 
-from .. import __version__
+from .._storklocker import version as __version__
 from .bodies import NoRoom, TooLarge
 from .connections import Connections
 from .desk import Answer, Desk

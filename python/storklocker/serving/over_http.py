@@ -13,7 +13,7 @@ from typing import Any, AsyncIterator, Awaitable, Callable, Dict, Optional, Tupl
 from aiohttp import web
 from aiohttp.web_protocol import RequestHandler
 
-from .. import __version__
+from .._storklocker import version as __version__
 from . import exporting, routes
 from .bodies import NoRoom, TooLarge
 from .connections import Connections

@@ -4,7 +4,7 @@ from __future__ import annotations
 
 from typing import Any, Dict, List, NamedTuple, Tuple
 
-from .. import __version__
+from .._storklocker import version as __version__
 from ..scanning.report import Report
 from ..scanning.words import Word
 

@@ -8,7 +8,7 @@ import os
 from pathlib import Path
 from typing import NamedTuple, Optional, Tuple, Union
 
-from ..scanning.options import GUARDED
+from ..scanning.listed import GUARDED
 
 _MIB = 1 << 20
 LISTED = (

@@ -11,7 +11,7 @@ from collections import deque
 from typing import Deque, List, NamedTuple, Set, Union
 
 from ..scanning import isolated
-from ..scanning.files import File
+from ..scanning.file import File
 from ..scanning.report import Report, of_one_file
 from .bodies import Body, Room
 from .lists import Lists

@@ -4,40 +4,39 @@ from __future__ import annotations
 
 import io
 import zipfile
+from pickle import UnpicklingError
 from typing import Dict
 
-from .. import Guard
-from ..scanning.budget import MEMBERS, PROBED, RATIO, UNPACKED
+from .budget import MEMBERS, PROBED, RATIO, UNPACKED
 
 
 class Archive:
     """A zip file in memory, whose members can be read.
 
-    Raises the guard's UnpicklingError if it is damaged or encrypted, if two members have the same
+    Raises UnpicklingError if it is damaged or encrypted, if two members have the same
     name, or if it unpacks to more than the bounds: 20,000 members; 1 GiB in all, or as much as the
     file has bytes; and above 64 MiB a hundred times the size of the file.
     """
 
-    def __init__(self, data: bytes, guard: Guard) -> None:
-        self._guard = guard
+    def __init__(self, data: bytes) -> None:
         try:
             self._archive = zipfile.ZipFile(io.BytesIO(data))
             self.sizes: Dict[str, int] = self._judged(len(data))
-        except guard.UnpicklingError:
+        except UnpicklingError:
             raise
         except Exception as error:  # a damaged archive may raise anything
-            raise guard.UnpicklingError(f"this is not a zip file: {error}") from error
+            raise UnpicklingError(f"this is not a zip file: {error}") from error
 
     def _judged(self, packed: int) -> Dict[str, int]:
         entries = self._archive.infolist()
         sizes = {entry.filename: entry.file_size for entry in entries}
         if len(entries) > MEMBERS:
-            raise self._guard.UnpicklingError(f"the file has more than {MEMBERS:,} members")
+            raise UnpicklingError(f"the file has more than {MEMBERS:,} members")
         if len(sizes) != len(entries):
-            raise self._guard.UnpicklingError("two members of the file have the same name")
+            raise UnpicklingError("two members of the file have the same name")
         unpacked = sum(sizes.values())
         if unpacked > max(UNPACKED, packed) or unpacked > max(PROBED, RATIO * packed):
-            raise self._guard.UnpicklingError(
+            raise UnpicklingError(
                 f"the file unpacks to {unpacked:,} bytes, which is too much for {packed:,} bytes"
             )
         return sizes
@@ -65,4 +64,4 @@ class Archive:
             with self._archive.open(name) as member:
                 return member.read(self.sizes[name])
         except Exception as error:  # a damaged or encrypted one may raise anything
-            raise self._guard.UnpicklingError(f"{name!r:.80} can't be read: {error}") from error
+            raise UnpicklingError(f"{name!r:.80} can't be read: {error}") from error
