@@ -16,7 +16,7 @@ from ._substitute import Substitute
 from ._weighing import CONTAINERS, SCALARS, values
 
 if TYPE_CHECKING:
-    from ._substitutes import Reader
+    from ._reader import Reader
 
 Judge = Callable[["Reader", Tuple[Any, ...]], None]
 _BITS, _LONGEST, _MOST = 64, 1_000, 1_000
