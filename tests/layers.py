@@ -36,7 +36,8 @@ LAYERS: Dict[str, str] = {
         _checkpoints _exceptions _types _arrays _random _builtins _calls _collections _of_*
         _compiled _states _substituted _substitutes _uses _judging substitutes""",
     "allow": """
-        _lists _missing _shipped _meant _nodes _places _sections _old_lines _writing lists""",
+        _lists _list_files _missing _shipped _meant _nodes _places _sections _old_lines
+        _writing lists""",
     "checking": "_checking _imports _hints",
     "catalogue": "scanning.known scanning.dangers _purposes _name_hints",
     "follow": """

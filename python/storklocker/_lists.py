@@ -6,7 +6,7 @@ from types import MappingProxyType
 
 from . import _names
 from ._answers import LIST_FAULTS, ListFault
-from ._limits import BUILDS, COSTS, MOST_SAID, OLD_STRINGS, Limits, least, limits_of, packed
+from ._limits import BUILDS, COSTS, OLD_STRINGS, Limits, least, limits_of, packed
 from ._pairs import bytes_of, bytes_of_pair, encoded, is_pair, records, with_room
 from ._storklocker import Pairs as _Pairs
 from ._storklocker import list_told, pairs_of, read_list
@@ -126,22 +126,25 @@ class AllowList(_Pairs):
     def _parsed(cls, text: "Union[str, bytes]", file: str) -> "AllowList":
         if not isinstance(text, (str, bytes, bytearray)):
             raise TypeError(f"the text of a list file must be str or bytes, not {type(text)!r}")
+        from ._list_files import fault_of, heard, substitutes_in  # many lists are made of pairs
+
         data = bytes_of(text) if isinstance(text, str) else bytes(text)
         (fault, numbers, costs), room = with_room(lambda size: read_list(data, size))
         (late, said), rows = with_room(lambda size: list_told(data, size))
         if fault or late:
-            raise _fault_of(data, LIST_FAULTS[fault or late])
+            raise fault_of(data, LIST_FAULTS[fault or late])
         pairs = ((module or b"", name or b"") for module, name in records(room))
         *costs, builds = costs
         has_limits, _, *are_said, is_ruled = said
-        heard = map(_heard, COSTS, costs, are_said)
-        own = limits_of(*numbers)._replace(**dict(zip(COSTS, heard)))
-        made = cls.of_encoded(pairs, own if has_limits else None, BUILDS[builds] if is_ruled else None)
+        said_costs = map(heard, COSTS, costs, are_said)
+        own = limits_of(*numbers)._replace(**dict(zip(COSTS, said_costs)))
+        build = BUILDS[builds] if is_ruled else None
+        made = cls.of_encoded(pairs, own if has_limits else None, build)
         if made.for_loading() is not made:
             from ._old_lines import tell  # few files have such names
 
             tell(made, data, file)
-        return cls._saying(made, *_substitutes_in(data, rows))
+        return cls._saying(made, *substitutes_in(data, rows))
 
     @classmethod
     def from_file(cls, file: "Union[str, os.PathLike[str]]") -> "AllowList":
@@ -299,7 +302,8 @@ class AllowList(_Pairs):
             own = self.for_loading()
             pairs = [bytes_of_pair(old) for pair in own for old in _names.old_names(pair)]
             is_same = sorted(set(pairs)) == sorted(set(self._pairs))
-            self._fixed = _AS_IT_IS if is_same else self.of_encoded(pairs, self._limits, self._build)
+            made = self.of_encoded(pairs, self._limits, self._build)
+            self._fixed = _AS_IT_IS if is_same else made
         return self if self._fixed is _AS_IT_IS else self._fixed
 
     def listed_for(self, data: bytes, fix_imports: bool = True) -> "AllowList":
@@ -312,33 +316,6 @@ class AllowList(_Pairs):
         left = set(self._pairs) - {bytes_of_pair(pair) for pair in lost}
         left.update(bytes_of_pair(_names.renamed(pair)) for pair in lost)
         return self.of_encoded(left, self._limits, self._build)
-
-
-def _fault_of(text: bytes, fault: str) -> Exception:
-    """The error for a text that is no list file."""
-    if fault == "OutOfMemory":
-        return MemoryError()
-    from ._places import place_of  # few files have a fault
-
-    return ListFault(fault, "", *place_of(text, fault))
-
-
-def _heard(name: str, number: int, is_said: int) -> "Optional[int]":
-    """The limit on costs of a list file: the number that was read; by default if it has none."""
-    usual, most = COSTS[name]
-    if not is_said:
-        return usual
-    return None if number in (most, MOST_SAID[name]) else number
-
-
-def _substitutes_in(text: bytes, rows: bytes) -> "Tuple[Any, Any]":
-    """The substitutes of a list file, and the names that are meant to be dangerous."""
-    if not rows:
-        return {}, ()
-    from ._sections import said_in  # few files have such a section
-
-    pairs = [((name or b"").decode(), (its or b"").decode()) for name, its in records(rows)]
-    return said_in(text, pairs)
 
 
 @functools.lru_cache(maxsize=None)

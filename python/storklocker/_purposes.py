@@ -56,7 +56,8 @@ def lists_with(pair: Pair) -> List[str]:
 @functools.lru_cache(maxsize=64)
 def _version_of(package: str, word: str) -> str:
     """The version of a package which a list was tested with, as its head says it."""
-    head = _shipped.file_of(_shipped.name_of(word)).read_text(encoding="utf-8").partition("version =")[0]
+    text = _shipped.file_of(_shipped.name_of(word)).read_text(encoding="utf-8")
+    head = text.partition("version =")[0]
     found = re.search(rf"(?i)\b({re.escape(package)}) (\d[\d.]*\d)", head)
     return f" ({found[1]} {found[2]})" if found else ""
 

@@ -123,7 +123,8 @@ class Short(unittest.TestCase):
         allow |= AllowList([("collections", "Counter")])
         for value in OBJECTS:
             for listed in (None, allow):
-                self.assertIsNotNone(Lone(listed, asked).told("file", pickle.dumps(value, 4)), value)
+                told = Lone(listed, asked).told("file", pickle.dumps(value, 4))
+                self.assertIsNotNone(told, value)
 
     def test_what_is_not_permitted_takes_the_long_way(self):
         allow = AllowList([*PAIRS, ("joblib.numpy_pickle", "NumpyArrayWrapper")])
