@@ -8,7 +8,10 @@
     sqlite_files.py, sqlite_pages.py, sqlite_values.py, value_letters.py and value_packing.py
                     values of SQLite: as its pages have them, as SQL makes them, packed ones
     values.py       plain values of a store, which are told together
-    kinds.py        what files are that hold no pickle, and code that isn't read
+    kinds.py        stores that are looked through, and records
+    recognized.py   what files are that hold no pickle
+    unpacking.py, archives.py
+                    streams and zip files of strangers, which adapters unpack too
     trails.py       pickles in stores, from the middle on
     places.py, beside.py, checkpoint_places.py
                     the file beside another that says where its values are
@@ -24,7 +27,8 @@
                     what the most lenient reader imports, also behind what the checker refuses
     listing.py      the instructions around a refusal
     condensing.py   keeps the reports on one file within bounds
-    scan.py         many files, in several processes
+    file.py, one_file.py and scan.py
+                    a file, its reports, and many files, in several processes
     remote.py, over_http.py, ranges.py and lacking.py
                     objects at URLs, each byte of which is fetched once
     queues.py, redis_values.py, amqp_messages.py, kafka_messages.py
@@ -37,6 +41,7 @@
     sarif.py, junit.py, html.py and page.py
                     reports in other formats
     summary.py      what a whole scan found
+    listed.py       the lists that commands are given
     learning.py     writes list files from trusted files
     command.py      the command line
 """
