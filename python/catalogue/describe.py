@@ -1,6 +1,7 @@
 #!/usr/bin/env python3
-"""Says of each name of the ready-made lists what it is, and which versions of its library have it,
-as each of the given Pythons finds it, and puts that into the catalogue. What stands there stays.
+"""Says of each name of the ready-made lists, and of substitutes, what it is, what a state does to
+its objects, and which versions of its library have it, as each of the given Pythons finds it, and
+puts that into the catalogue. What stands there stays, but a state that is found to do more.
 
     PYTHONPATH=. python3 catalogue/describe.py [--python PATH]...
 """
@@ -30,6 +31,25 @@ def kind_of(it):
     return "function" if callable(it) else "value"
 
 
+STATES = ("refused", "attributes", "called")
+"""What a state does, the least first."""
+
+
+def state_of(it):
+    """What BUILD does to objects of a class, in the catalogue's words; None for what is no class.
+    """
+    if not isinstance(it, type):
+        return None
+    if issubclass(it, enum.Enum):
+        return "refused"  # (a guard refuses it: all who ask share a member)
+    setters = [base for base in it.__mro__ if "__setstate__" in vars(base)]
+    if setters and setters[0] is not BaseException:
+        return "called"
+    has_slots = any(isinstance(member, types.MemberDescriptorType)
+                    for base in it.__mro__ for member in vars(base).values())
+    return "attributes" if it.__dictoffset__ or has_slots else "refused"
+
+
 def library_of(name):
     """The library of a name, and its version here; None if it isn't here."""
     libraries = {path.stem: path for path in rows.files()}
@@ -44,26 +64,28 @@ def library_of(name):
 
 
 def described():
-    """What each listed name is here, or None, with the version of its library; of libraries that
-    are here alone.
+    """What each listed name is here, or None, and what a state does to its objects, with the
+    version of its library; of libraries that are here alone.
     """
     warnings.simplefilter("ignore")
     for row in rows.rows().values():
-        version = library_of(row.name)[1] if row.lists else None
+        is_asked = (row.lists or row.substitute) and not row.name.endswith(".*")
+        version = library_of(row.name)[1] if is_asked else None
         if version is None:
             continue
         try:
             it = found(*row.pair)
         except Exception:  # (whatever a library raises that wants settings)
             continue
-        yield row.name, version, None if it is None else kind_of(it)
+        yield row.name, version, None if it is None else kind_of(it), state_of(it)
 
 
 def changed(told):
     """The rows that say more, by what Pythons have told."""
-    seen, made = {}, {}
-    for name, version, kind in told:
+    seen, states, made = {}, {}, {}
+    for name, version, kind, state in told:
         seen.setdefault(name, {}).setdefault(version, set()).add(kind)
+        states.setdefault(name, set()).add(state)
     for name, row in rows.rows().items():
         versions = seen.get(name, {})
         kinds = {kind for its in versions.values() for kind in its} - {None}
@@ -73,6 +95,9 @@ def changed(told):
             new = new._replace(kind=row.kind or min(kinds))
         if 0 < len(having) < len(versions):
             new = new._replace(versions=", ".join(sorted(having, key=_numbers)))
+        does = [*(states.get(name, set()) - {None}), *filter(None, [row.state])]
+        if does:
+            new = new._replace(state=max(does, key=STATES.index))
         if new != row:
             made[name] = new
     return made

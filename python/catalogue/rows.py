@@ -5,13 +5,15 @@ spaces apart, and may go on in indented lines. `module.*` speaks of all names of
 those below it that no other row has. Python's own library is in `python.txt`.
 
     does        what calling it with a stranger's arguments does: a word of `words.txt`
-    by          how that was judged: run, by `storklocker judge`; read, in its source; derived, of a
-                class whose methods are all those of built-in classes
+    by          how that was judged: run, by `storklocker judge`, or by the tests if it has an
+                example; read, in its source; derived, of a class whose methods are all those of
+                built-in classes. Of a row without it nobody has judged a call by itself: a guard
+                judges it by a substitute, by the rule of its package, or by its kind
     is          what it is: class, enum, exception, function, value, module
     same        it has the names of this module, or is another name of this object
     answers     text, where it may answer one; member, where that is shared by all who ask
-    state       what BUILD does to its objects: attributes, sets them; called, runs code of the
-                class; refused
+    state       what BUILD does to its objects under `pickle`: attributes, sets them; called, runs
+                code of the class; refused, also of members of enums, which all share
     versions    those of its library that have it, where not all do that it was looked for in
     substitute  the module of the package that judges its arguments; `any` of a package of which
                 more names than those that have rows are loaded so

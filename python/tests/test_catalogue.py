@@ -23,6 +23,10 @@ import rows as catalogue  # noqa: E402
 import shipping  # noqa: E402
 
 
+MOST_UNJUDGED = 599
+"""The listed names whose rows don't say how a call of them was judged."""
+
+
 class Shipped(unittest.TestCase):
     def test_it_is_what_the_catalogue_makes(self):
         for path, text in shipping.texts():
@@ -92,11 +96,38 @@ class Rows(unittest.TestCase):
 
     def test_a_kind_is_true(self):
         """As far as this Python has the names, some of which differ between versions."""
-        told = [(name, kind) for name, _, kind in describe.described() if kind is not None]
+        told = [(name, kind) for name, _, kind, _ in describe.described()
+                if kind is not None and self.rows[name].lists]
         wrong = [name for name, kind in told if self.rows[name].kind not in ("", kind)]
         self.assertEqual(wrong, [])
         self.assertGreater(len(told), 200)
         self.assertLess(sum(not self.rows[name].kind for name, _ in told), len(told) // 20)
+
+    @unittest.skipIf(sys.implementation.name == "pypy", "PyPy's classes have other members")
+    def test_no_state_does_more(self):
+        """As far as this Python has the names: no row says less of a state than its class does."""
+        rank, more, told = describe.STATES.index, [], 0
+        for name, _, _, state in describe.described():
+            said = self.rows[name].state
+            told += bool(state)
+            if state and (not said or rank(said) < rank(state)):
+                more.append((name, said, state))
+        self.assertLessEqual(len(more), told // 20, more)  # (those of other versions)
+        self.assertEqual([it for it in more if it[1]], [])
+        self.assertGreater(told, 200)
+        self.assertEqual(
+            [describe.state_of(it) for it in (unittest.TestCase, Path, enum.Enum, object, len)],
+            ["attributes", describe.state_of(Path), "refused", "refused", None])
+
+    def test_how_a_row_was_judged(self):
+        """Where nobody has judged a name, its row doesn't say how; dangers with an example run."""
+        for row in self.rows.values():
+            if row.example:
+                self.assertEqual(row.by, "run", row.name)
+            if row.by == "derived":
+                self.assertIn(row.kind, ("", "class", "enum", "exception"), row.name)
+        unsaid = [row.name for row in self.rows.values() if row.lists and not row.by]
+        self.assertLessEqual(len(unsaid), MOST_UNJUDGED, unsaid[:9])
 
     def test_every_danger_has_one(self):
         for name, row in dangers.known().rows.items():

@@ -127,7 +127,8 @@ class Running(unittest.TestCase):
 
     def test_no_row_says_less_than_is_seen(self):
         held = catalogue.rows()
-        names = sorted(name for name, row in held.items() if row.by in ("run", "derived"))
+        names = sorted(name for name, row in held.items()
+                       if row.by in ("run", "derived") and not row.example)
         self.assertGreater(len(names), 1000)
         chosen = random.Random(hashlib.sha256(" ".join(names).encode()).hexdigest())
         chosen.shuffle(names)
