@@ -349,7 +349,7 @@ class Told(Widened):
             with self.assertRaises(Refused) as raised:
                 self.load("numpy", data)
             self.assertRegex(str(raised.exception), r"pytz\._p isn't on the list\. It makes time "
-                             r"zones \(pytz \d[\d.]+\), and is in @packages and @pandas; to permit")
+                             r"zones \(pytz \d[\d.]+\), and is in @\w+, .* to permit it:")
 
 
 if __name__ == "__main__":
