@@ -73,11 +73,12 @@ def lack_of_node() -> str:
 def too_old(compiler: str, oldest: Tuple[int, int]) -> str:
     """That a compiler is older than one that works, or an empty text."""
     word = "version" if compiler == "go" else "--version"
-    said = subprocess.run([compiler, word], stdout=subprocess.PIPE, text=True).stdout
+    ran = subprocess.run([compiler, word], stdout=subprocess.PIPE, text=True)
+    said = ran.stdout.partition("\n")[0]
     found = re.search(r"(\d+)\.(\d+)", said)
     if found is not None and tuple(map(int, found.groups())) >= oldest:
         return ""
-    return f"{compiler} is too old: {said.strip()}; {oldest[0]}.{oldest[1]} is wanted"
+    return f"{compiler} is too old: {said}; {oldest[0]}.{oldest[1]} is wanted"
 
 
 def fault_of(folder: Path, commands: str, library: Path) -> str:

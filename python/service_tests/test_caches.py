@@ -220,7 +220,7 @@ def regions(folder, port, guard):
 
     from storklocker.contrib import dogpile as guarded
 
-    client, memory = redis.Redis(port=port, db=5), {}
+    client, memory = redis.Redis("127.0.0.1", port=port, db=5), {}
     path = str(Path(folder, f"dbm{guard is None}"))
     places = {"host": "127.0.0.1", "port": port, "db": 5}
     words = {} if guard is None else guarded.serialization(guard)

@@ -10,13 +10,16 @@ import time
 import uuid
 from pathlib import Path
 
+import celery
 import common
 import poison
 import watching
 
 NEEDS = ("celery", "redis", "sqlalchemy", "$redis-server")
-WORDS = ("-m", "celery", "-A", "celery_app", "worker", "-c", "2", "-l", "warning")
+WORDS = ("-m", "celery", "-A", "celery_app", "worker", "-c", "2", "-l", "WARNING")
 ALONE = ("--without-mingle", "--without-gossip", "--without-heartbeat")
+IS_FIRST_5 = celery.VERSION[:3] == (5, 0, 0)
+"""Whether this is Celery 5.0.0, which takes those options for a configuration."""
 STALLED = 20
 """Seconds without a mark, after which a message gets another worker, and then twice as long."""
 TABLE = poison.shapes(common.MARKS)
@@ -124,7 +127,7 @@ def run_table(app, table, messages, protocol, log):
             queue, names = str(uuid.uuid4()), left[at : at + size]
             for name in names:
                 publish(app, messages[name], protocol=protocol, queue=queue)
-            words = (*WORDS, *ALONE, "-Q", queue)
+            words = (*WORDS, *(() if IS_FIRST_5 else ALONE), "-Q", queue)
             with common.process(*words, log=log, is_killed=True, C_FORCE_ROOT="1") as worker:
                 wait_for_marks(table, names, worker, seconds, end)
         seconds *= 2

@@ -48,11 +48,15 @@ def fill():
     # (its own calls look at every file for each)
     MemoryFileSystem.isfile = lambda self, path: self._strip_protocol(path) in self.store
     system, good = MemoryFileSystem(), data_of(1)
+
+    def put(path, data):
+        path = system._strip_protocol(f"memory:/{path}")  # (fsspec 0.8 begins it without a slash)
+        system.store.setdefault(path, MemoryFile(system, path, data))
+
     for number in range(COUNT):
-        data = good if number % EACH else data_of(number)
-        system.store.setdefault(path_of(number), MemoryFile(system, path_of(number), data))
+        put(path_of(number), good if number % EACH else data_of(number))
     for name in ("a", DEADLY, "z"):
-        system.store.setdefault(f"/deadly/{name}", MemoryFile(system, f"/deadly/{name}", good))
+        put(f"/deadly/{name}", good)
     cluster.Isolated.scan = scan_or_die
 
 

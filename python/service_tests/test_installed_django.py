@@ -70,7 +70,8 @@ def try_cache(cache, kind):
     from django import http
     from django.contrib.auth.models import Group
 
-    response = http.HttpResponse(b"text", headers={"ETag": "1"})
+    response = http.HttpResponse(b"text")
+    response["ETag"] = "1"
     response.set_cookie("name", "value")
     for value in (common.good(1), Group(pk=1, name="name"), [1, "two", None]):
         cache.set("good", value)

@@ -157,6 +157,9 @@ def try_mapped(path):
         found, right = (read(path, mmap_mode=mode) for read in (
             lambda path, **words: load_joblib(path, guard, **words), joblib.load))
         for one, other in zip(found, right):
+            if not other.dtype.isnative:  # (joblib 0.17 maps each order, 1.2 copies such an array)
+                assert one.dtype == numpy.dtype("i4") and numpy.array_equal(one, other)
+                continue
             assert_same(one, other)
             places = [(it.filename, it.mode, it.offset) for it in (one, other)
                       if isinstance(it, numpy.memmap)]

@@ -23,13 +23,13 @@ def told(refusal):
     os.write(log, line.encode() + b"\\n")
 log = os.open(sys.argv[3], os.O_WRONLY | os.O_APPEND)
 Queue, Worker = guarded.classes(common.guard(told), getattr(rq, sys.argv[2]))
-connection = redis.Redis(port=int(sys.argv[1]))
+connection = redis.Redis("127.0.0.1", port=int(sys.argv[1]))
 watching.watch(common.LISTED)
 Worker([Queue("jobs", connection=connection)], connection=connection).work(burst=True)
 """
 PLAIN = """
 import sys, redis, rq
-connection = redis.Redis(port=int(sys.argv[1]))
+connection = redis.Redis("127.0.0.1", port=int(sys.argv[1]))
 rq.Worker([rq.Queue("plain", connection=connection)], connection=connection).work(burst=True)
 """
 TABLE = poison.shapes(common.MARKS)
@@ -115,7 +115,7 @@ def control(port, log):
     import redis
     import rq
 
-    connection = redis.Redis(port=port)
+    connection = redis.Redis("127.0.0.1", port=port)
     with common.table() as table:
         queue = rq.Queue("plain", connection=connection)
         hostile_jobs(queue, connection, table.shapes, table.folder)
@@ -130,7 +130,7 @@ def work(kind, count, port, log):
 
     from storklocker.contrib import rq as guarded
 
-    connection = redis.Redis(port=port)
+    connection = redis.Redis("127.0.0.1", port=port)
     queue = guarded.classes(common.guard())[0]("jobs", connection=connection)
     good = [queue.enqueue("jobs.add", number, 1) for number in range(count // 2)]
     bad = odd_jobs(queue, connection)
@@ -163,7 +163,7 @@ def try_sending_again(port):
 
     from storklocker.contrib import rq as guarded
 
-    connection = redis.Redis(port=port)
+    connection = redis.Redis("127.0.0.1", port=port)
 
     def made(*names):
         guard = storklocker.Guard(storklocker.AllowList([("jobs", "add"), *names]))
@@ -202,7 +202,7 @@ def try_results(port):
 
     from storklocker.contrib import rq as guarded
 
-    connection, guard = redis.Redis(port=port), common.guard()
+    connection, guard = redis.Redis("127.0.0.1", port=port), common.guard()
     queue = guarded.classes(guard)[0]("results", connection=connection)
     plain = guarded.serializer(guard)
     for data in [*TABLE.values(), common.hostile(3)]:

@@ -1,6 +1,7 @@
 """The daemon: it says what the commands say, describes itself, and keeps its keys to itself."""
 
 import contextlib
+import http.client
 import io
 import json
 import os
@@ -81,8 +82,7 @@ def agrees(daemon, folder):
     for data in bodies():
         path.write_bytes(data)
         status, lines = command("check", daemon, path)
-        client.request("POST", "/check", data)
-        answer = client.getresponse()
+        answer = answered(client, data)
         code, said = answer.status, json.loads(answer.read())
         assert (said["lines"], said["status"]) == (lines, status), (data[:99], lines, said["lines"])
         assert (code, said["accepted"]) == ((200, True) if status == 0 else (422, False)), data
@@ -90,6 +90,17 @@ def agrees(daemon, folder):
         if count % 10 == 0:
             scans(daemon, path, data)
     assert min(accepted, count - accepted) > GENERATED // 4, (count, accepted)
+
+
+def answered(client, data):
+    """The answer about a body. The daemon ends a connection where nothing comes for some time."""
+    try:
+        client.request("POST", "/check", data)
+        return client.getresponse()
+    except (BrokenPipeError, http.client.RemoteDisconnected):
+        client.close()
+        client.request("POST", "/check", data)
+        return client.getresponse()
 
 
 def scans(daemon, path, data):

@@ -129,12 +129,15 @@ def try_legacy(guard):
             common.raises(lambda: load_torch(whole, guard))
         control.shapes = made
         # (since 2.6 PyTorch takes few names by default)
-        words = {"weights_only": False} if "weights_only" in torch.load.__kwdefaults__ else {}
+        has_word = "weights_only" in (torch.load.__kwdefaults__ or ())
+        words = {"weights_only": False} if has_word else {}
         control.runs_all(lambda whole: torch.load(io.BytesIO(whole), **words))
 
 
 def try_other_names():
     """PyTorch imports `torch._tensor.Tensor` where a pickle has `torch.tensor.Tensor`."""
+    import torch
+
     from storklocker.contrib.torch import load_torch
 
     data = saved({})
@@ -143,6 +146,9 @@ def try_other_names():
     (pickled,) = [name for name in members if name.endswith("/data.pkl")]
     renamed = zipped({**members, pickled: b"\x80\x02ctorch.tensor\nTensor\n."}.items())
     one = storklocker.AllowList([("torch.tensor", "Tensor")])
+    if not hasattr(torch, "_tensor"):  # (before 1.9 it has the one name)
+        assert load_torch(renamed, storklocker.Guard(one)).__name__ == "Tensor"
+        return
     assert "torch._tensor.Tensor, which isn't" in common.raises(
         lambda: load_torch(renamed, storklocker.Guard(one))
     )
@@ -159,7 +165,8 @@ def try_storages(guard):
     for is_zip in (True, False):
         data = saved({"a": torch.ones(2)}, is_zip=is_zip)
         larger = _with_larger_storage(data, is_zip)
-        assert "fits" in common.raises(lambda: load_torch(larger, guard))
+        why = common.raises(lambda: load_torch(larger, guard), RuntimeError)
+        assert "fits" in why or "wrong size" in why, why  # (the latter PyTorch 1.7 says itself)
     data = saved({"a": torch.ones(2)})
     with zipfile.ZipFile(io.BytesIO(data)) as archive:
         members = [(name, archive.read(name)) for name in archive.namelist()]

@@ -12,7 +12,7 @@ import subprocess
 import sys
 import tarfile
 import zipfile
-from datetime import datetime
+from datetime import timedelta
 from pathlib import Path
 from typing import Any, Callable, Dict, NamedTuple
 from urllib.parse import quote
@@ -20,7 +20,7 @@ from urllib.parse import quote
 from browser import Browser
 
 HOSTILE = b"cos\nsystem\n(S'touch pwned'\ntR."
-LIST = 'version = 1\n[imports]\ndatetime = ["datetime"]\n'
+LIST = 'version = 1\n[imports]\ndatetime = ["timedelta"]\n'
 WIDE, NARROW, PICTURE = (1280, 900), (390, 844), (980, 760)
 LINES = 1_000_000
 MARKUP = "<img src=x onerror=document.title='run'>"
@@ -76,7 +76,8 @@ class Stage(NamedTuple):
 
 
 def honest() -> bytes:
-    return pickle.dumps([datetime(2001, 2, 3), {"a": 1}], 4)
+    # (A guard of Python 3.8 or 3.9 loads a date through a substitute.)
+    return pickle.dumps([timedelta(7), {"a": 1}], 4)
 
 
 def hostile_file(stage: Stage) -> None:
@@ -114,7 +115,7 @@ def honest_file(stage: Stage) -> None:
     assert stage.text("line") == line, stage.text("line")
     assert stage.text("summary") == "A guard with this list loads these files"
     address = stage.browser.run("decodeURIComponent(location.hash)")
-    assert 'datetime = ["datetime"]' in address, address
+    assert 'datetime = ["timedelta"]' in address, address
     assert stage.browser.run("document.activeElement.id") == "summary"
     stage.open('version = "x"')
     stage.choose("honest.pickle", honest())

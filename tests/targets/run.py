@@ -31,7 +31,7 @@ sys.path.insert(0, str(HERE.parent))
 
 import mutations  # noqa: E402
 import program  # noqa: E402
-from languages import lack_of_node  # noqa: E402
+from languages import lack_of_node, too_old  # noqa: E402
 
 SECONDS = 900
 LISTINGS = 400
@@ -168,6 +168,8 @@ def lacking(target: Target) -> str:
             return f"there is no {word}"
     if target.runner == "node":
         return lack_of_node()
+    if target.archive == "riscv64-linux":
+        return too_old("riscv64-linux-gnu-ld", (2, 36))  # (before, no linker knows `zifencei`)
     if not target.runner and platform.machine() != "x86_64":
         return "this is no x86-64 machine"
     return ""
