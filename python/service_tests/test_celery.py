@@ -18,8 +18,6 @@ import watching
 NEEDS = ("celery", "redis", "sqlalchemy", "$redis-server")
 WORDS = ("-m", "celery", "-A", "celery_app", "worker", "-c", "2", "-l", "WARNING")
 ALONE = ("--without-mingle", "--without-gossip", "--without-heartbeat")
-IS_FIRST_5 = celery.VERSION[:3] == (5, 0, 0)
-"""Whether this is Celery 5.0.0, which takes those options for a configuration."""
 STALLED = 20
 """Seconds without a mark, after which a message gets another worker, and then twice as long."""
 TABLE = poison.shapes(common.MARKS)
@@ -75,8 +73,22 @@ def around(front, data, end):
     return proto + front + opcodes + end
 
 
+def is_refused():
+    """Whether the adapter refuses this Celery: before 5.2.2, a stored exception calls anything."""
+    if celery.VERSION[:3] >= (5, 2, 2):
+        return False
+    from storklocker.contrib.kombu import register
+
+    why = common.raises(lambda: register(common.guard(), celery.Celery("tests")), RuntimeError)
+    assert "Celery before 5.2.2" in why, why
+    print("skipped: Celery's workers: 5.2.2 is wanted, and the adapter refuses older ones")
+    return True
+
+
 def run():
     """The test."""
+    if is_refused():
+        return
     with tempfile.TemporaryDirectory() as folder, common.redis_server(folder) as port:
         refused = Path(folder, "refused")
         refused.touch()
@@ -127,7 +139,7 @@ def run_table(app, table, messages, protocol, log):
             queue, names = str(uuid.uuid4()), left[at : at + size]
             for name in names:
                 publish(app, messages[name], protocol=protocol, queue=queue)
-            words = (*WORDS, *(() if IS_FIRST_5 else ALONE), "-Q", queue)
+            words = (*WORDS, *ALONE, "-Q", queue)
             with common.process(*words, log=log, is_killed=True, C_FORCE_ROOT="1") as worker:
                 wait_for_marks(table, names, worker, seconds, end)
         seconds *= 2

@@ -18,6 +18,8 @@ BODIES = ((test_celery.second_protocol, 2), (test_celery.first_protocol, 1))
 
 def run():
     """The test."""
+    if test_celery.is_refused():
+        return
     with tempfile.TemporaryDirectory() as folder, common.redis_server(folder) as port:
         refused = Path(folder, "refused")
         refused.touch()
