@@ -2,17 +2,15 @@
 
 from __future__ import annotations
 
-import functools
 import io
-import itertools
 import re
-from typing import TYPE_CHECKING, BinaryIO, Dict, Iterator, List, NamedTuple, Optional, Tuple
+from typing import TYPE_CHECKING, BinaryIO, Iterator, List, NamedTuple, Optional, Tuple
 
 from .._answers import RowVerdict, Verdict
 from .._hints import hint_of
 from .._lists import AllowList, within
 from .all_readings import asked
-from .budget import NAMES, STEP, Budget, TooMuch
+from .budget import STEP, Budget, TooMuch
 from .called import called_findings
 from .costs import COUNTED, bill_of, cost_finding
 from .dangers import import_findings, judge_by
@@ -27,22 +25,21 @@ from .readings import (
     Answer, Beside, Found, Nothing, Piece, Place, Reading, Together, Unread, examine, nothing
 )
 from .recognized import is_text
-from .report import LONGEST, Finding, Pair, Report, judged, unreadable
+from .report import Finding, Report, judged, unreadable
 from .rows import Row, row_of
 from .severity import DANGER, MILD, UNRECOGNIZED
+from .shown_names import forget_names, told_names
 from .source import Source, in_memory, source_of
 from .stores import examined_value
 from .words import Word
 
 if TYPE_CHECKING:
-    from .._pairs import Names
     from .members import Members
 
 _VALUE = 15 * STEP
 """The steps of what is told of a value by itself: most are told together."""
-_SHORT = LONGEST
-"""The most bytes of all names of a pickle whose texts are kept."""
 _IMPORTS = re.compile(rb"([ci][^\n]*\n[^\n]*\n)*")
+_CUT_NAMES = Finding("too-much", "its imports take more bytes than are read of one file")
 
 
 class Question(NamedTuple):
@@ -125,7 +122,7 @@ def _judge_by(dangers: str) -> None:
     """Forgets what was judged by another table of dangers."""
     global _lone
     if judge_by(dangers):
-        _texts_of.cache_clear()
+        forget_names()
         _lone = Lone(_lone.allow, asked)
 
 
@@ -284,7 +281,7 @@ def _counts(row: Row, allow: Optional[AllowList]) -> bool:
 
 def _judged(piece: Piece, row: Row, question: Question, place: Place) -> Report:
     is_text = _has_text(piece, row)
-    imports, missing, findings = _told_names(row, question.allow, place.budget, is_text)
+    imports, missing, findings = told_names(row, question.allow, place.budget, is_text)
     allow, no = question.allow, row.guarded() if row.refusal is None else row.refusal
     kind = RowVerdict if row.pickles > 1 else Verdict
     yes = kind(True, row.taken, row.imports, pickles=row.pickles)
@@ -297,9 +294,7 @@ def _judged(piece: Piece, row: Row, question: Question, place: Place) -> Report:
             findings.append(Finding("refused" if is_refused else "broken-pickle", why))
     elif no is not None:
         status = Word.REFUSED
-    if not row.is_complete:
-        why_cut = "its imports take more bytes than are read of one file"
-        findings.append(Finding("too-much", why_cut))
+    findings += [] if row.is_complete else [_CUT_NAMES]
     if row.kept != KEEPS_NOTHING:
         status, why = told_of_kept(row.kept, status, why, allow, findings)
     more = len(row.names) - len(imports)
@@ -322,12 +317,19 @@ def _judged(piece: Piece, row: Row, question: Question, place: Place) -> Report:
         0 if no is None else no.at,
         place.path,
     )
+    return _completed(report, row, question, place.budget, findings)
+
+
+def _completed(
+    report: Report, row: Row, question: Question, budget: Budget, findings: List[Finding]
+) -> Report:
+    """The report with what a guard would say of accepted pickles, and what they call."""
     held = [(source, max(row.pickles, 1)) for source in row.sources if row.names]
-    if status is Word.ACCEPTED and held and allow is not None:
-        report = _foreseen(report, held, place.budget, allow, findings)
-    elif status is Word.UNJUDGED:
+    if report.status is Word.ACCEPTED and held and question.allow is not None:
+        report = _foreseen(report, held, budget, question.allow, findings)
+    elif report.status is Word.UNJUDGED:
         findings += called_findings(held)
-    findings = _with_calls(findings, row.source, row.taken, place.budget, question)
+    findings = _with_calls(findings, row.source, row.taken, budget, question)
     return judged(_raw(report, row.raw, findings) if row.raw else report, findings)
 
 
@@ -358,57 +360,6 @@ def _kind_of(piece: Piece, row: Row) -> str:
     if row.pickles < 2 or piece.most:
         return piece.kind
     return "stream of pickles" if piece.kind == "pickle" else f"{piece.kind}, stream of pickles"
-
-
-_Told = Tuple[Tuple[Pair, ...], Tuple[Pair, ...], List[Finding]]
-
-
-def _told_names(row: Row, allow: Optional[AllowList], budget: Budget, is_text: bool) -> _Told:
-    """The imports of a report, those off the list, and what is to be said of them."""
-    length = sum(len(module or b"") + len(name or b"") for module, name in row.names)
-    if row.refusal is None and length <= _SHORT:
-        pairs, is_harmless = _texts_of(tuple(row.names))
-        if all(map(budget.spend_name, pairs)):
-            return pairs, (), [] if is_harmless else import_findings(pairs, allow, is_text)
-    imports, missing = _shown_names(row, allow, budget)
-    return imports, missing, import_findings(map(pair_of, row.names), allow, is_text)
-
-
-# (the files of a scan mostly import the same names)
-@functools.lru_cache(maxsize=1024)
-def _texts_of(names: Tuple["Names", ...]) -> Tuple[Tuple[Pair, ...], bool]:
-    """These names as pairs of texts, and whether all are known to be harmless."""
-    pairs = tuple(map(pair_of, names))
-    return pairs, not import_findings(pairs)
-
-
-def _shown_names(
-    row: Row, allow: Optional[AllowList], budget: Budget
-) -> Tuple[Tuple[Pair, ...], Tuple[Pair, ...]]:
-    """The imports, and those off the list, as far as there is room for them: the latter first."""
-    def is_off(both: "Names") -> bool:
-        return allow is not None and not allow.permits(both)
-
-    kept: Dict["Names", Pair] = {}
-    off = () if allow is None or row.refusal is None else filter(is_off, row.names)
-    for both in itertools.chain(off, row.names):
-        if budget.names < 1 and len(row.names) > NAMES:
-            break  # a hostile file has very many
-        pair = _text_of(both[0]), _text_of(both[1])
-        if both not in kept and budget.spend_name(pair):
-            kept[both] = pair
-    if not off:
-        return tuple(kept.values()), ()
-    imports = tuple(kept[both] for both in row.names if both in kept)
-    return imports, tuple(kept[both] for both in row.names if both in kept and is_off(both))
-
-
-def _text_of(name: Optional[bytes]) -> Optional[str]:
-    """A name, cut if it is very long."""
-    if name is None:
-        return None
-    text = name.decode("utf-8", "replace")
-    return text if len(text) <= LONGEST else f"{text[:LONGEST]}... and {len(text) - LONGEST} more"
 
 
 def _has_text(piece: Piece, row: Row) -> bool:
