@@ -1,7 +1,6 @@
 """The daemon: it says what the commands say, describes itself, and keeps its keys to itself."""
 
 import contextlib
-import http.client
 import io
 import json
 import os
@@ -93,14 +92,12 @@ def agrees(daemon, folder):
 
 
 def answered(client, data):
-    """The answer about a body. The daemon ends a connection where nothing comes for some time."""
-    try:
-        client.request("POST", "/check", data)
-        return client.getresponse()
-    except (BrokenPipeError, http.client.RemoteDisconnected):
-        client.close()
-        client.request("POST", "/check", data)
-        return client.getresponse()
+    """The answer about a body, by a connection of its own: the daemon ends one on which nothing
+    comes for some time, and on a busy machine the command takes longer.
+    """
+    client.close()
+    client.request("POST", "/check", data)
+    return client.getresponse()
 
 
 def scans(daemon, path, data):
