@@ -156,6 +156,12 @@ def many(count: int) -> List[Tuple[str, str]]:
     return PAIRS + [(f"package{k % 97}.module", f"Class{k}") for k in range(count - len(PAIRS))]
 
 
+HEAD = """\
+| Pickle | `pickle.loads` | `check` | `guard.loads` | beside `pickle.loads` \
+| `storklocker.loads` | no limit on costs | and any BUILD | beside |
+|---|---|---|---|---|---|---|---|---|"""
+
+
 def pickles(storklocker: ModuleType, asked: argparse.Namespace) -> List[Figure]:
     """Prints a row for each size."""
     few = storklocker.AllowList(PAIRS)
@@ -163,11 +169,7 @@ def pickles(storklocker: ModuleType, asked: argparse.Namespace) -> List[Figure]:
     guard, ruled = storklocker.Guard(few), storklocker.Guard(few, limits=free)
     other = storklocker.Guard(few, limits=free, build="any")
     checks, loads, others = [], [], []
-    print(
-        "| Pickle | `pickle.loads` | `check` | `guard.loads` | beside `pickle.loads` "
-        "| `storklocker.loads` | no limit on costs | and any BUILD | beside |"
-    )
-    print("|---|---|---|---|---|---|---|---|---|")
+    print(HEAD)
     sizes = [
         (b"N.", asked.calls),
         (job(6), asked.calls),

@@ -130,6 +130,8 @@ class Loads(unittest.TestCase):
                 with self.subTest(given=given), self.assertRaises(TypeError) as raised:
                     call()
                 self.assertIn("AllowList", str(raised.exception))
+
+    def test_bad_settings(self):
         for named in ({"limits": 5}, {"limits": (1, 2)}, {"on_refusal": 5}, {"heap": 1}):
             with self.subTest(named=named), self.assertRaises(TypeError):
                 Guard(BY_PAIRS, **named)

@@ -56,6 +56,26 @@ HOSTILE = {
 
 
 
+def gadgets(its):
+    """What users trust, and a pickle that runs a command by the names that this needs."""
+    import operator
+
+    job = its.name(its.HERE, "Job")
+    inner = its.call(its.attribute(its.attribute(its.attribute(job, "run"), "__globals__"),
+                                   "get"), its.text("os"))
+    module = its.call(its.getter("run.__globals__.get", job), its.text("os"))
+    called = its.call(its.name("operator", "methodcaller"), its.text("system"), its.text("true"))
+    bound = its.name("functools", "partial") + its.name(its.HERE, "runs") + b"\x85R"
+    state = b"(" + its.name(its.HERE, "runs") + b")}" + its.text("command") + its.text("true")
+    return (
+        ([its.Job().run, its.Color.RED], its.attribute(inner, "system")),
+        ([operator.attrgetter("name"), its.Job()], its.getter("system", module)),
+        ([operator.methodcaller("run"), operator.attrgetter("name"), its.Job()],
+         its.call(called, module)),
+        ([its.functools.partial(its.runs), its.runs], bound + state + b"sNtb)R"),
+    )
+
+
 class Lists(Learning):
     def test_a_list_from_a_log(self):
         guard = NOTHING.learning(self.log, enforce=True)
@@ -118,27 +138,10 @@ class Lists(Learning):
         """Each needs a name that permits everything. A list that was learned lacks it; a guard
         refuses the list that has it without a word; and a substitute refuses the call.
         """
-        import operator
-
         import test_substitutes as its
         from storklocker._meant import EVERYTHING
 
-        job = its.name(its.HERE, "Job")
-        inner = its.call(its.attribute(its.attribute(its.attribute(job, "run"), "__globals__"),
-                                       "get"), its.text("os"))
-        module = its.call(its.getter("run.__globals__.get", job), its.text("os"))
-        called = its.call(
-            its.name("operator", "methodcaller"), its.text("system"), its.text("true")
-        )
-        bound = its.name("functools", "partial") + its.name(its.HERE, "runs") + b"\x85R"
-        state = b"(" + its.name(its.HERE, "runs") + b")}" + its.text("command") + its.text("true")
-        for trusted, gadget in (
-            ([its.Job().run, its.Color.RED], its.attribute(inner, "system")),
-            ([operator.attrgetter("name"), its.Job()], its.getter("system", module)),
-            ([operator.methodcaller("run"), operator.attrgetter("name"), its.Job()],
-             its.call(called, module)),
-            ([its.functools.partial(its.runs), its.runs], bound + state + b"sNtb)R"),
-        ):
+        for trusted, gadget in gadgets(its):
             files = []
             for number, value in enumerate(trusted):
                 files.append(self.folder / str(number))

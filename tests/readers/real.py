@@ -7,6 +7,7 @@ of JSON for each: the pairs of a reader and a name that it asked for.
 
 import bz2
 import gzip
+import contextlib
 import inspect
 import io
 import json
@@ -145,47 +146,53 @@ def is_endless(data):
 def libraries():
     """The readers of libraries that are installed."""
     found = {}
-    try:
-        import numpy
-        from numpy.lib.npyio import NpzFile
-
-        def arrays(data):
-            file = io.BytesIO(data)
-            while file.tell() < len(data):
-                read = numpy.load(file, allow_pickle=True)
-                if isinstance(read, NpzFile):
-                    for name in read.files:
-                        WATCH.run("numpy", read.__getitem__, name)
-                    return
-        found["numpy"] = arrays
-    except ImportError:
-        pass
-    try:
-        import joblib
-
-        found["joblib"] = lambda data: is_endless(data) or joblib.load(io.BytesIO(data))
-    except ImportError:
-        pass
-    try:
-        import pandas
-
-        for method in ("zip", "tar", "gzip", "bz2", "xz"):
-            found[f"pandas {method}"] = lambda data, method=method: pandas.read_pickle(
-                io.BytesIO(data), compression=method
-            )
-    except ImportError:
-        pass
-    try:
-        import torch
-
-        # (since 2.6 it loads only weights, unless it is told not to; before 1.13 it can't be told)
-        is_told = "weights_only" in inspect.signature(torch.load).parameters
-        words = {"weights_only": False} if is_told else {}
-        found["torch"] = lambda data: torch.load(io.BytesIO(data), **words)
-        found["torch file"] = lambda data: torch.load(put(data), **words)
-    except ImportError:
-        pass
+    for readers in (of_numpy, of_joblib, of_pandas, of_torch):
+        with contextlib.suppress(ImportError):
+            found.update(readers())
     return found
+
+
+def of_numpy():
+    import numpy
+    from numpy.lib.npyio import NpzFile
+
+    def arrays(data):
+        file = io.BytesIO(data)
+        while file.tell() < len(data):
+            read = numpy.load(file, allow_pickle=True)
+            if isinstance(read, NpzFile):
+                for name in read.files:
+                    WATCH.run("numpy", read.__getitem__, name)
+                return
+
+    return {"numpy": arrays}
+
+
+def of_joblib():
+    import joblib
+
+    return {"joblib": lambda data: is_endless(data) or joblib.load(io.BytesIO(data))}
+
+
+def of_pandas():
+    import pandas
+
+    def reader(method):
+        return lambda data: pandas.read_pickle(io.BytesIO(data), compression=method)
+
+    return {f"pandas {it}": reader(it) for it in ("zip", "tar", "gzip", "bz2", "xz")}
+
+
+def of_torch():
+    import torch
+
+    # (since 2.6 it loads only weights, unless it is told not to; before 1.13 it can't be told)
+    is_told = "weights_only" in inspect.signature(torch.load).parameters
+    words = {"weights_only": False} if is_told else {}
+    return {
+        "torch": lambda data: torch.load(io.BytesIO(data), **words),
+        "torch file": lambda data: torch.load(put(data), **words),
+    }
 
 
 def put(data):
