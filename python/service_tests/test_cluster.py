@@ -45,8 +45,19 @@ def fill():
     """The files, in the memory of a process."""
     from fsspec.implementations.memory import MemoryFile, MemoryFileSystem
 
+    its_info = MemoryFileSystem.info
+
+    def info(self, path, **words):
+        name = self._strip_protocol(path)
+        if name not in self.store:
+            return its_info(self, path, **words)
+        file = self.store[name]
+        made = getattr(file, "created", None)
+        return {"name": name, "size": file.size, "type": "file", "created": made}
+
     # (its own calls look at every file for each)
     MemoryFileSystem.isfile = lambda self, path: self._strip_protocol(path) in self.store
+    MemoryFileSystem.info = info
     system, good = MemoryFileSystem(), data_of(1)
 
     def put(path, data):
